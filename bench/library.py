@@ -9,6 +9,7 @@ import array
 import os
 import random
 import sys
+import time
 import timeit
 import zoneinfo
 from datetime import datetime, timedelta, timezone
@@ -42,11 +43,16 @@ def single_answers():
     local = [t.replace(tzinfo=None) for t in utc]
 
     def both(what, work):
-        """Return the answers of both, which are to be the same."""
-        return [
-            measure(f"Python, {what}: {library}", len(some), lambda: work(tz))
-            for library, tz in (("pzic", ours), ("zoneinfo", theirs))
-        ]
+        """Return the answers of both, which are to be the same. They take turns, in processor time."""
+        answers, least = [None, None], [float("inf"), float("inf")]
+        for _ in range(9):
+            for i, tz in enumerate((ours, theirs)):
+                begun = time.process_time()
+                answers[i] = work(tz)
+                least[i] = min(least[i], time.process_time() - begun)
+        told = " and ".join(f"{seconds * 1e9 / len(some):.0f}" for seconds in least)
+        print(f"Python, {what}: pzic and zoneinfo {told} ns, {least[0] / least[1]:.2f} of it", flush=True)
+        return answers
 
     shown, wanted = both("astimezone from UT", lambda tz: [t.astimezone(tz) for t in utc])
     assert [t.replace(tzinfo=None) for t in shown] == [t.replace(tzinfo=None) for t in wanted]
@@ -54,6 +60,10 @@ def single_answers():
         "utcoffset from local time", lambda tz: [t.replace(tzinfo=tz).utcoffset() for t in local]
     )
     assert told == wanted
+    shown = {tz: [t.replace(tzinfo=tz) for t in local] for tz in (ours, theirs)}
+    for call in datetime.utcoffset, datetime.tzname, datetime.dst:
+        told, wanted = both(f"{call.__name__} alone", lambda tz: [call(t) for t in shown[tz]])
+        assert told == wanted
 
     what = "Python, the offset of one instant:"
     singly = measure(f"{what} pzic", len(some), lambda: [zone.utcoffset(t) for t in some])
@@ -61,6 +71,7 @@ def single_answers():
         f"{what} zoneinfo", len(some), lambda: [t.astimezone(theirs).utcoffset() for t in utc]
     )
     assert [timedelta(seconds=offset) for offset in singly] == wanted
+    measure("Python, the state of one instant: pzic", len(some), lambda: [zone.at(t) for t in some])
     what = "Python, an array of 1 million:"
     offsets, _ = measure(f"{what} pzic", len(instants), lambda: zone.convert_array(instants))
     assert list(offsets[: len(some)]) == singly

@@ -34,5 +34,9 @@ if command -v go >/dev/null || has /usr/bin/go golang-go; then
 fi
 
 has /usr/lib/python3/dist-packages/pandas python3-pandas || true
-export PZIC_LIBRARY=$work/pzic/lib/libpzic.so PYTHONPATH=python PYTHONDONTWRITEBYTECODE=1
+# The package has its part in C where Python's headers are there.
+headers=$("$python" -c 'import sysconfig; print(sysconfig.get_path("include"))')
+cp -r python "$work/python"
+[ ! -e "$headers/Python.h" ] || cc -O2 -shared -fPIC -I "$headers" python/pzic/_fast.c -o "$work/python/pzic/_fast.so"
+export PZIC_LIBRARY=$work/pzic/lib/libpzic.so PYTHONPATH=$work/python PYTHONDONTWRITEBYTECODE=1
 "$python" bench/library.py "$tree" "$zone" "$work/instants"

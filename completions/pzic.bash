@@ -1,5 +1,23 @@
 # Completes the command line of pzic in bash. Source it, or install it as
 # ~/.local/share/bash-completion/completions/pzic.
+
+# Prints the names of zones in the source or the tree that the words give, or in the system's release.
+_pzic_zones() {
+    local index word source=/usr/share/zoneinfo/tzdata.zi
+    for ((index = 2; index < ${#COMP_WORDS[@]}; index++)); do
+        word=${COMP_WORDS[index]}
+        case ${COMP_WORDS[index - 1]} in
+        --tree)
+            find -L "$word/" -type f -printf '%P\n' 2>/dev/null
+            return
+            ;;
+        --zone | --faults | --rejects) ;;
+        *) [ ! -f "$word" ] || source=$word ;;
+        esac
+    done
+    pzic check "$source" 2>/dev/null | cut -d ' ' -f 1
+}
+
 _pzic() {
     local current=${COMP_WORDS[COMP_CWORD]} previous=${COMP_WORDS[COMP_CWORD - 1]}
     local options='--help'
@@ -10,10 +28,11 @@ _pzic() {
         return
     fi
     case ${COMP_WORDS[1]} in
-    check | verify) options='--workers --zone-piece --explain --help' ;;
-    build) options='--links --sync --workers --zone-piece --explain --help' ;;
-    diff) options='--from --to --ignore --workers --zone-piece --explain --help' ;;
-    convert) options='--workers --zone-piece --row-piece --max-rows --max-bytes --tree --header --skip-header --zone --zone-field --time-field --delimiter --unit --from --ambiguous --records --append --keep-going --faults --progress --explain --help' ;;
+    check) options='--workers --zone-piece --explain --help' ;;
+    verify) options='--strict --workers --zone-piece --explain --help' ;;
+    build) options='--links --sync --release --tables --workers --zone-piece --explain --help' ;;
+    diff) options='--trees --from --to --ignore --summary --now --show-release --workers --zone-piece --explain --help' ;;
+    convert) options='--workers --zone-piece --row-piece --max-rows --max-bytes --max-record --tree --header --skip-header --zone --zone-field --time-field --delimiter --unit --from --ambiguous --style --records --append --keep-going --faults --rejects --progress --show-release --explain --help' ;;
     show) options='--local --explain --help' ;;
     dump) options='--from --to --explain --help' ;;
     explain)
@@ -46,6 +65,11 @@ _pzic() {
         COMPREPLY=($(compgen -W 's ms us ns' -- "$current"))
         return
         ;;
+    --style)
+        # shellcheck disable=SC2207
+        COMPREPLY=($(compgen -W 'fields iso' -- "$current"))
+        return
+        ;;
     --records)
         # shellcheck disable=SC2207
         COMPREPLY=($(compgen -W 'csv lines' -- "$current"))
@@ -63,13 +87,18 @@ _pzic() {
         COMPREPLY=($(compgen -W 'reject earlier later compatible' -- "$current"))
         return
         ;;
-    --tree)
+    --tree | --tables)
         # shellcheck disable=SC2207
         COMPREPLY=($(compgen -d -- "$current"))
         return
         ;;
-    --zone | --zone-field | --time-field | --delimiter) return ;;
-    --zone-piece | --row-piece | --max-rows | --max-bytes | --to) return ;;
+    --zone)
+        # shellcheck disable=SC2207
+        COMPREPLY=($(compgen -W "$(_pzic_zones)" -- "$current"))
+        return
+        ;;
+    --zone-field | --time-field | --delimiter) return ;;
+    --zone-piece | --row-piece | --max-rows | --max-bytes | --max-record | --to) return ;;
     esac
     if [[ $current = -* ]]; then
         # shellcheck disable=SC2207

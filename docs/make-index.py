@@ -133,11 +133,14 @@ class Index:
         yield from self.untold()
 
     def untold(self):
-        """Yields the public functions that docs/PROOF.md doesn't name. What a trait asks for is told with the trait."""
+        """Yields the public functions that docs/PROOF.md doesn't name where it tells of their crate. What a trait asks for is
+        told with the trait, and `new`, `len`, `bytes` and `octets` with their type."""
         page = (CRATES.parent / 'docs/PROOF.md').read_text()
-        named = set(re.findall(r'\w+', ' '.join(re.findall('`([^`]*)`', page))))
+        parts = re.split(r'^\*\*(\w+)\*\*', page, flags=re.M)
+        named = {crate: set(re.findall(r'\w+', ' '.join(re.findall('`([^`]*)`', part)))) for crate, part in zip(parts[1::2], parts[2::2])}
+        with_type = {'new', 'len', 'bytes', 'octets'}
         for f in self.public:
-            if not f.is_law and not f.trait and f.name not in named:
+            if not f.is_law and not f.trait and f.name not in named.get(f.module.crate, set()) | with_type:
                 yield f'docs/PROOF.md lacks {f.key}'
 
     def page(self):

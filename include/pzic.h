@@ -17,11 +17,11 @@
  * a handle that it fills or frees, no other call uses meanwhile. So one zone serves all threads, until
  * one of them frees its handle; pzic_share makes one more handle of the same, for another owner.
  *
- * Memory is asked for by malloc and given back by free. No call may be made from a signal handler,
+ * Memory is allocated by malloc and given back by free. No call may be made from a signal handler,
  * or in the child of a fork of a process that has several threads. The calls of this header are inline
- * functions; "What the library exports" at its end tells what they do.
+ * functions; "What the library exports" at its end says what they do.
  *
- * Link with -lpzic; `pkg-config pzic` tells more.
+ * Link with -lpzic; `pkg-config pzic` has the flags.
  */
 #ifndef PZIC_H
 #define PZIC_H
@@ -42,7 +42,7 @@ extern "C" {
 /* Returns the version of the library that the program runs with, as PZIC_VERSION counts. */
 uint32_t pzic_version(void);
 
-/* A call uses at most so many bytes of the stack; those of pzic_zone_at, pzic_zone_span and pzic_zone_instants few. */
+/* The most bytes of the stack that a call uses; those of pzic_zone_at, pzic_zone_span and pzic_zone_instants few. */
 enum { PZIC_STACK = 131072 };
 
 /* What a call answers. */
@@ -57,11 +57,14 @@ enum {
     PZIC_BAD_FILE = 3,
     /* The handle holds nothing that the call works on. */
     PZIC_NO_HANDLE = 4,
-    /* The arrays differ in length, or the texts together have another length. */
+    /* The arrays differ in length, the texts together have another length, or the column is too long. */
     PZIC_LENGTHS = 5,
     /* The texts are no source, or a zone of them has a fault. */
     PZIC_BAD_SOURCE = 6,
-    /* No file has the name or the number, or no fault, reason or disambiguation has the number. */
+    /*
+     * No file has the name or the number, no fault, reason or disambiguation has the number, or there is
+     * no such layout.
+     */
     PZIC_NO_SUCH = 7,
     /* A row of the column has a fault. */
     PZIC_BAD_ROW = 8,
@@ -72,12 +75,18 @@ enum {
     /* The local time is in a fold, which PZIC_REJECT refuses. */
     PZIC_FOLD = 11,
     /* A file can't be read: pzic_tree_zone of pzic_tree.h. */
-    PZIC_UNREADABLE = 12
+    PZIC_UNREADABLE = 12,
+    /* No zone can have the name. */
+    PZIC_BAD_NAME = 13,
+    /* A TZif file that rows can't be made of: pzic_files_of. */
+    PZIC_UNFIT = 14,
+    /* A file before it that was taken has the name. */
+    PZIC_TAKEN = 15
 };
 
 /*
  * The check that bytes fail first, where they are no TZif file (RFC 9636, 3). pzic_name_of_reason
- * tells the name.
+ * gives the name.
  */
 enum {
     PZIC_REASON_SHORT = 1,
@@ -101,7 +110,9 @@ enum {
     /* Daylight saving time. */
     PZIC_DAYLIGHT = 1,
     /* The file leaves local time open at the instant; the offset is then 0. */
-    PZIC_OPEN = 2
+    PZIC_OPEN = 2,
+    /* No file has the number of the row's zone; the offset is then 0. */
+    PZIC_NO_ZONE = 4
 };
 
 /*
@@ -158,7 +169,7 @@ static inline int32_t pzic_share(const pzic_handle *handle, pzic_handle *other);
 static inline void pzic_free(pzic_handle *handle);
 
 /*
- * Tells local time at an instant: RFC 9636, 3.2 and 3.3.
+ * Gives local time at an instant: RFC 9636, 3.2 and 3.3.
  *
  * PZIC_OK           *state is local time
  * PZIC_UNSPECIFIED  the file leaves local time open; *state is offset 0 with an empty abbreviation
@@ -194,9 +205,9 @@ typedef struct pzic_civil {
 } pzic_civil;
 
 /*
- * Tells the date, the time of day and local time at an instant, any int64_t.
+ * Gives the date, the time of day and local time at an instant, any int64_t.
  *
- * PZIC_OK           *civil tells local time
+ * PZIC_OK           *civil is local time
  * PZIC_UNSPECIFIED  the file leaves local time open; *civil is the date and the time of day of UT, and
  *                   its state is offset 0 with an empty abbreviation
  * PZIC_NO_HANDLE    `zone` holds no zone; *civil isn't written
@@ -204,12 +215,13 @@ typedef struct pzic_civil {
 static inline int32_t pzic_zone_civil(const pzic_handle *zone, int64_t instant, pzic_civil *civil);
 
 /*
- * Tells the first change of local time after an instant, and the last before it. A change is an
+ * Gives the first change of local time after an instant, and the last before it. A change is an
  * instant at which the offset, the flag or the abbreviation isn't that of a second before, or local
  * time begins or ceases to be left open: transitions that change nothing are none.
  *
  * PZIC_OK         *change is the instant of the change
- * PZIC_NO_SUCH    there is none after the instant, or before it, in 64 bits; *change isn't written
+ * PZIC_NO_SUCH    there is none after the instant in 64 bits, or none before it and after the least
+ *                 instant of 64 bits; *change isn't written
  * PZIC_NO_HANDLE  `zone` holds no zone; *change isn't written
  */
 static inline int32_t pzic_zone_next_change(const pzic_handle *zone, int64_t instant,
@@ -218,9 +230,9 @@ static inline int32_t pzic_zone_previous_change(const pzic_handle *zone, int64_t
                                                 int64_t *change);
 
 /*
- * Tells the instants of the changes after `first` and up to `last`, in rising order, as many as there is
+ * Gives the instants of the changes after `first` and up to `last`, in rising order, as many as there is
  * room for, and how many those are. Where the room is full, more may follow: they are the changes after
- * the last that is told.
+ * the last that is given.
  *
  * PZIC_OK         *count is the number of changes that are written; the rest of the room stays as it was
  * PZIC_NO_HANDLE  `zone` holds no zone; nothing is written
@@ -229,7 +241,7 @@ static inline int32_t pzic_zone_changes(const pzic_handle *zone, int64_t first, 
                                         int64_t *changes, size_t changes_length, size_t *count);
 
 /*
- * Tells local time at each of many instants, in any order: offsets[i] is the UT offset at
+ * Gives local time at each of many instants, in any order: offsets[i] is the UT offset at
  * instants[i], and flags[i] is 0, PZIC_DAYLIGHT or PZIC_OPEN. Quickest where the instants rise or
  * lie close to each other.
  *
@@ -242,7 +254,7 @@ static inline int32_t pzic_zone_offsets(const pzic_handle *zone, const int64_t *
                                         size_t offsets_length, uint8_t *flags, size_t flags_length);
 
 /*
- * What a zone tells of a local time: seconds from 1970-01-01T00:00:00 on the zone's clocks. What there
+ * The instants of a local time in a zone: seconds from 1970-01-01T00:00:00 on the zone's clocks. What there
  * isn't is 0.
  */
 typedef struct pzic_local_time {
@@ -259,7 +271,7 @@ typedef struct pzic_local_time {
 } pzic_local_time;
 
 /*
- * Tells the instants at which a zone's clocks show a local time, or the gap that it is in.
+ * Gives the instants at which a zone's clocks show a local time, or the gap that it is in.
  *
  * PZIC_OK            *found has the instants, or the gap
  * PZIC_UNSPECIFIED   there is neither, since the file leaves local time open there; *found is all 0
@@ -285,7 +297,7 @@ enum {
 };
 
 /*
- * Tells the instant that is meant by each of many local times, in any order: statuses[i] is PZIC_OK and
+ * Gives the instant that is meant by each of many local times, in any order: statuses[i] is PZIC_OK and
  * instants[i] the instant; or instants[i] is 0, and statuses[i] is PZIC_GAP or PZIC_FOLD, by PZIC_REJECT
  * alone, PZIC_UNSPECIFIED where the file leaves local time open, or PZIC_OUT_OF_RANGE.
  *
@@ -300,7 +312,7 @@ static inline int32_t pzic_zone_instants_array(const pzic_handle *zone, uint32_t
                                                uint8_t *statuses, size_t statuses_length);
 
 /*
- * Tells the instant that is meant by one local time, as pzic_zone_instants_array does: PZIC_OK, or the
+ * Gives the instant that is meant by one local time, as pzic_zone_instants_array does: PZIC_OK, or the
  * status that stands there, or that of the whole call. *instant is written by PZIC_OK alone.
  */
 static inline int32_t pzic_zone_instant(const pzic_handle *zone, uint32_t disambiguation,
@@ -313,7 +325,7 @@ typedef struct pzic_fault {
     /* The number of the line in it, from 1. */
     uint64_t line;
     /*
-     * The number of the kind, 1 to 34. pzic_name_of_fault tells its name, and `pzic explain` and
+     * The number of the kind, 1 to 34. pzic_name_of_fault gives its name, and `pzic explain` and
      * docs/ERRORS.md what it means.
      */
     uint32_t kind;
@@ -336,7 +348,34 @@ static inline int32_t pzic_compile(const uint8_t *texts, size_t texts_length, co
                                    size_t count, pzic_handle *files, pzic_fault *fault);
 
 /*
- * Tells how many files there are: PZIC_OK; or PZIC_NO_HANDLE if `files` holds no files, and *count
+ * Makes files of names and of bytes that were read, as those of a tree of TZif files, so that the calls on
+ * files work over them. For each file there are two texts, its name and its bytes; all texts lie one
+ * after another in one array, and lengths[i] is the length of the i-th. What the handle held before is
+ * freed first.
+ *
+ * PZIC_OK         the handle holds the files whose status is PZIC_OK, in order; statuses[i] is that of
+ *                 the i-th
+ * PZIC_LENGTHS    the lengths of the texts aren't `texts_length` together, or `count` isn't twice
+ *                 `statuses_length`; the handle holds nothing, and no status is written
+ * PZIC_NO_MEMORY  the handle holds nothing, and no status is written
+ *
+ * The statuses, of which the first that holds is returned:
+ *
+ * PZIC_BAD_NAME   the name isn't 1 to 255 ASCII letters, digits, `_`, `-`, `+`, `.` and `/`, or a part
+ *                 of it between slashes is empty, `.` or `..`
+ * PZIC_TAKEN      a file before it that was taken has the name
+ * PZIC_BAD_FILE   the bytes are no TZif file of version 2 or 3; pzic_zone_read says why
+ * PZIC_UNFIT      its footer is empty, or a local time type or a state of the footer is farther than
+ *                 24:00:00 from UT, or has an abbreviation other than 3 to 16 ASCII letters, digits, `+`
+ *                 and `-`
+ * PZIC_OK         the file is taken
+ */
+static inline int32_t pzic_files_of(const uint8_t *texts, size_t texts_length, const size_t *lengths,
+                                    size_t count, uint8_t *statuses, size_t statuses_length,
+                                    pzic_handle *files);
+
+/*
+ * Gives how many files there are: PZIC_OK; or PZIC_NO_HANDLE if `files` holds no files, and *count
  * isn't written.
  */
 static inline int32_t pzic_files_len(const pzic_handle *files, size_t *count);
@@ -349,7 +388,7 @@ static inline int32_t pzic_files_find(const pzic_handle *files, const uint8_t *n
                                       size_t *number);
 
 /*
- * Copies the name of a file, or its bytes, as many as there is room for, and tells the whole length.
+ * Copies the name of a file, or its bytes, as many as there is room for, and gives the whole length.
  *
  * PZIC_OK         *length is the whole length, and the first bytes are copied
  * PZIC_NO_SUCH    no file has the number; nothing is written
@@ -371,20 +410,55 @@ static inline int32_t pzic_files_bytes(const pzic_handle *files, size_t number, 
  */
 static inline int32_t pzic_zone_of(const pzic_handle *files, size_t number, pzic_handle *zone);
 
-/* The first row of a column that has a fault. */
+/*
+ * Writes the UT offset at each of many instants, in any order, with a zone for each: zones[i] is the number
+ * of a file, as pzic_files_find has it, offsets[i] the UT offset of its zone at instants[i], and flags[i] 0
+ * or PZIC_DAYLIGHT. Where no file has the number, offsets[i] is 0 and flags[i] is PZIC_NO_ZONE. Local time
+ * in seconds from 1970-01-01T00:00:00 on the zone's clocks is the sum of instants[i] and offsets[i].
+ *
+ * PZIC_OK         all are written
+ * PZIC_NO_HANDLE  `files` holds no files; nothing is written
+ * PZIC_LENGTHS    the four lengths differ; nothing is written
+ */
+static inline int32_t pzic_files_offsets(const pzic_handle *files, const uint32_t *zones,
+                                         size_t zones_length, const int64_t *instants,
+                                         size_t instants_length, int32_t *offsets,
+                                         size_t offsets_length, uint8_t *flags, size_t flags_length);
+
+/* The abbreviation of a row, 3 to 16 bytes, and NULs up to 16: none follows 16 bytes, so print it by "%.16s". */
+typedef struct pzic_abbreviation {
+    char name[16];
+} pzic_abbreviation;
+
+/*
+ * Writes the abbreviation at each of many instants, with a zone for each, as pzic_files_offsets does the
+ * UT offset. Where no file has the number, abbreviations[i] is all NULs.
+ *
+ * PZIC_OK         all are written
+ * PZIC_NO_HANDLE  `files` holds no files; nothing is written
+ * PZIC_LENGTHS    the three lengths differ; nothing is written
+ */
+static inline int32_t pzic_files_abbreviations(const pzic_handle *files, const uint32_t *zones,
+                                               size_t zones_length, const int64_t *instants,
+                                               size_t instants_length,
+                                               pzic_abbreviation *abbreviations,
+                                               size_t abbreviations_length);
+
+/* A row of a column that has a fault. */
 typedef struct pzic_row_fault {
     /* The number of the row, from 1. */
     uint64_t row;
-    /* The number of the kind, 35 to 43. pzic_name_of_fault tells its name. */
+    /* The number of the kind, 35 to 44. pzic_name_of_fault gives its name. */
     uint32_t kind;
 } pzic_row_fault;
 
 /*
  * Converts a column to rows, on the calling thread: the bytes that `pzic convert` writes, without a
  * header. A record of the column is a zone's name, a comma and an instant, and a row the name, the
- * instant, local time, the UT offset, the daylight flag and the abbreviation. A column may be given
- * in pieces that end with a line end outside quotes; each is a column of its own. It may have
- * 100,000,000 rows. What `rows` held before is freed first.
+ * instant, local time, the UT offset, the daylight flag and the abbreviation. Instants of rows are from
+ * -62,135,510,400 to 253,402,214,399, the years 1 to 9999 but for their first and last day. A
+ * column may be given in pieces that end with a line end outside quotes; each is a column of its own.
+ * It may have 100,000,000 rows. What `rows` held before is freed first.
  *
  * PZIC_OK         `rows` holds the rows
  * PZIC_BAD_ROW    *fault is the first row that has a fault, and `rows` holds the rows before it
@@ -397,7 +471,94 @@ static inline int32_t pzic_rows(const pzic_handle *files, const uint8_t *column,
                                 pzic_handle *rows, pzic_row_fault *fault);
 
 /*
- * Copies the bytes of rows, as many as there is room for, and tells the whole length.
+ * How the field of a time has it: as a count of units, as a date and a time of day with a UT offset (RFC
+ * 3339), or as a local time. To the last, what to take in gaps and folds is added, as PZIC_EARLIER.
+ */
+enum { PZIC_FROM_COUNT = 0, PZIC_FROM_RFC3339 = 1, PZIC_FROM_LOCAL = 2 };
+
+/* What a count counts. */
+enum { PZIC_SECONDS = 0, PZIC_MILLISECONDS = 1, PZIC_MICROSECONDS = 2, PZIC_NANOSECONDS = 3 };
+
+/* Where a record ends: as in CSV, or at each line end. */
+enum { PZIC_RECORDS_CSV = 0, PZIC_RECORDS_LINES = 1 };
+
+/* No header; the first record is one, and one is written; or it is one, and none is written. */
+enum { PZIC_HEADER_ABSENT = 0, PZIC_HEADER_FIRST = 1, PZIC_HEADER_SKIPPED = 2 };
+
+/* What a row begins with: a zone's name and a time, or its record. */
+enum { PZIC_START_FIELDS = 0, PZIC_START_RECORD = 1 };
+
+/* A row with a fault ends the run, is written without local time, or is left out. */
+enum { PZIC_FAULT_ENDS = 0, PZIC_FAULT_GOES_ON = 1, PZIC_FAULT_REJECTS = 2 };
+
+/* A row has local time and the UT offset in two fields, or in one, as 2007-03-11T03:00:00-04:00. */
+enum { PZIC_STYLE_FIELDS = 0, PZIC_STYLE_ISO = 1 };
+
+/* How a column is read, and what its rows are, as the options of `pzic convert` say. */
+typedef struct pzic_layout {
+    /* The numbers, from 0, of the fields of the zone's name and of the time. */
+    size_t zone;
+    size_t time;
+    /* How many fields a record has, and 1 where it may have more. */
+    size_t fields;
+    uint32_t more_fields;
+    /* PZIC_FROM_COUNT and so on. */
+    uint32_t from;
+    uint32_t unit;
+    /* The byte between fields. */
+    uint32_t delimiter;
+    uint32_t records;
+    uint32_t header;
+    uint32_t start;
+    uint32_t at_fault;
+    uint32_t style;
+    /*
+     * The most bytes of a record, without its line end, or 0 for no limit. A longer record has the fault
+     * RowTooLong, which ends the run, unless records are lines and at_fault isn't PZIC_FAULT_ENDS: then a row
+     * with that fault has the first max_record + 4 bytes of the line.
+     */
+    uint64_t max_record;
+} pzic_layout;
+
+/* The layout of pzic_rows: zone,seconds. */
+#define PZIC_LAYOUT_INIT {0, 1, 2, 0, 0, 0, ',', 0, 0, 0, 0, 0, 0}
+
+/*
+ * Converts a column by a layout, on the calling thread: the bytes that `pzic convert` writes, with the
+ * header if the layout has one. Where `name` isn't empty, all rows are in the zone of this name; where no
+ * file has it, `pzic convert` converts nothing, and here each row has the fault RowZone. What `rows` held
+ * before is freed first. A column has at most 100,000,000 rows and 4,294,967,296 bytes.
+ *
+ * PZIC_OK         `rows` holds the rows, and the faults of those that have one
+ * PZIC_BAD_ROW    a row ends the run: `rows` holds the rows before it, and its fault as the last
+ * PZIC_NO_SUCH    the layout has a number that nothing has, or a delimiter that can't be one, or the
+ *                 name isn't UTF-8; `rows` holds nothing
+ * PZIC_LENGTHS    the column is too long; `rows` holds nothing
+ * PZIC_NO_HANDLE  `files` holds no files; `rows` holds nothing
+ * PZIC_NO_MEMORY  memory is refused, or the header is longer than a record may be; `rows` holds nothing
+ */
+static inline int32_t pzic_rows_by(const pzic_handle *files, const pzic_layout *layout,
+                                   const uint8_t *name, size_t name_length, const uint8_t *column,
+                                   size_t length, pzic_handle *rows);
+
+/*
+ * Gives how many rows there are, without the header, and with those that are left out: PZIC_OK; or
+ * PZIC_NO_HANDLE if `rows` holds none, and *count isn't written.
+ */
+static inline int32_t pzic_rows_len(const pzic_handle *rows, uint64_t *count);
+
+/*
+ * Copies the faults of rows that pzic_rows_by made, as many as there is room for, and gives their
+ * number. They rise by the row; the one that ended the run is the last. Rows of pzic_rows have none here.
+ *
+ * PZIC_OK         *count is the number of faults, and the first are copied
+ * PZIC_NO_HANDLE  `rows` holds no rows; nothing is written
+ */
+static inline int32_t pzic_rows_faults(const pzic_handle *rows, pzic_row_fault *room,
+                                       size_t room_length, size_t *count);
+
+/*
+ * Copies the bytes of rows, as many as there is room for, and gives the whole length.
  *
  * PZIC_OK         *length is the whole length, and the first bytes are copied
  * PZIC_NO_HANDLE  `rows` holds no rows; nothing is written
@@ -406,8 +567,8 @@ static inline int32_t pzic_rows_text(const pzic_handle *rows, uint8_t *room, siz
                                      size_t *length);
 
 /*
- * Copies the name of a fault's kind, 1 to 43, or of a reason, 1 to 14, as the program prints it: as
- * much as there is room for, without a NUL. Tells the whole length, at most 17.
+ * Copies the name of a fault's kind, 1 to 44, or of a reason, 1 to 14, as the program prints it: as
+ * much as there is room for, without a NUL. Gives the whole length, at most 17.
  *
  * PZIC_OK       *length is the whole length, and the first bytes are copied
  * PZIC_NO_SUCH  none has the number, as no kind has 31; nothing is written
@@ -445,6 +606,9 @@ int32_t pzic_raw_zone_instants_array(pzic_handle *zone, uint32_t disambiguation,
                                      size_t statuses_length);
 int32_t pzic_raw_compile(const uint8_t *texts, size_t texts_length, const size_t *lengths,
                          size_t count, pzic_handle *files, pzic_fault *fault);
+int32_t pzic_raw_files_of(const uint8_t *texts, size_t texts_length, const size_t *lengths,
+                          size_t count, uint8_t *statuses, size_t statuses_length,
+                          pzic_handle *files);
 int32_t pzic_raw_files_len(pzic_handle *files, size_t *count);
 int32_t pzic_raw_files_find(pzic_handle *files, const uint8_t *name, size_t length, size_t *number);
 int32_t pzic_raw_files_name(pzic_handle *files, size_t number, uint8_t *room, size_t room_length,
@@ -452,8 +616,21 @@ int32_t pzic_raw_files_name(pzic_handle *files, size_t number, uint8_t *room, si
 int32_t pzic_raw_files_bytes(pzic_handle *files, size_t number, uint8_t *room, size_t room_length,
                              size_t *length);
 int32_t pzic_raw_zone_of(pzic_handle *files, size_t number, pzic_handle *zone);
+int32_t pzic_raw_files_offsets(pzic_handle *files, const uint32_t *zones, size_t zones_length,
+                               const int64_t *instants, size_t instants_length, int32_t *offsets,
+                               size_t offsets_length, uint8_t *flags, size_t flags_length);
+int32_t pzic_raw_files_abbreviations(pzic_handle *files, const uint32_t *zones,
+                                     size_t zones_length, const int64_t *instants,
+                                     size_t instants_length, pzic_abbreviation *abbreviations,
+                                     size_t abbreviations_length);
 int32_t pzic_raw_rows(pzic_handle *files, const uint8_t *column, size_t length, pzic_handle *rows,
                       pzic_row_fault *fault);
+int32_t pzic_raw_rows_by(pzic_handle *files, const pzic_layout *layout, const uint8_t *name,
+                         size_t name_length, const uint8_t *column, size_t length,
+                         pzic_handle *rows);
+int32_t pzic_raw_rows_len(pzic_handle *rows, uint64_t *count);
+int32_t pzic_raw_rows_faults(pzic_handle *rows, pzic_row_fault *room, size_t room_length,
+                             size_t *count);
 int32_t pzic_raw_rows_text(pzic_handle *rows, uint8_t *room, size_t room_length, size_t *length);
 int32_t pzic_raw_name_of_fault(uint32_t kind, uint8_t *room, size_t room_length, size_t *length);
 int32_t pzic_raw_name_of_reason(uint32_t reason, uint8_t *room, size_t room_length, size_t *length);
@@ -595,6 +772,19 @@ static inline int32_t pzic_compile(const uint8_t *texts, size_t texts_length, co
     return status;
 }
 
+static inline int32_t pzic_files_of(const uint8_t *texts, size_t texts_length, const size_t *lengths,
+                                    size_t count, uint8_t *statuses, size_t statuses_length,
+                                    pzic_handle *files) {
+    if (texts_length == 0) texts = (const uint8_t *)pzic_nowhere_();
+    if (count == 0) lengths = (const size_t *)pzic_nowhere_();
+    if (statuses_length == 0) statuses = (uint8_t *)pzic_nowhere_();
+    pzic_enter_();
+    int32_t status =
+        pzic_raw_files_of(texts, texts_length, lengths, count, statuses, statuses_length, files);
+    pzic_leave_();
+    return status;
+}
+
 static inline int32_t pzic_files_len(const pzic_handle *files, size_t *count) {
     pzic_handle own = *files;
     return pzic_raw_files_len(&own, count);
@@ -629,6 +819,32 @@ static inline int32_t pzic_zone_of(const pzic_handle *files, size_t number, pzic
     return status;
 }
 
+static inline int32_t pzic_files_offsets(const pzic_handle *files, const uint32_t *zones,
+                                         size_t zones_length, const int64_t *instants,
+                                         size_t instants_length, int32_t *offsets,
+                                         size_t offsets_length, uint8_t *flags, size_t flags_length) {
+    pzic_handle own = *files;
+    if (zones_length == 0) zones = (const uint32_t *)pzic_nowhere_();
+    if (instants_length == 0) instants = (const int64_t *)pzic_nowhere_();
+    if (offsets_length == 0) offsets = (int32_t *)pzic_nowhere_();
+    if (flags_length == 0) flags = (uint8_t *)pzic_nowhere_();
+    return pzic_raw_files_offsets(&own, zones, zones_length, instants, instants_length, offsets,
+                                  offsets_length, flags, flags_length);
+}
+
+static inline int32_t pzic_files_abbreviations(const pzic_handle *files, const uint32_t *zones,
+                                               size_t zones_length, const int64_t *instants,
+                                               size_t instants_length,
+                                               pzic_abbreviation *abbreviations,
+                                               size_t abbreviations_length) {
+    pzic_handle own = *files;
+    if (zones_length == 0) zones = (const uint32_t *)pzic_nowhere_();
+    if (instants_length == 0) instants = (const int64_t *)pzic_nowhere_();
+    if (abbreviations_length == 0) abbreviations = (pzic_abbreviation *)pzic_nowhere_();
+    return pzic_raw_files_abbreviations(&own, zones, zones_length, instants, instants_length,
+                                        abbreviations, abbreviations_length);
+}
+
 static inline int32_t pzic_rows(const pzic_handle *files, const uint8_t *column, size_t length,
                                 pzic_handle *rows, pzic_row_fault *fault) {
     pzic_handle own = *files;
@@ -637,6 +853,30 @@ static inline int32_t pzic_rows(const pzic_handle *files, const uint8_t *column,
     int32_t status = pzic_raw_rows(&own, column, length, rows, fault);
     pzic_leave_();
     return status;
+}
+
+static inline int32_t pzic_rows_by(const pzic_handle *files, const pzic_layout *layout,
+                                   const uint8_t *name, size_t name_length, const uint8_t *column,
+                                   size_t length, pzic_handle *rows) {
+    pzic_handle own = *files;
+    if (name_length == 0) name = (const uint8_t *)pzic_nowhere_();
+    if (length == 0) column = (const uint8_t *)pzic_nowhere_();
+    pzic_enter_();
+    int32_t status = pzic_raw_rows_by(&own, layout, name, name_length, column, length, rows);
+    pzic_leave_();
+    return status;
+}
+
+static inline int32_t pzic_rows_len(const pzic_handle *rows, uint64_t *count) {
+    pzic_handle own = *rows;
+    return pzic_raw_rows_len(&own, count);
+}
+
+static inline int32_t pzic_rows_faults(const pzic_handle *rows, pzic_row_fault *room,
+                                       size_t room_length, size_t *count) {
+    pzic_handle own = *rows;
+    if (room_length == 0) room = (pzic_row_fault *)pzic_nowhere_();
+    return pzic_raw_rows_faults(&own, room, room_length, count);
 }
 
 static inline int32_t pzic_rows_text(const pzic_handle *rows, uint8_t *room, size_t room_length,

@@ -1,5 +1,5 @@
 // pzic.hpp: local time by the files of the time zone database, for C++17: the calls of pzic.h with
-// handles that free what they hold. Nothing of its own throws. pzic.h tells what each call answers.
+// handles that free what they hold. Nothing of its own throws. pzic.h says what each call answers.
 #ifndef PZIC_HPP
 #define PZIC_HPP
 
@@ -79,26 +79,26 @@ public:
 
     // Returns local time at an instant, or nothing where the file leaves it open.
     std::optional<pzic::state> at(std::int64_t instant) const {
-        pzic_state told;
-        if (pzic_zone_at(handle_.get(), instant, &told) != PZIC_OK) return std::nullopt;
-        return pzic::state{told.offset, told.daylight != 0, told.name};
+        pzic_state answer;
+        if (pzic_zone_at(handle_.get(), instant, &answer) != PZIC_OK) return std::nullopt;
+        return pzic::state{answer.offset, answer.daylight != 0, answer.name};
     }
 
     // Returns local time at an instant, and the instants round it at which it is the same.
     pzic::span span(std::int64_t instant) const {
-        pzic_state told;
+        pzic_state answer;
         pzic::span made{std::nullopt, 0, -1};
-        if (pzic_zone_span(handle_.get(), instant, &told, &made.first, &made.last) == PZIC_OK)
-            made.state = pzic::state{told.offset, told.daylight != 0, told.name};
+        if (pzic_zone_span(handle_.get(), instant, &answer, &made.first, &made.last) == PZIC_OK)
+            made.state = pzic::state{answer.offset, answer.daylight != 0, answer.name};
         return made;
     }
 
     // Returns the date, the time of day and local time at an instant; those of UT, under an empty
     // abbreviation, where the file leaves local time open.
     pzic_civil civil(std::int64_t instant) const noexcept {
-        pzic_civil told{};
-        pzic_zone_civil(handle_.get(), instant, &told);
-        return told;
+        pzic_civil answer{};
+        pzic_zone_civil(handle_.get(), instant, &answer);
+        return answer;
     }
 
     // Returns the first change of local time after an instant, or nothing where there is none.
@@ -138,7 +138,7 @@ public:
     }
 
     // Returns the instants at which clocks show a local time, or the gap that it is in; nothing where
-    // the file leaves local time open, or within 26 hours of an end of 64 bits.
+    // the file leaves local time open, or within 25:59:59 of an end of 64 bits.
     std::optional<pzic_local_time> instants(std::int64_t local) const noexcept {
         pzic_local_time found;
         if (pzic_zone_instants(handle_.get(), local, &found) != PZIC_OK) return std::nullopt;
@@ -162,11 +162,11 @@ private:
     handle handle_;
 };
 
-// The files of a source.
+// The files of a source, or of a folder.
 class files {
 public:
     // Compiles a text of Rule, Zone, continuation and Link lines. Returns nothing where it has a fault,
-    // which is told, or memory is refused.
+    // which is given, or memory is refused.
     static std::optional<files> compile(std::string_view text, pzic_fault *fault = nullptr) noexcept {
         files made;
         pzic_fault own;
@@ -174,6 +174,29 @@ public:
         if (pzic_compile(reinterpret_cast<const std::uint8_t *>(text.data()), length, &length, 1,
                          made.handle_.get(), fault ? fault : &own) != PZIC_OK)
             return std::nullopt;
+        return made;
+    }
+
+    // Makes files of names and of the bytes of TZif files that were read. Some may be left out: the
+    // statuses, if they are wanted, say why, as those of pzic_files_of. Returns nothing where memory is
+    // refused to the library.
+    static std::optional<files> of(
+        const std::vector<std::pair<std::string_view, std::string_view>> &given,
+        std::vector<std::uint8_t> *statuses = nullptr) {
+        files made;
+        std::string texts;
+        std::vector<std::size_t> lengths;
+        std::vector<std::uint8_t> own(given.size());
+        for (const auto &[name, bytes] : given) {
+            texts.append(name).append(bytes);
+            lengths.push_back(name.size());
+            lengths.push_back(bytes.size());
+        }
+        if (pzic_files_of(reinterpret_cast<const std::uint8_t *>(texts.data()), texts.size(),
+                          lengths.data(), lengths.size(), own.data(), own.size(),
+                          made.handle_.get()) != PZIC_OK)
+            return std::nullopt;
+        if (statuses) *statuses = std::move(own);
         return made;
     }
 
@@ -187,11 +210,45 @@ public:
     // Returns the zone of a name, or nothing where no file has it or memory is refused.
     std::optional<pzic::zone> zone(std::string_view name) const noexcept {
         pzic::zone made;
-        std::size_t number;
+        std::optional<std::size_t> found = number(name);
+        if (!found) return std::nullopt;
+        if (pzic_zone_of(handle_.get(), *found, made.handle_.get()) != PZIC_OK) return std::nullopt;
+        return made;
+    }
+
+    // Returns the number of the file of a name, or nothing where no file has it.
+    std::optional<std::size_t> number(std::string_view name) const noexcept {
+        std::size_t found;
         if (pzic_files_find(handle_.get(), reinterpret_cast<const std::uint8_t *>(name.data()),
-                            name.size(), &number) != PZIC_OK)
+                            name.size(), &found) != PZIC_OK)
             return std::nullopt;
-        if (pzic_zone_of(handle_.get(), number, made.handle_.get()) != PZIC_OK) return std::nullopt;
+        return found;
+    }
+
+    // Returns the UT offsets at instants, each by the file of a number, and their flags, if they are
+    // wanted; 0 and PZIC_NO_ZONE where no file has the number. Returns nothing where the numbers aren't as
+    // many as the instants.
+    std::optional<std::vector<std::int32_t>> offsets(
+        const std::vector<std::uint32_t> &zones, const std::vector<std::int64_t> &instants,
+        std::vector<std::uint8_t> *flags = nullptr) const {
+        std::vector<std::int32_t> made(instants.size());
+        std::vector<std::uint8_t> own(instants.size());
+        if (pzic_files_offsets(handle_.get(), zones.data(), zones.size(), instants.data(),
+                               instants.size(), made.data(), made.size(), own.data(),
+                               own.size()) != PZIC_OK)
+            return std::nullopt;
+        if (flags) *flags = std::move(own);
+        return made;
+    }
+
+    // Returns the abbreviations at instants, each by the file of a number, and NULs where no file has
+    // it. Returns nothing where the numbers aren't as many as the instants.
+    std::optional<std::vector<pzic_abbreviation>> abbreviations(
+        const std::vector<std::uint32_t> &zones, const std::vector<std::int64_t> &instants) const {
+        std::vector<pzic_abbreviation> made(instants.size());
+        if (pzic_files_abbreviations(handle_.get(), zones.data(), zones.size(), instants.data(),
+                                     instants.size(), made.data(), made.size()) != PZIC_OK)
+            return std::nullopt;
         return made;
     }
 

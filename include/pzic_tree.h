@@ -29,7 +29,7 @@ enum { PZIC_MOST_BYTES = 1048576 };
  *
  * PZIC_OK          the handle holds the zone
  * PZIC_NO_SUCH     no file of the folder has the name, or none can have it; the handle holds nothing
- * PZIC_UNREADABLE  the file can't be read, and errno tells why; the handle holds nothing
+ * PZIC_UNREADABLE  the file can't be read, and errno says why; the handle holds nothing
  * PZIC_BAD_FILE    it is no TZif file of version 2 or 3, and *reason is the number of the first check
  *                  that it fails; the handle holds nothing
  * PZIC_NO_MEMORY   the handle holds nothing

@@ -1,10 +1,12 @@
-"""Puts the shared library into the wheel: the one that PZIC_LIBRARY names, or else what
-../make-library proves and builds."""
+"""Puts into the wheel the shared library, which is the one that PZIC_LIBRARY names or else what
+../make-library proves and builds, and the part in C, where a compiler and Python's headers are there
+and the variable PZIC_PURE_PYTHON isn't set."""
 
+import glob
 import os
 import subprocess
 
-from setuptools import Distribution, setup
+from setuptools import Distribution, Extension, setup
 from setuptools.command.build_py import build_py
 from wheel.bdist_wheel import bdist_wheel
 
@@ -14,6 +16,9 @@ class BuildWithLibrary(build_py):
 
     def run(self):
         super().run()
+        # What another build left may not fit.
+        for path in glob.glob(os.path.join(self.build_lib, "pzic", "_fast.*")):
+            os.remove(path)
         path = os.environ.get("PZIC_LIBRARY") or self.make_library()
         self.copy_file(path, os.path.join(self.build_lib, "pzic", "libpzic.so.0"))
 
@@ -26,10 +31,12 @@ class BuildWithLibrary(build_py):
 
 
 class WheelOfMachine(bdist_wheel):
-    """A wheel for any Python 3 on one kind of machine."""
+    """A wheel for one kind of machine: for one Python with the part in C, and for any Python 3 without."""
 
     def get_tag(self):
-        return "py3", "none", super().get_tag()[2]
+        tag = super().get_tag()
+        parts = self.get_finalized_command("build_ext").get_outputs()
+        return tag if any(map(os.path.exists, parts)) else ("py3", "none", tag[2])
 
 
 class WithLibrary(Distribution):
@@ -39,6 +46,9 @@ class WithLibrary(Distribution):
         return True
 
 
+is_pure = bool(os.environ.get("PZIC_PURE_PYTHON"))
 setup(
-    cmdclass={"build_py": BuildWithLibrary, "bdist_wheel": WheelOfMachine}, distclass=WithLibrary
+    cmdclass={"build_py": BuildWithLibrary, "bdist_wheel": WheelOfMachine},
+    distclass=WithLibrary,
+    ext_modules=[] if is_pure else [Extension("pzic._fast", ["pzic/_fast.c"], optional=True)],
 )

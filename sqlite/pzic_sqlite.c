@@ -1,5 +1,5 @@
 /*
- * Local time in SQLite: a loadable extension over pzic.h. docs/LIBRARY.md tells of its functions.
+ * Local time in SQLite: a loadable extension over pzic.h. docs/LIBRARY.md describes its functions.
  *
  * Each connection has its own zones, and SQLite calls the functions of one connection one at a time, so
  * nothing is shared between connections.
@@ -15,11 +15,11 @@ SQLITE_EXTENSION_INIT1
 /* The folder of zones that a connection has before pzic_open. */
 static const char usual_folder[] = "/usr/share/zoneinfo";
 
-/* A zone that was asked for, and what it said last. */
+/* A zone that was looked up, and its last answer. */
 typedef struct known_zone {
     struct known_zone *next;
     pzic_handle zone;
-    /* What holds from the first to the last instant, once it was asked for. */
+    /* What holds from the first to the last instant, once it was looked up. */
     pzic_state state;
     int64_t first, last;
     int32_t status;
@@ -34,7 +34,7 @@ typedef struct zones {
     char *path;
     /* The files of the source that it named, if it is one. */
     pzic_handle files;
-    /* Whether a zone was asked for: from then on the place of the zones stays. */
+    /* Whether a zone was looked up: from then on the place of the zones stays. */
     int in_use;
     /* The zone of the row before, and all. */
     known_zone *recent;
@@ -155,7 +155,7 @@ static void pzic_offset(sqlite3_context *context, int count, sqlite3_value **val
     if (state != NULL) sqlite3_result_int(context, state->offset);
 }
 
-static void pzic_abbreviation(sqlite3_context *context, int count, sqlite3_value **values) {
+static void tell_abbreviation(sqlite3_context *context, int count, sqlite3_value **values) {
     int64_t instant;
     const pzic_state *state = state_at(context, "pzic_abbreviation", values, &instant);
     (void)count;
@@ -215,7 +215,7 @@ static void pzic_local(sqlite3_context *context, int count, sqlite3_value **valu
     sqlite3_result_text(context, text, sizeof text, SQLITE_TRANSIENT);
 }
 
-/* Reads a number of so many digits. Returns -1 where there is none. */
+/* Reads a number of this many digits. Returns -1 where there is none. */
 static int digits_at(const char *text, int digits) {
     int number = 0;
     for (int i = 0; i < digits; i++) {
@@ -354,7 +354,7 @@ int sqlite3_pzicsqlite_init(sqlite3 *db, char **error, const sqlite3_api_routine
     } calls[] = {
         {"pzic_local", 2, SAME, pzic_local},
         {"pzic_offset", 2, SAME, pzic_offset},
-        {"pzic_abbreviation", 2, SAME, pzic_abbreviation},
+        {"pzic_abbreviation", 2, SAME, tell_abbreviation},
         {"pzic_instant", 2, SAME, pzic_instant},
         {"pzic_instant", 3, SAME, pzic_instant},
         {"pzic_version", 0, SAME, version},

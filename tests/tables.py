@@ -138,10 +138,10 @@ class Answer:
 
     def fits(self, wanted, name):
         if not wanted.is_whole:
-            is_told = self.told != [] and wanted.told[0] in b'\n'.join(self.told) and name not in b'\n'.join(self.told)
+            is_reported = self.told != [] and wanted.told[0] in b'\n'.join(self.told) and name not in b'\n'.join(self.told)
         else:
-            is_told = are_lines(self.told, wanted.told)
-        return self.status == wanted.status and are_lines(self.out, wanted.out) and is_told and self.tree == wanted.tree
+            is_reported = are_lines(self.told, wanted.told)
+        return self.status == wanted.status and are_lines(self.out, wanted.out) and is_reported and self.tree == wanted.tree
 
     def shown(self):
         lines = [f'> {line!r}'[:300] for line in self.out] + [f'{self.status} {b" | ".join(self.told)!r}'] * (self.status or self.told != [])

@@ -25,8 +25,9 @@ from pzic._array import (
 )
 from pzic._errors import BadFile, BadName, BadRow, BadSource, NoInstant, NoSuchZone
 from pzic._library import MAX_INSTANT, MIN_INSTANT
+from pzic._rows import Layout, RowFault, Rows
 from pzic._timezone import TimeZone
-from pzic._tree import Compiled, Tree
+from pzic._tree import Compiled, Files, Tree
 from pzic._zone import Gap, Instants, Span, State, Zone
 
 __version__ = "0.1.0"
@@ -46,10 +47,14 @@ __all__ = [
     "BadSource",
     "Columns",
     "Compiled",
+    "Files",
     "Gap",
     "Instants",
+    "Layout",
     "NoInstant",
     "NoSuchZone",
+    "RowFault",
+    "Rows",
     "Span",
     "State",
     "TimeZone",

@@ -6,7 +6,7 @@ import array
 import ctypes
 from functools import partial
 from sys import byteorder
-from typing import TYPE_CHECKING, Any, Callable, Dict, List, Mapping, NamedTuple, Tuple
+from typing import TYPE_CHECKING, Any, Callable, List, Mapping, NamedTuple, Tuple
 
 from pzic import _library as c
 from pzic._errors import NoSuchZone
@@ -21,7 +21,7 @@ DAYLIGHT = 1
 OPEN = 2
 
 #: Why no instant is meant by a local time: it is in a gap or in a fold, the file leaves local time open,
-#: or the local time is within 26 hours of an end of 64 bits.
+#: or the local time is within 25:59:59 of an end of 64 bits.
 GAP = c.GAP
 FOLD = c.FOLD
 UNSPECIFIED = c.UNSPECIFIED
@@ -88,16 +88,16 @@ def _tell(
 
     They are made where they are left out. Values that are missing have a mark of their own.
     """
-    kind, told = numbers
+    kind, results = numbers
     marked, mark = marks
     count = len(_view(values, "ql", 8))
-    told = _room(values, kind, count) if told is None else told
+    results = _room(values, kind, count) if results is None else results
     marked = _room(values, "uint8", count) if marked is None else marked
-    views = _views(values, _view(told, *_ITEMS[kind]), _view(marked, "B", 1))
+    views = _views(values, _view(results, *_ITEMS[kind]), _view(marked, "B", 1))
     tell(*(word for place in _places(views) for word in (place, count)))
     if missing is not None:
         _write_missing(missing, views, mark)
-    return told, marked
+    return results, marked
 
 
 def _views(values: Any, *rooms: memoryview) -> List[memoryview]:
@@ -152,7 +152,7 @@ def _room(values: Any, kind: str, count: int) -> Any:
 
 
 def _write_missing(missing: Any, views: List[memoryview], mark: int) -> None:
-    """Write what is told of times that are missing."""
+    """Write the results for times that are missing."""
     import numpy
 
     numpy.asarray(views[1])[missing] = 0
@@ -215,7 +215,16 @@ def _address(view: memoryview) -> int:
     return at
 
 
-def convert_columns(zones: Mapping[str, Zone], names: Any, instants: Any) -> Columns:
+#: Returns files, and of each name the number of its file, or ``NO_FILE``.
+Numbers = Callable[[List[str]], Tuple[Owned, List[int]]]
+
+#: The number of no file: for a zone that the library has none for.
+NO_FILE = (1 << 32) - 1
+
+
+def convert_columns(
+    zones: Mapping[str, Zone], numbers: Numbers, names: Any, instants: Any
+) -> Columns:
     """Convert instants by a zone for each, as :meth:`Tree.convert_columns` tells."""
     import numpy
 
@@ -223,21 +232,18 @@ def convert_columns(zones: Mapping[str, Zone], names: Any, instants: Any) -> Col
     times = numpy.asarray(values)
     if times.dtype.kind != "i" or times.ndim != 1:
         raise TypeError("a column of integers or of datetime64 is wanted")
-    times = times.astype("int64", copy=False)
+    times = numpy.require(times, "int64", ["C", "A"])
     codes, found = _numbered(names)
     if len(codes) != len(times):
         raise ValueError("the columns differ in length")
-    answers = _Answers(len(times))
-    # Rows of one zone lie together, from starts[i] to starts[i + 1]. Short numbers are sorted by
-    # their digits.
-    codes = codes.astype("uint16" if len(found) <= 1 << 16 else "int64")
-    order = codes.argsort(kind="stable")
-    starts = codes[order].searchsorted(numpy.arange(len(found) + 1))
-    for name, start, end in zip(found, starts, starts[1:]):
-        answers.write(zones[name], times, order[start:end])
+    files, given = numbers(found)
+    rows = _Rows(files, numpy.array([*given, NO_FILE], "uint32")[codes], times)
+    for code, name in enumerate(found):
+        if given[code] == NO_FILE:
+            rows.write(zones[name], times, numpy.flatnonzero(codes == code))
     if missing is not None:
-        answers.numbers[missing] = 0
-    return answers.columns(times)
+        rows.clear(missing)
+    return rows.columns(times)
 
 
 def _numbered(names: Any) -> Tuple[Any, List[str]]:
@@ -255,47 +261,75 @@ def _numbered(names: Any) -> Tuple[Any, List[str]]:
     return codes, list(found.tolist())
 
 
-class _Answers:
-    """What is told of rows: for each the number of a state, among those that were met."""
+class _Rows:
+    """Local time of rows, by the number of a file for each."""
 
-    def __init__(self, count: int) -> None:
+    def __init__(self, files: Owned, numbers: Any, times: Any) -> None:
         import numpy
 
-        self.numbers = numpy.zeros(count, "int32")
-        #: Offset, flags and abbreviation of each state. The first is none.
-        self._states: Dict[Tuple[int, int, str], int] = {(0, OPEN, ""): 0}
+        count = len(times)
+        self.offsets = numpy.empty(count, "int32")
+        self.flags = numpy.empty(count, "uint8")
+        #: The 16 bytes of each abbreviation, in two numbers.
+        self.halves = numpy.empty((count, 2), "uint64")
+        self.abbreviations = self.halves.view("S16").reshape(count)
+        _ask_rows(c.files_offsets, files, numbers, times, self.offsets, self.flags)
+        _ask_rows(c.files_abbreviations, files, numbers, times, self.halves)
 
     def write(self, zone: Zone, times: Any, rows: Any) -> None:
-        """Write what a zone tells at the times of some rows."""
+        """Write what a zone that isn't of the files gives at the times of some rows."""
         rows = rows[times[rows].argsort(kind="stable")]
         rising = times[rows]
         at = 0
         while at < len(rising):
             span = zone.span(int(rising[at]))
             end = int(rising.searchsorted(span.last, "right"))
-            self.numbers[rows[at:end]] = self._number(span.state)
+            self.clear(rows[at:end])
+            if span.state is not None:
+                self.offsets[rows[at:end]] = span.state.offset
+                self.flags[rows[at:end]] = DAYLIGHT * span.state.daylight
+                self.abbreviations[rows[at:end]] = span.state.name.encode("ascii")
             at = end
 
-    def _number(self, state: Any) -> int:
-        """Return the number of a state."""
-        told = (state.offset, DAYLIGHT * state.daylight, state.name) if state else (0, OPEN, "")
-        return self._states.setdefault(told, len(self._states))
+    def clear(self, rows: Any) -> None:
+        """Leave local time of some rows open."""
+        self.offsets[rows] = 0
+        self.flags[rows] = OPEN
+        self.abbreviations[rows] = b""
 
     def columns(self, times: Any) -> Columns:
         """Return the columns of the rows, which have these times."""
         import numpy
 
-        offsets, flags, names = zip(*self._states)
-        wide = numpy.array(offsets, "int64")[self.numbers]
-        is_open = numpy.array(flags, "uint8")[self.numbers] == OPEN
+        wide = self.offsets.astype("int64")
+        is_open = self.flags == OPEN
         local = numpy.where(is_open, 0, times) + wide
         if ((local < times) != (wide < 0))[~is_open].any():
             raise OverflowError("local time has 64 bits with a sign")
         local = local.view("datetime64[s]")
         local[is_open] = "NaT"
-        return Columns(
-            wide.astype("int32"),
-            numpy.array(flags, "uint8")[self.numbers],
-            local,
-            numpy.array(names, "object")[self.numbers],
-        )
+        return Columns(self.offsets, self.flags, local, self._texts())
+
+    def _texts(self) -> Any:
+        """Return the abbreviations as texts, one object for all that are the same."""
+        import numpy
+
+        # The number of an abbreviation is a hash of 16 bits, unless two have the same. Of each number
+        # one row is known.
+        odd = numpy.uint64(0x9E3779B97F4A7C15)
+        mixed = (self.halves[:, 0] + self.halves[:, 1] * odd) * odd
+        numbers = (mixed >> numpy.uint64(48)).astype("intp")
+        names, row = self.abbreviations, numpy.zeros(1 << 16, "intp")
+        row[numbers] = numpy.arange(len(numbers))
+        if (names[row[numbers]] != names).any():
+            _, row, numbers = numpy.unique(names, return_index=True, return_inverse=True)
+        used = numpy.flatnonzero(numpy.bincount(numbers))
+        texts = numpy.empty(len(row), "object")
+        texts[used] = [name.decode("ascii") for name in names[row[used]].tolist()]
+        return texts[numbers]
+
+
+def _ask_rows(call: Callable[..., int], files: Owned, *arrays: Any) -> None:
+    """Have a call read and write arrays of rows."""
+    places = _places([memoryview(made) for made in arrays])
+    call(files.lend(), *(word for place in places for word in (place, len(arrays[0]))))

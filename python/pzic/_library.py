@@ -12,6 +12,7 @@ MAX_INSTANT = 2**63 - 1
 
 OK, UNSPECIFIED, NO_MEMORY, BAD_FILE, NO_HANDLE, LENGTHS, BAD_SOURCE, NO_SUCH, BAD_ROW = range(9)
 OUT_OF_RANGE, GAP, FOLD = range(9, 12)
+BAD_NAME, UNFIT, TAKEN = range(13, 16)
 
 #: The numbers of what to take for a local time in a gap or in a fold.
 CHOICES = {"reject": 0, "earlier": 1, "later": 2, "compatible": 3}
@@ -60,6 +61,26 @@ class CRowFault(ctypes.Structure):
     """``pzic_row_fault``: the first row that has a fault."""
 
     _fields_ = (("row", ctypes.c_uint64), ("kind", ctypes.c_uint32))
+
+
+class CLayout(ctypes.Structure):
+    """``pzic_layout``: how a column is read, and what its rows are."""
+
+    _fields_ = (
+        ("zone", ctypes.c_size_t),
+        ("time", ctypes.c_size_t),
+        ("fields", ctypes.c_size_t),
+        ("more_fields", ctypes.c_uint32),
+        ("source", ctypes.c_uint32),
+        ("unit", ctypes.c_uint32),
+        ("delimiter", ctypes.c_uint32),
+        ("records", ctypes.c_uint32),
+        ("header", ctypes.c_uint32),
+        ("start", ctypes.c_uint32),
+        ("at_fault", ctypes.c_uint32),
+        ("style", ctypes.c_uint32),
+        ("max_record", ctypes.c_uint64),
+    )
 
 
 def _path() -> str:
@@ -127,12 +148,24 @@ zone_instants_array = declare(
 compile_texts = declare(
     long, "pzic_raw_compile", *_TEXT, _COUNT, _SIZE, _HANDLE, ctypes.POINTER(CFault)
 )
+files_of = declare(long, "pzic_raw_files_of", *_TEXT, _COUNT, _SIZE, *_TEXT, _HANDLE)
 files_len = declare(short, "pzic_raw_files_len", _HANDLE, _COUNT)
 files_find = declare(short, "pzic_raw_files_find", _HANDLE, *_TEXT, _COUNT)
 files_name = declare(short, "pzic_raw_files_name", _HANDLE, _SIZE, *_ROOM)
 files_bytes = declare(short, "pzic_raw_files_bytes", _HANDLE, _SIZE, *_ROOM)
+files_offsets = declare(long, "pzic_raw_files_offsets", _HANDLE, *_ARRAY, *_ARRAY, *_ARRAY, *_ARRAY)
+files_abbreviations = declare(
+    long, "pzic_raw_files_abbreviations", _HANDLE, *_ARRAY, *_ARRAY, *_ARRAY
+)
 rows = declare(long, "pzic_raw_rows", _HANDLE, *_TEXT, _HANDLE, ctypes.POINTER(CRowFault))
 rows_text = declare(long, "pzic_raw_rows_text", _HANDLE, *_ROOM)
+rows_by = declare(
+    long, "pzic_raw_rows_by", _HANDLE, ctypes.POINTER(CLayout), *_TEXT, *_TEXT, _HANDLE
+)
+rows_len = declare(short, "pzic_raw_rows_len", _HANDLE, ctypes.POINTER(ctypes.c_uint64))
+rows_faults = declare(
+    long, "pzic_raw_rows_faults", _HANDLE, ctypes.POINTER(CRowFault), _SIZE, _COUNT
+)
 name_of_fault = declare(short, "pzic_raw_name_of_fault", ctypes.c_uint32, *_ROOM)
 name_of_reason = declare(short, "pzic_raw_name_of_reason", ctypes.c_uint32, *_ROOM)
 release = short.pzic_raw_free

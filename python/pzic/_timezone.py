@@ -7,6 +7,7 @@ import weakref
 from datetime import datetime, timedelta, tzinfo
 from typing import TYPE_CHECKING, Any, Dict, List, NamedTuple, Optional, Tuple, Type
 
+from pzic._cache import UT, Moved, Parts, Answer, Years
 from pzic._library import MAX_INSTANT, MIN_INSTANT
 
 if TYPE_CHECKING:
@@ -29,16 +30,8 @@ def _seconds(dt: datetime) -> int:
     return (dt - _EPOCH) // _SECOND
 
 
-class _Told(NamedTuple):
-    """What is told of a local time."""
-
-    offset: Optional[timedelta]
-    saved: Optional[timedelta]
-    name: Optional[str]
-
-
-#: What is told of no local time, where the zone has several.
-_NOTHING = _Told(None, None, None)
+#: The answer for no local time, where the zone has several.
+_NOTHING = Answer(None, None, None)
 
 
 class _Stretch(NamedTuple):
@@ -51,65 +44,14 @@ class _Stretch(NamedTuple):
     before: int
 
 
-class _YearUt(Dict[int, List[Tuple[datetime, timedelta, bool]]]):
-    """By the year of a UT, what there is to add up to and with which UT, and whether the time that is
-    shown comes for the second time. A year is made when it is first asked for."""
-
-    def __init__(self, zone: TimeZone) -> None:
-        self._zone = zone
-
-    def __missing__(self, year: int) -> List[Tuple[datetime, timedelta, bool]]:
-        parts: List[Tuple[int, timedelta, bool]] = []
-        begin, end = _bounds(year)
-        for stretch in self._zone._stretches(begin, end):
-            delta = timedelta(seconds=stretch.offset)
-            again = stretch.first + stretch.before - stretch.offset
-            if stretch.first < again:
-                parts.append((min(again - 1, stretch.last), delta, True))
-            if again <= stretch.last:
-                parts.append((stretch.last, delta, False))
-        self[year] = made = [
-            (_end_of(min(last, end), self._zone), delta, again)
-            for last, delta, again in parts
-            if begin <= last
-        ]
-        return made
-
-
-class _YearShown(Dict[int, List[Tuple[datetime, _Told]]]):
-    """By the year of a local time, what is told up to and with which local time, at one fold. A year
-    is made when it is first asked for."""
-
-    def __init__(self, zone: TimeZone, fold: int) -> None:
-        self._zone = zone
-        self._fold = fold
-
-    def __missing__(self, year: int) -> List[Tuple[datetime, _Told]]:
-        begin, end = _bounds(year)
-        # The library tells the instants of a local time. What it tells is of one kind between the local
-        # times that clocks show right before and right after changes.
-        starts = {begin}
-        for stretch in self._zone._stretches(begin - _FARTHEST, end + _FARTHEST):
-            for offset in (stretch.before, stretch.offset):
-                if begin < stretch.first + offset <= end:
-                    starts.add(stretch.first + offset)
-        ordered = sorted(starts)
-        lasts = [start - 1 for start in ordered[1:]] + [end]
-        self[year] = made = [
-            (_end_of(last, self._zone), self._zone._told_of(start, self._fold))
-            for start, last in zip(ordered, lasts)
-        ]
-        return made
-
-
 def _bounds(year: int) -> Tuple[int, int]:
     """Return the first and the last second of a year."""
     return _seconds(datetime(year, 1, 1)), _seconds(datetime(year, 12, 31, 23, 59, 59))
 
 
-def _end_of(second: int, zone: TimeZone) -> datetime:
+def _end_of(second: int) -> datetime:
     """Return the last microsecond of a second of the years that there are."""
-    return _EPOCH.replace(microsecond=999_999, tzinfo=zone) + timedelta(seconds=second)
+    return _EPOCH.replace(microsecond=999_999) + timedelta(seconds=second)
 
 
 _Key = Tuple[Type["TimeZone"], bytes, Optional[str]]
@@ -119,12 +61,12 @@ _all: weakref.WeakValueDictionary[_Key, TimeZone] = weakref.WeakValueDictionary(
 _all_lock = threading.RLock()
 
 
-class TimeZone(tzinfo):
+class TimeZone(Years):
     """A zone for :mod:`datetime`, with the fold of PEP 495.
 
     From an instant to local time the answers are the file's. For a local time they are those of
     :meth:`Zone.instants`: a time that comes twice is the first one with ``fold=0`` and
-    the last with ``fold=1``; a time that is left out is told by the offset before with
+    the last with ``fold=1``; a time that is left out is read by the offset before with
     ``fold=0``, and by the one after with ``fold=1``. Where the file leaves local time open, it is
     UT, under the abbreviation ``-00``. The answers of each year are kept.
 
@@ -136,10 +78,10 @@ class TimeZone(tzinfo):
 
     _zone: Zone
     _key: Optional[str]
-    _at_ut: _YearUt
-    _at_shown: Tuple[_YearShown, _YearShown]
-    #: What is told of all local times, once that was asked for.
-    _fixed: Optional[_Told]
+    #: The answer for all local times, once it was looked up.
+    _fixed: Optional[Answer]
+    #: Earlier answers, so that equal ones are one object.
+    _same: Dict[Any, Any]
 
     def __new__(cls, zone: Zone, key: Optional[str] = None) -> TimeZone:
         if key is None:
@@ -156,9 +98,8 @@ class TimeZone(tzinfo):
         made = super().__new__(cls)
         made._zone = zone
         made._key = key
-        made._at_ut = _YearUt(made)
-        made._at_shown = (_YearShown(made, 0), _YearShown(made, 1))
         made._fixed = None
+        made._same = {}
         return made
 
     @property
@@ -181,60 +122,49 @@ class TimeZone(tzinfo):
         :meth:`Zone.to_zoneinfo` does."""
         return self._zone.to_zoneinfo(self._key)
 
-    def utcoffset(self, dt: Optional[datetime]) -> Optional[timedelta]:
-        """Return the UT offset at a local time. Without one, return it if it is always the same."""
-        # This is the call that programs wait for, so it does itself what `_local` does.
-        if isinstance(dt, datetime) and dt.tzinfo is self:
-            for last, told in self._at_shown[dt.fold][dt.year]:
-                if dt <= last:
-                    return told[0]
-        return self._local(dt).offset
+    def _parts(self, kind: int, year: int) -> Parts:
+        """Return the parts of a year, with the answer in each."""
+        parts = self._parts_of_ut(year) if kind == UT else self._parts_of_local(kind, year)
+        return tuple((_end_of(last), self._same.setdefault(answer, answer)) for last, answer in parts)
 
-    def dst(self, dt: Optional[datetime]) -> Optional[timedelta]:
-        """Return 0 in standard time, and else by how much the offset differs from that before or
-        after. Files don't tell it, so this is a guess, and 1 hour where neither is standard time.
-        """
-        return self._local(dt).saved
+    def _parts_of_ut(self, year: int) -> List[Tuple[int, Any]]:
+        begin, end = _bounds(year)
+        parts: List[Tuple[int, Moved]] = []
+        for stretch in self._stretches(begin, end):
+            offset = timedelta(seconds=stretch.offset)
+            again = stretch.first + stretch.before - stretch.offset
+            if stretch.first < again:
+                parts.append((min(again - 1, stretch.last), Moved(offset, True)))
+            if again <= stretch.last:
+                parts.append((stretch.last, Moved(offset, False)))
+        return [(min(last, end), moved) for last, moved in parts if begin <= last]
 
-    def tzname(self, dt: Optional[datetime]) -> Optional[str]:
-        """Return the abbreviation at a local time."""
-        return self._local(dt).name
+    def _parts_of_local(self, fold: int, year: int) -> List[Tuple[int, Any]]:
+        # The library tells the instants of a local time. What it tells is of one kind between the local
+        # times that clocks show right before and right after changes.
+        begin, end = _bounds(year)
+        starts = {begin}
+        for stretch in self._stretches(begin - _FARTHEST, end + _FARTHEST):
+            for offset in (stretch.before, stretch.offset):
+                if begin < stretch.first + offset <= end:
+                    starts.add(stretch.first + offset)
+        ordered = sorted(starts)
+        lasts = [start - 1 for start in ordered[1:]] + [end]
+        return [(last, self._answer_of(start, fold)) for start, last in zip(ordered, lasts)]
 
-    def fromutc(self, dt: datetime) -> datetime:
-        """Return local time at a UT, with its fold."""
-        if not isinstance(dt, datetime):
-            raise TypeError("fromutc: a datetime is wanted")
-        if dt.tzinfo is not self:
-            raise ValueError("fromutc: dt.tzinfo is not self")
-        # Of two times with one tzinfo the fields are compared.
-        for last, delta, again in self._at_ut[dt.year]:
-            if dt <= last:
-                shown = dt + delta
-                return shown.replace(fold=1) if again else shown
-        raise AssertionError("a year has an end")
+    def _always(self) -> Answer:
+        """Return the answer for all local times, if that is the same."""
+        if self._fixed is None:
+            self._fixed = self._look_for_fixed()
+        return self._fixed
 
-    def _local(self, dt: Optional[datetime]) -> _Told:
-        if dt is None:
-            if self._fixed is None:
-                self._fixed = self._always()
-            return self._fixed
-        if not isinstance(dt, datetime):
-            raise TypeError("a datetime is wanted")
-        if dt.tzinfo is not self:
-            dt = dt.replace(tzinfo=self)
-        for last, told in self._at_shown[dt.fold][dt.year]:
-            if dt <= last:
-                return told
-        raise AssertionError("a year has an end")
-
-    def _always(self) -> _Told:
-        """Return what is told of all local times, if that is the same."""
+    def _look_for_fixed(self) -> Answer:
         span = first = self._zone.span(MIN_INSTANT)
         for _ in range(_MOST_SPANS):
             if span.state != first.state or span.state is None:
                 return _NOTHING
             if span.last == MAX_INSTANT:
-                return self._told(span.state, MIN_INSTANT, MAX_INSTANT)
+                return self._answer_at(span.state, MIN_INSTANT, MAX_INSTANT)
             span = self._zone.span(span.last + 1)
         return _NOTHING
 
@@ -257,8 +187,8 @@ class TimeZone(tzinfo):
         state = self._zone.at(first - 1)
         return state.offset if state else 0
 
-    def _told_of(self, local: int, fold: int) -> _Told:
-        """Return what is told of a local time: of its first instant or its last, or of the side of the
+    def _answer_of(self, local: int, fold: int) -> Answer:
+        """Return the answer for a local time: of its first instant or its last, or of the side of the
         gap that it is in. PEP 495 says which."""
         found = self._zone.instants(local)
         if found.gap is not None:
@@ -266,16 +196,16 @@ class TimeZone(tzinfo):
         else:
             instant = found.last if fold else found.first
         if instant is None:
-            return self._told(None, MIN_INSTANT, MAX_INSTANT)
+            return self._answer_at(None, MIN_INSTANT, MAX_INSTANT)
         span = self._zone.span(instant)
-        return self._told(span.state, span.first, span.last)
+        return self._answer_at(span.state, span.first, span.last)
 
-    def _told(self, state: Optional[State], first: int, last: int) -> _Told:
-        """Return what is told at the instants from the first to the last, with one state."""
+    def _answer_at(self, state: Optional[State], first: int, last: int) -> Answer:
+        """Return the answer at the instants from the first to the last, with one state."""
         if state is None:
-            return _Told(_ZERO, _ZERO, _UNKNOWN)
+            return Answer(_ZERO, _ZERO, _UNKNOWN)
         saved = self._saved(state, first, last) if state.daylight else _ZERO
-        return _Told(timedelta(seconds=state.offset), saved, state.name)
+        return Answer(timedelta(seconds=state.offset), saved, state.name)
 
     def _saved(self, state: State, first: int, last: int) -> timedelta:
         near = []

@@ -7,16 +7,19 @@ import errno
 import os
 import stat
 from functools import lru_cache
-from typing import Any, Dict, Iterator, Mapping, Tuple, Type, Union
+from types import MappingProxyType
+from typing import Any, Dict, Iterable, Iterator, List, Mapping, Optional, Tuple, Type, TypeVar, Union
 
 from pzic import _library as c
-from pzic._array import Columns, convert_columns
-from pzic._errors import BadFile, BadName, BadRow, BadSource, NoSuchZone
+from pzic._array import NO_FILE, Columns, convert_columns
+from pzic._errors import BadFile, BadName, BadSource, NoSuchZone
 from pzic._handle import Owned, bytes_of
+from pzic._rows import Layout, Rows, fault_name, rows_by, text_by, text_of_column
 from pzic._timezone import TimeZone
 from pzic._zone import Zone, zone_named
 
 _Path = Union[str, "os.PathLike[str]"]
+_Self = TypeVar("_Self", bound="_InMemory")
 
 #: The most bytes of a file of a zone.
 _MOST_BYTES = 1 << 20
@@ -25,7 +28,7 @@ _NOT_THERE = (errno.ENOENT, errno.ENOTDIR, errno.ENAMETOOLONG, errno.ELOOP, errn
 
 
 class _Zones(Mapping[str, Zone]):
-    """Zones by name, each made when it is first asked for."""
+    """Zones by name, each made when it is first looked up."""
 
     def __init__(self) -> None:
         self._zones: Dict[str, Zone] = {}
@@ -57,13 +60,103 @@ class _Zones(Mapping[str, Zone]):
         ``instants`` seconds from 1970 (``int64``) or ``datetime64``, of numpy or pandas. Raises
         :class:`NoSuchZone` for a name that no file has or that is missing. Needs numpy.
         """
-        return convert_columns(self, names, instants)
+        return convert_columns(self, self._numbers, names, instants)
+
+    def _numbers(self, names: List[str]) -> Tuple[Owned, List[int]]:
+        """Return files, and of each name the number of its file, or ``NO_FILE`` where the library has
+        none for its zone. Raises :class:`NoSuchZone`."""
+        raise NotImplementedError
+
+
+class _InMemory(_Zones):
+    """Zones of files that the library holds, which make rows of columns."""
+
+    _owned: Owned
+
+    def __copy__(self: _Self) -> _Self:
+        return self
+
+    def __deepcopy__(self: _Self, memo: object) -> _Self:
+        return self
+
+    def _make(self, name: str) -> Zone:
+        return zone_named(c.text_of(c.files_bytes, self._owned.lend(), self._number(name)), name)
+
+    def _number(self, name: object) -> int:
+        """Return the number of the file of a name."""
+        if not isinstance(name, str) or not name.isascii():
+            raise NoSuchZone(name)
+        wanted = name.encode("ascii")
+        number = ctypes.c_size_t()
+        if c.files_find(self._owned.lend(), wanted, len(wanted), number) == c.NO_SUCH:
+            raise NoSuchZone(name)
+        return number.value
+
+    def _numbers(self, names: List[str]) -> Tuple[Owned, List[int]]:
+        return self._owned, [self._number(name) for name in names]
+
+    def convert(self, column: bytes, **layout: Any) -> bytes:
+        """Return the rows of a column, as ``pzic convert`` writes them. Each record of the column is
+        a zone's name, a comma and an instant, or what :class:`Layout` says by the words that are given.
+        Other threads of Python can run in the meantime.
+
+        Raises :class:`BadRow` at the first row that has a fault (with ``keep_going`` such rows are
+        written, without local time), and :class:`MemoryError`.
+        """
+        if not layout:
+            return text_of_column(self._owned, column)
+        return text_by(self._owned, column, Layout(**layout))
+
+    def rows(self, column: bytes, **layout: Any) -> Rows:
+        """Return the rows of a column as :meth:`convert`, and how many there are, with their
+        faults."""
+        return rows_by(self._owned, column, Layout(**layout))
+
+    def __iter__(self) -> Iterator[str]:
+        for number in range(len(self)):
+            yield c.text_of(c.files_name, self._owned.lend(), number).decode("ascii")
+
+    def __len__(self) -> int:
+        count = ctypes.c_size_t()
+        c.require_ok(c.files_len(self._owned.lend(), count))
+        return count.value
+
+
+#: Why a file is none of these: the status of the library.
+_LEFT_OUT = {c.BAD_NAME: "BadName", c.BAD_FILE: "BadFile", c.UNFIT: "Unfit"}
+
+
+class Files(_InMemory):
+    """The zones of TZif files that were read: of a mapping from names to bytes, in its order.
+
+    ``left_out`` tells why others of the mapping are none of them: ``"BadName"`` for a name that no zone can
+    have, ``"BadFile"`` for bytes that are no TZif file of version 2 or 3, and ``"Unfit"`` for a file of
+    which no rows can be made: its footer is empty, or it has an offset beyond 24 hours or an abbreviation
+    other than 3 to 16 letters, digits, ``+`` and ``-``.
+    """
+
+    __module__ = "pzic"
+
+    def __init__(self, files: Mapping[str, bytes]) -> None:
+        super().__init__()
+        given = {name: bytes_of(octets) for name, octets in files.items()}
+        self._owned, statuses = _take(given)
+        #: Of each name whose file is left out the reason.
+        self.left_out: Mapping[str, str] = MappingProxyType(
+            {name: _LEFT_OUT[status] for name, status in zip(given, statuses) if status != c.OK}
+        )
+
+    def __reduce__(self) -> Tuple[Type[Files], Tuple[Dict[str, bytes]], Dict[str, str]]:
+        return type(self), ({name: self.data(name) for name in self},), dict(self.left_out)
+
+    def __setstate__(self, left_out: Dict[str, str]) -> None:
+        self.left_out = MappingProxyType(left_out)
 
 
 class Tree(_Zones):
     """The zones of a folder of TZif files, by name: ``tree["Europe/Dublin"]``.
 
-    A file is read when its zone is asked for, and once. :class:`NoSuchZone`, a :class:`KeyError`,
+    A file is read when its zone is looked up, and once. :class:`NoSuchZone`, a :class:`KeyError`,
     says that no file has the name, :class:`BadName` that no file can have it, and :class:`BadFile`
     that the file isn't a TZif file of version 2 or 3. The names that are listed are those of the files that can be opened; folders that are
     links aren't looked through.
@@ -74,6 +167,8 @@ class Tree(_Zones):
     def __init__(self, folder: _Path) -> None:
         super().__init__()
         self._folder = os.path.abspath(os.fsdecode(folder))
+        #: All files, once they were wanted.
+        self._all: Optional[Files] = None
 
     @classmethod
     def open(cls, folder: _Path) -> Tree:
@@ -98,14 +193,52 @@ class Tree(_Zones):
         """The absolute path of the folder."""
         return self._folder
 
+    @property
+    def version(self) -> Optional[str]:
+        """The release of the tz database that the folder is of, as ``"2025b"``: the first line of its
+        file ``+VERSION``, or ``None`` where there is no such file or it names none."""
+        try:
+            with open(os.path.join(self._folder, "+VERSION"), encoding="ascii", errors="replace", newline="\n") as file:
+                line = file.readline(66)
+        except FileNotFoundError:
+            return None
+        name = line[:-1]
+        return name if line.endswith("\n") and 1 <= len(name) <= 64 and all("!" <= c <= "~" for c in name) else None
+
     def __repr__(self) -> str:
         return f"pzic.Tree({self._folder!r})"
 
     def __reduce__(self) -> Tuple[Type[Tree], Tuple[str]]:
         return type(self), (self._folder,)
 
+    def files(self, names: Optional[Iterable[str]] = None) -> Files:
+        """Return the files of these names, by default of all that are listed, as they are now or were
+        when their zones were made. Raises :class:`NoSuchZone` for a name that no file has."""
+        return Files({name: self.data(name) for name in (self if names is None else names)})
+
+    def convert(self, column: bytes, **layout: Any) -> bytes:
+        """Return the rows of a column, as :meth:`Compiled.convert`: by all files of the folder, which are
+        read once, or by that of the one zone that is named. ``pzic convert --tree`` writes the same, and also finds names through folders that are links."""
+        return self._files_for(layout.get("zone")).convert(column, **layout)
+
+    def rows(self, column: bytes, **layout: Any) -> Rows:
+        """Return the rows of a column as :meth:`convert`, and how many there are, with their
+        faults."""
+        return self._files_for(layout.get("zone")).rows(column, **layout)
+
+    def _files_for(self, zone: Optional[str]) -> Files:
+        if zone is not None:
+            return self.files([zone])
+        if self._all is None:
+            self._all = self.files()
+        return self._all
+
     def _make(self, name: str) -> Zone:
         return zone_named(self._read(name), name, (zone_of_folder, (self._folder, name)))
+
+    def _numbers(self, names: List[str]) -> Tuple[Owned, List[int]]:
+        files = self.files(names)
+        return files._owned, [NO_FILE if name in files.left_out else files._number(name) for name in names]
 
     def _read(self, name: str) -> bytes:
         parts = name.split("/")
@@ -157,7 +290,7 @@ def zone_of_folder(folder: str, name: str) -> Zone:
     return _opened(folder)[name]
 
 
-class Compiled(_Zones):
+class Compiled(_InMemory):
     """The zones of a source, by name, in the order of its texts and their lines."""
 
     __module__ = "pzic"
@@ -167,53 +300,24 @@ class Compiled(_Zones):
         self._texts = tuple(map(bytes_of, texts))
         self._owned = _compile(self._texts)
 
-    def __copy__(self) -> Compiled:
-        return self
-
-    def __deepcopy__(self, memo: object) -> Compiled:
-        return self
+    @property
+    def texts(self) -> Tuple[bytes, ...]:
+        """The texts of the source."""
+        return self._texts
 
     def __reduce__(self) -> Tuple[Type[Compiled], Tuple[bytes, ...]]:
         return type(self), self._texts
 
-    def _make(self, name: str) -> Zone:
-        wanted = name.encode("ascii")
-        number = ctypes.c_size_t()
-        handle = self._owned.lend()
-        if c.files_find(handle, wanted, len(wanted), number) == c.NO_SUCH:
-            raise NoSuchZone(name)
-        return zone_named(c.text_of(c.files_bytes, handle, number.value), name)
 
-    def convert(self, column: bytes) -> bytes:
-        """Return the rows of a column, as ``pzic convert`` writes them. Each record of the column is
-        a zone's name, a comma and an instant. Other threads of Python can run in the
-        meantime.
-
-        Raises :class:`BadRow` at the first row that has a fault, and :class:`MemoryError`.
-        """
-        column = bytes_of(column)
-        handle = c.Handle()
-        fault = c.CRowFault()
-        status = c.rows(self._owned.lend(), column, len(column), handle, fault)
-        rows = Owned(handle)
-        text = c.text_of(c.rows_text, rows.lend())
-        if status == c.BAD_ROW:
-            raise BadRow(fault.row, fault_name(fault.kind), text)
-        return text
-
-    def __iter__(self) -> Iterator[str]:
-        for number in range(len(self)):
-            yield c.text_of(c.files_name, self._owned.lend(), number).decode("ascii")
-
-    def __len__(self) -> int:
-        count = ctypes.c_size_t()
-        c.require_ok(c.files_len(self._owned.lend(), count))
-        return count.value
-
-
-def fault_name(kind: int) -> str:
-    """Return the name of a fault's kind, as the program prints it."""
-    return c.text_of(c.name_of_fault, kind).decode("ascii")
+def _take(files: Mapping[str, bytes]) -> Tuple[Owned, bytes]:
+    """Return files of names and bytes, and the status of each."""
+    texts = [text for name, octets in files.items() for text in (os.fsencode(name), octets)]
+    handle = c.Handle()
+    statuses = ctypes.create_string_buffer(len(files) + 1)
+    lengths = (ctypes.c_size_t * (len(texts) + 1))(*map(len, texts))
+    whole = b"".join(texts)
+    c.files_of(whole, len(whole), lengths, len(texts), statuses, len(files), handle)
+    return Owned(handle), statuses.raw[: len(files)]
 
 
 def _compile(texts: Tuple[bytes, ...]) -> Owned:

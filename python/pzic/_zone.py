@@ -7,20 +7,16 @@ import datetime
 import io
 import sys
 from operator import index
-from typing import Any, Callable, Dict, List, NamedTuple, Optional, Tuple, Union
+from typing import Any, Callable, List, NamedTuple, Optional, Tuple, Union
 
 from pzic import _library as c
 from pzic._array import convert_array, instant_array
 from pzic._errors import BadFile, NoInstant
 from pzic._handle import Owned, bytes_of
+from pzic._cache import Spans
 from pzic._timezone import TimeZone
 
-#: A span is kept for the instants near the one at which it was asked for: those with the same bits
-#: above these, 48 days.
-_SLOT_BITS = 22
-#: The most spans that are kept.
-_MOST_SPANS = 4096
-#: The most changes that are asked for at once.
+#: The most changes that are requested at once.
 _MOST_CHANGES = 256
 
 
@@ -83,7 +79,7 @@ Local = Union[int, datetime.datetime]
 _Source = Tuple[Callable[..., "Zone"], Tuple[Any, ...]]
 
 
-class Zone:
+class Zone(Spans):
     """A zone, read from the bytes of a TZif file of version 2 or 3.
 
     Raises :class:`BadFile` where they are no such file, and :class:`MemoryError`. A zone never
@@ -91,16 +87,15 @@ class Zone:
     """
 
     __module__ = "pzic"
-    __slots__ = ("_owned", "_data", "_key", "_source", "_spans", "__weakref__")
+    __slots__ = ("_owned", "_data", "_key", "_source", "__weakref__")
 
     def __init__(self, data: bytes) -> None:
+        super().__init__()
         self._data = bytes_of(data)
         self._owned = _read(self._data)
         self._key: Optional[str] = None
         #: How another process makes the zone.
         self._source: _Source = (type(self), (self._data,))
-        #: Spans that were asked for, by the highest bits of an instant in them.
-        self._spans: Dict[int, Span] = {}
 
     @property
     def data(self) -> bytes:
@@ -133,40 +128,15 @@ class Zone:
     def __reduce__(self) -> _Source:
         return self._source
 
-    def at(self, instant: int) -> Optional[State]:
-        """Return local time at an instant, or ``None`` where the file leaves it open."""
-        return self.span(instant).state
-
-    def utcoffset(self, instant: int) -> int:
-        """Return the UT offset in seconds, positive east.
-
-        Raises :class:`LookupError` where the file leaves local time open.
-        """
-        state = self.span(instant).state
-        if state is None:
-            raise LookupError(f"local time is left open at {instant}")
-        return state.offset
-
-    def span(self, instant: int) -> Span:
-        """Return local time at an instant, and the instants round it at which it is the same."""
-        span = self._spans.get(instant >> _SLOT_BITS)
-        if span is not None and span.first <= instant <= span.last:
-            return span
-        return self._ask(_instant(instant))
-
-    def _ask(self, instant: int) -> Span:
-        """Ask the library for a span, and keep it."""
+    def _look_up(self, instant: int) -> Span:
+        """Ask the library for a span."""
         state = c.CState()
         first = ctypes.c_int64()
         last = ctypes.c_int64()
-        told = None
-        if c.zone_span(self._owned.lend(), instant, state, first, last) != c.UNSPECIFIED:
-            told = State(state.offset, bool(state.daylight), state.name.decode("ascii"))
-        span = Span(told, first.value, last.value)
-        if len(self._spans) >= _MOST_SPANS:
-            self._spans.clear()
-        self._spans[instant >> _SLOT_BITS] = span
-        return span
+        shown = None
+        if c.zone_span(self._owned.lend(), _instant(instant), state, first, last) != c.UNSPECIFIED:
+            shown = State(state.offset, bool(state.daylight), state.name.decode("ascii"))
+        return Span(shown, first.value, last.value)
 
     def next_change(self, instant: int) -> Optional[int]:
         """Return the first change of local time after an instant, or ``None`` where there is none.
@@ -204,7 +174,7 @@ class Zone:
         """Return the instants at which the zone's clocks show a local time, or the gap that it is in.
 
         ``local`` is a naive :class:`~datetime.datetime`, or seconds from 1970-01-01T00:00:00 on these
-        clocks. Raises :class:`OverflowError` within 26 hours of an end of 64 bits.
+        clocks. Raises :class:`OverflowError` within 25:59:59 of an end of 64 bits.
         """
         second = _local_second(local)
         found = c.CLocalTime()

@@ -7,6 +7,7 @@ Each run has its answer checked too. Its memory may be at most the bound, by `ru
 Its processor time may be ten times what was measured on an idle machine, since other runs may be at work. Inputs are made in FOLDER.
 Prints a line for each run; the status is 1 where one is over a bound, or has another answer.
 """
+import ctypes
 import itertools
 import os
 import struct
@@ -14,6 +15,7 @@ import subprocess
 import sys
 
 MIB = 1 << 20
+RELEASE = "/usr/share/zoneinfo/tzdata.zi"
 AGAIN = 10                                                                 # times the processor time that was measured
 differences = []
 
@@ -25,8 +27,9 @@ def run(what, words, column, bound, wanted):
     status and a text that its messages begin with"""
     seconds, most = bound
     with open(column or os.devnull, "rb") as given, open("out", "wb") as out, open("err", "wb") as err:
-        child = subprocess.Popen(words, stdin=given, stdout=out, stderr=err)
-        _, ended, used = os.wait4(child.pid, 0)
+        # A small process starts it, since the memory of that counts as its own.
+        subprocess.run(["setsid", "--fork", *words], stdin=given, stdout=out, stderr=err, check=True)
+        _, ended, used = os.wait4(-1, 0)
     status, took, memory = os.waitstatus_to_exitcode(ended), used.ru_utime + used.ru_stime, used.ru_maxrss * 1024 / MIB
     with open("err", encoding="ascii", errors="replace") as file:
         told = file.read(200)
@@ -64,7 +67,7 @@ def sources(program):
     source = written("largest.zi", largest_set(200))
     run("200 zones by a set of 9 million occurrences", [program, "check", "--workers", "1", source], None, (0.8, 320), (0, ""))
     source = written("long.zi", [b"a " * (4 * MIB)])
-    run("a line of 8 MiB, explained", [program, "check", "--explain", source], None, (0.1, 40), (1, "line 1: LineTooLong\n--> long.zi:1"))
+    run("a line of 8 MiB, explained", [program, "check", "--explain", source], None, (0.1, 24), (1, "line 1: LineTooLong\n--> long.zi:1"))
 
 
 # ------------------------------------------------------------------ names
@@ -105,7 +108,7 @@ def names(program):
     zones = list(colliding((KEYED * 3)[:14], 9_999))
     source = written("colliding.zi", (f"Zone {name} 0 - UTC\n".encode() for name in zones))
     column = written("column", (f"{name},0\n".encode() for name in zones * 10))
-    run("9,999 zones of one hash at the usual key", [program, "convert", "--workers", "1", source], column, (0.2, 48), (0, ""))
+    run("9,999 zones of one hash at the usual key", [program, "convert", "--workers", "1", source], column, (0.2, 40), (0, ""))
 
 
 # ------------------------------------------------------------------ files
@@ -131,7 +134,36 @@ def files(program):
     for i in range(200):
         os.link("tree/file", f"tree/name{i}")
     column = written("column", (f"name{i},0\n".encode() for i in range(200)))
-    run("200 names of one file of 900 KB", [program, "convert", "--workers", "1", "--tree", "tree"], column, (1, 48), (0, ""))
+    run("200 names of one file of 900 KB", [program, "convert", "--workers", "1", "--tree", "tree"], column, (1, 20), (0, ""))
+
+
+# ------------------------------------------------------------------ the release
+
+def halved(line):
+    """a line of a source, with half an hour in place of a saving of one"""
+    fields = line.split(b" ")
+    if fields[0] == b"R" and fields[8] == b"1":
+        fields[8] = b"0:30"
+    return b" ".join(fields)
+
+
+def release(program):
+    """the release, and one whose savings are halved, by commands that compile or read trees; and the file of many changes"""
+    if not os.path.exists(RELEASE):
+        print(f"skipped: the release: {RELEASE} isn't there")
+        return
+    with open(RELEASE, "rb") as file:
+        other = written("halved.zi", map(halved, file))
+    for folder, source in (("release", RELEASE), ("halved", other)):
+        run(f"build of {source}", [program, "build", folder, source], None, (0.3, 14), (0, ""))
+    run("verify of the release", [program, "verify", "--strict", "release", RELEASE], None, (0.05, 14), (0, ""))
+    run("verify of another release", [program, "verify", "--strict", "halved", RELEASE], None, (0.05, 14), (1, "tree differs"))
+    run("diff of two releases", [program, "diff", RELEASE, other], None, (0.15, 44), (0, ""))
+    run("diff of their trees", [program, "diff", "--trees", "release", "halved"], None, (0.15, 44), (0, ""))
+    run("show of a file of 900 KB", [program, "show", "tree/file", "60000000"], None, (0.05, 12), (0, ""))
+    run("show of a local time", [program, "show", "--local", "tree/file", "1970-01-02T00:00:00"], None, (0.05, 12), (0, ""))
+    run("dump of a file of 900 KB", [program, "dump", "tree/file"], None, (0.05, 16), (0, ""))
+    run("dump of a zone of the release", [program, "dump", "release/America/New_York"], None, (0.05, 12), (0, ""))
 
 
 # ------------------------------------------------------------------ records
@@ -141,13 +173,18 @@ def records(program):
     once more"""
     source = written("utc.zi", [b"Zone Etc/UTC 0 - UTC\n"])
     size = 48
-    plain, quoted = (0.5, size * 2.3 + 24), (1, size * 2.3 + 24)
+    plain, quoted, bounded = (0.5, size * 2.3 + 24), (1, size * 2.3 + 24), (0.1, 24)
     column = written("column", [b'Etc/UTC,"0\n' + b"Etc/UTC,0\n" * (size * MIB // 10)])
     run(f"a stray quote before {size} MiB", [program, "convert", source], column, quoted, (1, "row 1: RowInstant"))
     run(f"a stray quote before {size} MiB, explained", [program, "convert", "--explain", source], column, quoted,
         (1, "row 1: RowInstant\n--> standard input, row 1, field 2 (SECONDS)\n"))
+    short = [program, "convert", "--max-record", "1000000", source]
+    run(f"a stray quote before {size} MiB, of records of a megabyte", short, column, bounded, (1, "row 1: RowTooLong"))
+    header = [program, "convert", "--skip-header", "--max-record", "1000000", source]
+    run(f"a header of {size} MiB, of records of a megabyte", header, column, bounded, (4, "out of memory"))
     column = written("column", [bytes(size * MIB)])
     run(f"{size} MiB of zeros", [program, "convert", source], column, plain, (1, "row 1: RowFields"))
+    run(f"{size} MiB of zeros, of records of a megabyte", short, column, bounded, (1, "row 1: RowTooLong"))
     column = written("column", [b"a," * (size // 2 * MIB)])
     run(f"a record of {size} MiB in fields", [program, "convert", source], column, plain, (1, "row 1: RowFields"))
     run(f"a record of {size} MiB in fields, explained", [program, "convert", "--explain", source], column, plain,
@@ -157,7 +194,8 @@ def records(program):
 def main():
     program, folder = os.path.abspath(sys.argv[1]), sys.argv[2]
     os.chdir(folder)
-    for part in (sources, names, files, records):
+    ctypes.CDLL(None).prctl(36, 1, 0, 0, 0)                                # PR_SET_CHILD_SUBREAPER: waits for what others started
+    for part in (sources, names, files, release, records):
         part(program)
     for difference in differences:
         print(difference, file=sys.stderr)

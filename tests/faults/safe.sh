@@ -2,9 +2,9 @@
 # Checks that the program overwrites nothing by surprise.
 # It has standard streams that are closed, lists of faults that are another file of the command, runs that stop before their rows,
 # names that look like leftovers of `build`, symbolic links that would lead to no file, control characters in words, and trees
-# with pipes and devices. It checks too that `build --sync` syncs each file and folder, by `strace`, and how the program is linked,
-# by `readelf`. As root, it makes leftovers of another user.
-# Parts need: strace, readelf, root
+# with pipes and devices. It checks too that `build --sync` syncs each file and folder, and `convert` its lists, by `strace`, how the program is linked,
+# by `readelf`, and that 512 KiB of stack are enough. As root, it makes leftovers of another user.
+# Parts need: strace, readelf, root, tzdata
 set -euo pipefail
 cd "$(dirname "${BASH_SOURCE[0]}")/../.."
 . tests/common.sh
@@ -23,10 +23,12 @@ convert() {
     timeout 20 "$program" convert "$@" <column >../out 2>../err || status=$?
 }
 
-# refused WORD...: expects that the words are refused, for a reason that begins with `the FILE of --faults`.
+# refused WORD...: expects that the words are refused, for a reason that begins with `the FILE of` and the option, with a
+# hint at the help of `convert`.
 refused() {
     calls=$((calls + 1))
-    [ "$status" = 2 ] && grep -q '^error: the FILE of --faults is ' ../err ||
+    [ "$status" = 2 ] && grep -q '^error: the FILE of --[a-z]* is ' ../err &&
+        grep -qx "For more information, try 'pzic convert --help'\." ../err ||
         differ "$*: status $status, '$(head -c 200 ../err)', and not 2 with a word on FILE"
 }
 
@@ -35,7 +37,7 @@ echo 'Zone Etc/UTC 0 -' >faulty.zi
 printf 'Etc/UTC,0\nNo,0\n' >column
 row=Etc/UTC,0,1970-01-01T00:00:00,+00:00:00,0,UTC
 rows=$row$'\nNo,0,,,,'
-faults=$'row 2: RowZone\n1 rows with faults'
+faults=$'row 2: RowZone\n1 row with a fault'
 
 # ------------------------------------------------------------------ standard streams that are closed
 
@@ -86,6 +88,18 @@ convert --keep-going --faults /dev/stdin utc.zi
 refused 'pzic convert --faults /dev/stdin'
 convert --keep-going --faults ../out utc.zi
 refused 'pzic convert --faults ../out >../out'
+for path in /dev/stdin ../out utc.zi tree/Etc/UTC; do
+    convert --keep-going --rejects "$path" utc.zi
+    refused "pzic convert --rejects $path"
+done
+echo old >list
+ln -f list name
+for path in list name ./list; do
+    convert --keep-going --faults list --rejects "$path" utc.zi
+    refused "pzic convert --faults list --rejects $path"
+done
+holds list old
+rm list name
 status=0
 "$program" convert --keep-going --faults /dev/stdout utc.zi <column 2>../err | cat >../piped || status=${PIPESTATUS[0]}
 refused 'pzic convert --faults /dev/stdout, a pipe'
@@ -193,8 +207,16 @@ fsync(<./new/traced>)'
     trace new/traced
     told 'pzic build' 0 '' ''
     holds <(grep sync ../calls) ''
+    # lists of faults and of records are synced at their end
+    status=0
+    strace -f -y -e trace=fsync,fdatasync -o ../trace "$program" convert --keep-going --faults listed --rejects aside traced.zi \
+        >../out 2>../err <<<'X,0' || status=$?
+    told 'pzic convert --rejects' 5 '' 'row 1: RowZone
+1 row with a fault'
+    holds <(grep -o 'f[a-z]*sync([0-9]*<.*>)' ../trace | sed -E "s|<$PWD|<.|; s/[0-9]+</</") 'fdatasync(<./listed>)
+fdatasync(<./aside>)'
 else
-    echo "skipped: the syncs of build --sync: there is no strace that can trace here"
+    echo "skipped: the syncs of build --sync and of lists: there is no strace that can trace here"
 fi
 
 # ------------------------------------------------------------------ control characters in words
@@ -209,7 +231,7 @@ for words in "$red" "check --$red" "show file $red" "explain $red" "convert --un
 done
 cp faulty.zi "$red.zi"
 "$program" check --explain "$red.zi" 2>../err || true
-grep -qxF -- "--> $shown.zi:1" <(sed 's/, field.*//' ../err) && ! grep -q $'\e' ../err || differ "check --explain: '$(cat ../err)'"
+grep -qxF -- "--> $shown.zi:1" <(sed 's/,.*//' ../err) && ! grep -q $'\e' ../err || differ "check --explain: '$(cat ../err)'"
 cp faulty.zi Zürich.zi
 "$program" check --explain Zürich.zi 2>../err || true
 grep -q -- '^--> Zürich.zi:1' ../err || differ "check --explain of a path beyond ASCII: '$(cat ../err)'"
@@ -240,6 +262,44 @@ if has 'how the program is linked' readelf; then
         calls=$((calls + 1))
         grep -qE -- "$part" <<<"$parts" || differ "readelf shows no '$part' of the program"
     done
+fi
+
+# ------------------------------------------------------------------ a small stack
+
+# small WORD...: compares what the program does with 512 KiB of stack with what it does with more.
+small() {
+    ask "$@"
+    local more=$status
+    mv ../out ../out.more
+    mv ../err ../err.more
+    status=0
+    (ulimit -s 512 && exec "$program" "$@") <"$input" >../out 2>../err || status=$?
+    calls=$((calls + 1))
+    [ "$status" = "$more" ] && cmp -s ../out ../out.more && cmp -s ../err ../err.more ||
+        differ "pzic $* with 512 KiB of stack: status $status, and not $more, or another output; '$(head -c 200 ../err)'"
+}
+
+if [ -e "$release" ]; then
+    small check "$release"
+    small build release "$release"
+    small verify --strict release "$release"
+    small diff utc.zi "$release"
+    small diff --trees tree release
+    small show release/America/New_York 0
+    small show --local release/America/New_York 2007-11-04T01:30:00
+    small dump release/America/New_York
+    awk 'BEGIN { for (i = 0; i < 200000; i++) print "America/New_York," i * 10007 }' >many
+    sed 's/,.*/,2007-11-04T01:30:00/' many >local
+    for workers in 1 4; do
+        input=many
+        small convert --workers $workers "$release"
+        small convert --workers $workers --append --style iso --unit ms "$release"
+        small convert --workers $workers --tree release
+        input=local
+        small convert --workers $workers --from local --keep-going "$release"
+    done
+else
+    echo "skipped: a small stack: $release isn't there"
 fi
 
 leave safe

@@ -6,8 +6,8 @@ usage: waiting.py PROGRAM SOURCE TREE
 SOURCE has the zone Z, and TREE its file. Lines of 1, 2, 3 and 65,536 bytes come one by one, each of them once as the first line; so do
 lines after a byte order mark, of which each byte comes alone. Bursts of 65,535, 65,536, 65,537 and 131,072 bytes come at once, through a
 pipe of 64 KiB and of 1 MiB. Each part of a column comes once all rows of those before it are out. All of this is tried by each option that
-changes how a column is read, alone and with each other one, by 1 and 4 workers. The rows are compared with those of the same column as a
-file.
+changes how a column is read or its rows are written, alone and with each other one, by 1 and 4 workers. The rows, and the records that are
+put aside, are compared with those of the same column as a file.
 Prints a line for each set of options; the status is 1 at the first rows that don't come.
 """
 import fcntl
@@ -30,12 +30,20 @@ BURSTS = [65535, 65536, 65537, 131072]
 OPTIONS = {
     "zone": ["--zone", "Z"],
     "header": ["--header"],
+    "skip": ["--skip-header"],
     "delimiter": ["--delimiter", ";"],
-    "append": ["--append"],
+    "lines": ["--records", "lines"],
+    "local": ["--from", "local"],
+    "rfc3339": ["--from", "rfc3339"],
     "unit": ["--unit", "ms"],
+    "iso": ["--style", "iso"],
+    "append": ["--append"],
     "going": ["--keep-going"],
+    "rejects": ["--keep-going", "--rejects", "rejects"],
     "tree": [],                                                            # in place of a source
 }
+APART = [{"header", "skip"}, {"local", "rfc3339"}, {"going", "rejects"}]  # which exclude each other
+INSTANTS = {"local": b"1970-01-01T00:00:00", "rfc3339": b"1970-01-01T00:00:00Z"}
 
 
 class Late(Exception):
@@ -44,14 +52,21 @@ class Late(Exception):
 
 # ------------------------------------------------------------------ lines
 
+def instant(chosen):
+    """the shortest instant"""
+    return next((INSTANTS[option] for option in chosen if option in INSTANTS), b"0")
+
+
 def shortest(chosen):
     """the shortest line that has a row without a fault"""
-    return b"0\n" if "zone" in chosen else b"Z;0\n" if "delimiter" in chosen else b"Z,0\n"
+    name = b"" if "zone" in chosen else b"Z;" if "delimiter" in chosen else b"Z,"
+    return name + instant(chosen) + b"\n"
 
 
-def longer(chosen, length):
-    """the same with as many zeros as make it so long"""
-    return shortest(chosen)[:-1] + b"0" * (length - len(shortest(chosen))) + b"\n"
+def faulty(chosen, length):
+    """a line of so many bytes that isn't a record as it has to be. Where records are lines, it has an open double quote"""
+    start = b'"' if "lines" in chosen else b"x"
+    return start + b"x" * (length - 2) + b"\n"
 
 
 def line_of(chosen, length, is_first):
@@ -59,13 +74,13 @@ def line_of(chosen, length, is_first):
     least = len(shortest(chosen))
     if length == 1:
         return b"\n"
-    if least <= length < least + 18:
-        return longer(chosen, length)
+    if instant(chosen) == b"0" and least <= length < least + 18:
+        return shortest(chosen)[:-1] + b"0" * (length - least) + b"\n"
     if length > least and "append" in chosen:
         start = shortest(chosen)[:-1] + (b";" if "delimiter" in chosen else b",")
         return start + b"x" * (length - len(start) - 1) + b"\n"
-    if "going" in chosen or "header" in chosen and is_first:
-        return b"x" * (length - 1) + b"\n"
+    if {"going", "rejects"} & {*chosen} or {"header", "skip"} & {*chosen} and is_first:
+        return faulty(chosen, length)
     return None
 
 
@@ -80,9 +95,9 @@ def lines_of(chosen, lengths, has_header):
 
 
 def burst_of(chosen, length):
-    """lines of so many bytes together"""
+    """lines of so many bytes together, some of them empty"""
     count, rest = divmod(length, len(shortest(chosen)))
-    return shortest(chosen) * (count - 1) + longer(chosen, len(shortest(chosen)) + rest)
+    return shortest(chosen) * (count - 1) + b"\n" * rest + shortest(chosen)
 
 
 def columns_of(chosen):
@@ -145,12 +160,22 @@ class Run:
         return self.process.wait(SECONDS), bytes(self.rows)
 
 
-def try_column(words, size, parts):
+def has_row(chosen, line, is_header):
+    """whether a line that isn't empty has a row, or a header that is written"""
+    if is_header and {"header", "skip"} & {*chosen}:
+        return "header" in chosen
+    return "rejects" not in chosen or line[:1] not in b'x"'
+
+
+def try_column(words, chosen, size, parts):
     """converts a column in parts, of which each comes once the rows of those before it are out"""
-    run, wanted = Run(words, size), 0
+    run, lines, wanted = Run(words, size), 0, 0
     try:
         for number, part in enumerate(parts, 1):
-            wanted += sum(line != b"" for line in part.split(b"\n")[:-1])
+            for line in part.split(b"\n")[:-1]:
+                if line:
+                    wanted += has_row(chosen, line, lines == 0)
+                    lines += 1
             try:
                 run.give(part, wanted)
             except (Late, BrokenPipeError) as error:
@@ -161,29 +186,41 @@ def try_column(words, size, parts):
         run.process.wait()
 
 
+def aside():
+    """the records that the last run put aside"""
+    with open("rejects", "rb") as file:
+        return file.read()
+
+
 def compare_columns(words, chosen):
     """the number of columns that were tried"""
     count = 0
     for what, size, parts in columns_of(chosen):
         shown = f"{' '.join(words[1:])}: {what}"
         try:
-            status, rows = try_column(words, size, parts)
+            status, rows = try_column(words, chosen, size, parts)
         except Late as error:
             sys.exit(f"{shown}: {error}")
-        with open(f"{sys.argv[3]}/../column", "w+b") as file:
+        put = aside()
+        with open("column", "w+b") as file:
             file.write(b"".join(parts))
             file.seek(0)
             done = subprocess.run(words, stdin=file, capture_output=True, check=False)
-        if (status, rows) != (done.returncode, done.stdout):
+        if (status, rows, put) != (done.returncode, done.stdout, aside()):
             files.differ(f"{shown}: other rows than those of a file, or status {status} for {done.returncode}")
         count += 1
     return count
 
 
 def main():
-    program, source, tree = sys.argv[1:]
+    program, source, tree = (os.path.abspath(path) for path in sys.argv[1:])
+    os.chdir(os.path.dirname(source))
+    with open("rejects", "wb"):
+        pass
     sets = [(), *((option,) for option in OPTIONS), *itertools.combinations(OPTIONS, 2)]
     for chosen in sets:
+        if {*chosen} in APART:
+            continue
         options = [word for option in chosen for word in OPTIONS[option]]
         place = ["--tree", tree] if "tree" in chosen else [source]
         count = sum(compare_columns([program, "convert", "--workers", workers, *options, *place], chosen) for workers in ("1", "4"))

@@ -2,6 +2,7 @@
 # Converts columns that come through a pipe, and checks that each row comes out within two seconds, without a further line.
 # They come in short and long lines, in bursts of about 64 KiB and after a byte order mark that comes byte by byte, by each option
 # that changes how a column is read.
+# Alone: it measures how long rows take.
 set -euo pipefail
 cd "$(dirname "${BASH_SOURCE[0]}")/../.."
 . tests/common.sh

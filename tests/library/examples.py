@@ -1,9 +1,11 @@
 """Runs the examples of the library's page: `examples.py PAGE WORK LIBRARY TREE`.
 
-Each block of C, C++, Go, Python, Rust or SQL is compiled and run, and must print what the page shows after it. Those in a
-language that isn't there are skipped by name, and so are those with pandas where it is missing.
+Each block of C, Python or SQL is compiled and run, and must print what the page shows after it, and each file of the folder
+`examples` beside the page what it says at its end. Those in a language that isn't there are skipped by name, and so are those with
+pandas where it is missing.
 """
 
+import glob
 import importlib.util
 import os
 import re
@@ -14,6 +16,12 @@ import sys
 page, work, library, tree = sys.argv[1:]
 with open(page, encoding="utf-8") as file:
     blocks = re.findall(r"^```(\w+)\n(.*?)^```$", file.read(), re.S | re.M)
+for path in sorted(glob.glob(os.path.join(os.path.dirname(page), "examples", "*.*"))):
+    with open(path, encoding="utf-8") as file:
+        text = file.read()
+    suffix = path.rpartition(".")[2]
+    printed = re.search(r"(?:/\* |\"\"\")Prints:\n(.*?)(?:\*/|\"\"\")\n$", text, re.S)[1]
+    blocks += [({"py": "python", "rs": "rust"}.get(suffix, suffix), text), ("text", printed)]
 dublin = os.path.join(tree, "Europe/Dublin")
 
 
@@ -76,7 +84,7 @@ for i, (language, text) in enumerate(blocks):
         print(f"skipped: an example for {language}: something that it needs isn't there")
         continue
     got = run_block(language, text)
-    want = "3600 IST\n" if language == "rust" else text_after(i)
+    want = text_after(i)
     if got != want:
         sys.exit(f"{page}: {language}: got {got!r}, and not {want!r}")
     print(f"library: the example for {language}")

@@ -22,6 +22,9 @@ _Static_assert(sizeof(pzic_row_fault) == 16 && offsetof(pzic_row_fault, kind) ==
 _Static_assert(sizeof(pzic_local_time) == 40 && offsetof(pzic_local_time, change) == 16, "local time");
 _Static_assert(offsetof(pzic_local_time, before) == 24 && offsetof(pzic_local_time, after) == 28, "gap");
 _Static_assert(offsetof(pzic_local_time, count) == 32, "count");
+_Static_assert(sizeof(pzic_layout) == 72 && offsetof(pzic_layout, more_fields) == 24, "layout");
+_Static_assert(offsetof(pzic_layout, at_fault) == 52 && offsetof(pzic_layout, style) == 56, "style");
+_Static_assert(offsetof(pzic_layout, max_record) == 64 && sizeof(pzic_abbreviation) == 16, "limit");
 _Static_assert(sizeof(pzic_civil) == 72 && offsetof(pzic_civil, month) == 8, "civil");
 _Static_assert(offsetof(pzic_civil, second) == 24 && offsetof(pzic_civil, state) == 32, "time of day");
 
@@ -731,6 +734,8 @@ static void convert_columns(void) {
     CHECK(compile(source, &files, &none) == PZIC_OK);
     CHECK(convert(&files, column, &rows, &fault) == PZIC_OK && fault.row == 5 && fault.kind == 6);
     expect_rows(&rows, converted);
+    size_t faults = 1;
+    CHECK(pzic_rows_faults(&rows, NULL, 0, &faults) == PZIC_OK && faults == 0);
     uint8_t room[4] = "abcd";
     size_t length = 0;
     CHECK(pzic_rows_text(&rows, room, 3, &length) == PZIC_OK && length == strlen(converted));
@@ -738,6 +743,8 @@ static void convert_columns(void) {
     CHECK(pzic_share(&rows, &other) == PZIC_OK);
     CHECK(convert(&files, "\xEF\xBB\xBFTest/Fixed,0\nTest/York,x\n", &rows, &fault) == PZIC_BAD_ROW);
     CHECK(fault.row == 2 && fault.kind == 37); // RowInstant
+    faults = 1;
+    CHECK(pzic_rows_faults(&rows, NULL, 0, &faults) == PZIC_OK && faults == 0);
     expect_rows(&rows, "Test/Fixed,0,1970-01-01T01:00:00,+01:00:00,0,XYZ\n");
     expect_rows(&other, converted);
     CHECK(convert(&files, "Test/None,0\n", &rows, &fault) == PZIC_BAD_ROW);
@@ -764,6 +771,251 @@ static void convert_columns(void) {
     pzic_free(&rows);
     pzic_free(&other);
     pzic_free(&files);
+}
+
+static int32_t convert_by(const pzic_handle *files, const pzic_layout *layout, const char *name, const char *text, pzic_handle *rows) {
+    return pzic_rows_by(files, layout, (const uint8_t *)name, strlen(name), (const uint8_t *)text, strlen(text), rows);
+}
+
+// Rows of a column by layouts, and the faults of those that have one.
+static void convert_by_layouts(void) {
+    pzic_handle files = {0}, rows = {0};
+    pzic_layout layout = PZIC_LAYOUT_INIT;
+    pzic_fault none;
+    pzic_row_fault faults[3] = {{7, 8}, {7, 8}, {7, 8}};
+    uint64_t many = 9;
+    size_t count = 9;
+    CHECK(convert_by(&files, &layout, "", column, &rows) == PZIC_NO_HANDLE && rows.kind == 0);
+    CHECK(pzic_rows_len(&rows, &many) == PZIC_NO_HANDLE && many == 9);
+    CHECK(pzic_rows_faults(&rows, faults, 3, &count) == PZIC_NO_HANDLE && count == 9 && faults[0].row == 7);
+    CHECK(compile(source, &files, &none) == PZIC_OK);
+    CHECK(convert_by(&files, &layout, "", column, &rows) == PZIC_OK);
+    expect_rows(&rows, converted);
+    CHECK(pzic_rows_len(&rows, &many) == PZIC_OK && many == 2);
+    CHECK(pzic_rows_faults(&rows, NULL, 0, &count) == PZIC_OK && count == 0);
+    // The fault that ends the run is told, and the rows before it.
+    CHECK(convert_by(&files, &layout, "", "Test/Fixed,0\nTest/York,x\n", &rows) == PZIC_BAD_ROW);
+    expect_rows(&rows, "Test/Fixed,0,1970-01-01T01:00:00,+01:00:00,0,XYZ\n");
+    CHECK(pzic_rows_faults(&rows, faults, 3, &count) == PZIC_OK && count == 1);
+    CHECK(faults[0].row == 2 && faults[0].kind == 37 && faults[1].row == 7);
+    // A header, another delimiter, milliseconds, records as they stand, and faults that end nothing.
+    layout = (pzic_layout){.time = 1, .fields = 2, .more_fields = 1, .unit = PZIC_MILLISECONDS, .delimiter = ';',
+        .records = PZIC_RECORDS_LINES, .header = PZIC_HEADER_FIRST, .start = PZIC_START_RECORD, .at_fault = PZIC_FAULT_GOES_ON};
+    CHECK(convert_by(&files, &layout, "Test/Fixed", "k;t\na;5\n\"b;6\n\nc;y;z\n", &rows) == PZIC_OK);
+    expect_rows(&rows, "k;t;local;offset;daylight;abbreviation\na;5;1970-01-01T01:00:00.005;+01:00:00;0;XYZ\n\"b;6\nc;y;z;;;;\n");
+    CHECK(pzic_rows_len(&rows, &many) == PZIC_OK && many == 3);
+    CHECK(pzic_rows_faults(&rows, faults, 1, &count) == PZIC_OK && count == 2 && faults[0].row == 2 && faults[0].kind == 43);
+    CHECK(pzic_rows_faults(&rows, faults, 3, &count) == PZIC_OK && faults[1].row == 3 && faults[1].kind == 37);
+    layout = (pzic_layout)PZIC_LAYOUT_INIT;
+    layout.style = PZIC_STYLE_ISO;
+    CHECK(convert_by(&files, &layout, "", "Test/York,1173596400\n", &rows) == PZIC_OK);
+    expect_rows(&rows, "Test/York,1173596400,2007-03-11T03:00:00-04:00,1,EDT\n");
+    layout.style = PZIC_STYLE_FIELDS;
+    // A record of 20 bytes is within a limit of 20, and ends the run where the limit is 19.
+    layout.max_record = 20, layout.at_fault = PZIC_FAULT_GOES_ON;
+    CHECK(convert_by(&files, &layout, "", column, &rows) == PZIC_OK);
+    expect_rows(&rows, converted);
+    layout.max_record = 19;
+    CHECK(convert_by(&files, &layout, "", "\"Test/Fixed\",-1\nTest/York,1720000000\nTest/York,0\n", &rows) == PZIC_BAD_ROW);
+    expect_rows(&rows, "Test/Fixed,-1,1970-01-01T00:59:59,+01:00:00,0,XYZ\n");
+    CHECK(pzic_rows_faults(&rows, faults, 3, &count) == PZIC_OK && count == 1 && faults[0].row == 2 && faults[0].kind == 44);
+    layout.header = PZIC_HEADER_SKIPPED;
+    CHECK(convert_by(&files, &layout, "", column, &rows) == PZIC_NO_MEMORY && rows.kind == 0);
+    layout = (pzic_layout)PZIC_LAYOUT_INIT;
+    // Numbers of nothing, what can't be a delimiter, and a name that is no text.
+    for (int i = 0; i < 10; i++) {
+        pzic_layout other = PZIC_LAYOUT_INIT;
+        uint32_t *const numbers[] = {&other.more_fields, &other.from, &other.unit, &other.delimiter, &other.delimiter,
+            &other.records, &other.header, &other.start, &other.at_fault, &other.style};
+        *numbers[i] = i == 3 ? '"' : i == 4 ? 300 : 9;
+        CHECK(convert_by(&files, &other, "", column, &rows) == PZIC_NO_SUCH && rows.kind == 0);
+    }
+    CHECK(convert_by(&files, &layout, "\xFF", column, &rows) == PZIC_NO_SUCH && rows.kind == 0);
+    layout = (pzic_layout)PZIC_LAYOUT_INIT;
+    for (long n = 0;; n++) {
+        growths_left = n;
+        int32_t status = convert_by(&files, &layout, "Test/Fixed", column, &rows);
+        bool all = growths_left >= 0;
+        growths_left = -1;
+        if (all) {
+            CHECK(status == PZIC_OK && n > 2);
+            break;
+        }
+        CHECK(status == PZIC_NO_MEMORY && rows.kind == 0);
+    }
+    pzic_free(&rows);
+    pzic_free(&files);
+}
+
+// Rows that each have a zone of their own, with values of the source, and with an abbreviation of 16 bytes.
+static void tell_rows(void) {
+    static const char text[] = "Zone Test/Long -0:30 - ABCDEFGHIJKLMNOP\n";
+    static const int64_t instants[] = {1720000000, 1704067200, -5, 0};
+    static const uint32_t zones[] = {2, 2, 0, 3};
+    pzic_handle files = {0}, zone = {0};
+    pzic_fault none;
+    int32_t offsets[4] = {7, 7, 7, 7};
+    uint8_t flags[4] = {9, 9, 9, 9};
+    pzic_abbreviation names[4] = {{"x"}, {"x"}, {"x"}, {"x"}};
+    CHECK(pzic_files_offsets(&files, zones, 4, instants, 4, offsets, 4, flags, 4) == PZIC_NO_HANDLE);
+    CHECK(pzic_files_abbreviations(&files, zones, 4, instants, 4, names, 4) == PZIC_NO_HANDLE);
+    CHECK(compile(source, &files, &none) == PZIC_OK && pzic_zone_of(&files, 0, &zone) == PZIC_OK);
+    CHECK(pzic_files_offsets(&zone, zones, 4, instants, 4, offsets, 4, flags, 4) == PZIC_NO_HANDLE);
+    CHECK(pzic_files_abbreviations(&zone, zones, 4, instants, 4, names, 4) == PZIC_NO_HANDLE);
+    for (size_t i = 0; i < 4; i++) {
+        // Each length, in turn, is one less than the others.
+        size_t n[4] = {4, 4, 4, 4};
+        n[i] = 3;
+        CHECK(pzic_files_offsets(&files, zones, n[0], instants, n[1], offsets, n[2], flags, n[3]) == PZIC_LENGTHS);
+        if (i < 3) CHECK(pzic_files_abbreviations(&files, zones, n[0], instants, n[1], names, n[2]) == PZIC_LENGTHS);
+    }
+    for (int i = 0; i < 4; i++) CHECK(offsets[i] == 7 && flags[i] == 9 && names[i].name[0] == 'x');
+    CHECK(pzic_files_offsets(&files, NULL, 0, NULL, 0, NULL, 0, NULL, 0) == PZIC_OK);
+    CHECK(pzic_files_abbreviations(&files, NULL, 0, NULL, 0, NULL, 0) == PZIC_OK);
+    CHECK(pzic_files_offsets(&files, zones, 4, instants, 4, offsets, 4, flags, 4) == PZIC_OK);
+    CHECK(pzic_files_abbreviations(&files, zones, 4, instants, 4, names, 4) == PZIC_OK);
+    CHECK(offsets[0] == -4 * 3600 && offsets[1] == -5 * 3600 && offsets[2] == 3600 && offsets[3] == 0);
+    CHECK(flags[0] == PZIC_DAYLIGHT && flags[1] == 0 && flags[2] == 0 && flags[3] == PZIC_NO_ZONE);
+    static const pzic_abbreviation want[] = {{"EDT"}, {"EST"}, {"XYZ"}, {""}};
+    CHECK(memcmp(names, want, sizeof want) == 0);
+    CHECK(compile(text, &files, &none) == PZIC_OK);
+    CHECK(pzic_files_abbreviations(&files, &zones[2], 1, instants, 1, names, 1) == PZIC_OK);
+    CHECK(memcmp(names[0].name, "ABCDEFGHIJKLMNOP", 16) == 0 && strcmp(names[1].name, "EST") == 0);
+    pzic_free(&zone);
+    pzic_free(&files);
+}
+
+// Compares rows that each have a zone of their own with single answers. One number is that of no file.
+static void compare_rows(const pzic_handle *files) {
+    size_t count = 0;
+    CHECK(pzic_files_len(files, &count) == PZIC_OK && count > 0);
+    pzic_handle *handles = calloc(count, sizeof *handles);
+    uint32_t *zones = malloc(MANY * sizeof *zones);
+    int64_t *instants = malloc(MANY * sizeof *instants);
+    int32_t *offsets = malloc(MANY * sizeof *offsets);
+    uint8_t *flags = malloc(MANY);
+    pzic_abbreviation *names = malloc(MANY * sizeof *names);
+    CHECK(handles && zones && instants && offsets && flags && names);
+    for (size_t i = 0; i < count; i++) CHECK(pzic_zone_of(files, i, &handles[i]) == PZIC_OK);
+    uint64_t seed = 1181783497276652981u;
+    for (int i = 0; i < MANY; i++) {
+        instants[i] = next_instant(&seed);
+        zones[i] = (uint32_t)((seed >> 40) % (count + 1));
+    }
+    instants[0] = INT64_MIN, instants[1] = INT64_MAX, zones[2] = UINT32_MAX;
+    CHECK(pzic_files_offsets(files, zones, MANY, instants, MANY, offsets, MANY, flags, MANY) == PZIC_OK);
+    CHECK(pzic_files_abbreviations(files, zones, MANY, instants, MANY, names, MANY) == PZIC_OK);
+    for (int i = 0; i < MANY; i++) {
+        pzic_state state = {0};
+        bool has_zone = zones[i] < count;
+        if (has_zone) CHECK(pzic_zone_at(&handles[zones[i]], instants[i], &state) == PZIC_OK);
+        int want = has_zone ? (state.daylight ? PZIC_DAYLIGHT : 0) : PZIC_NO_ZONE;
+        CHECK(offsets[i] == state.offset && flags[i] == want);
+        CHECK(memcmp(names[i].name, state.name, sizeof names[i].name) == 0);
+    }
+    for (size_t i = 0; i < count; i++) pzic_free(&handles[i]);
+    free(handles);
+    free(zones);
+    free(instants);
+    free(offsets);
+    free(flags);
+    free(names);
+}
+
+static bool is_empty(const pzic_handle *handle) { return handle->kind == 0 && handle->at == NULL; }
+
+// Texts that lie one after another, and their lengths.
+typedef struct given {
+    uint8_t texts[20000];
+    size_t length, lengths[20], count;
+} given;
+
+static void add_text(given *all, const void *text, size_t length) {
+    CHECK(all->length + length <= sizeof all->texts && all->count < 20);
+    if (length > 0) memcpy(all->texts + all->length, text, length);
+    all->length += length;
+    all->lengths[all->count++] = length;
+}
+
+static void add_file(given *all, const char *name, const void *bytes, size_t length) {
+    add_text(all, name, strlen(name));
+    add_text(all, bytes, length);
+}
+
+static int32_t files_of(const given *all, uint8_t *statuses, pzic_handle *files) {
+    return pzic_files_of(all->texts, all->length, all->lengths, all->count, statuses, all->count / 2, files);
+}
+
+// A file of the bytes of one that was compiled, without its footer's text.
+static size_t without_footer(uint8_t *bytes, size_t length) {
+    size_t end = length - 1;
+    while (bytes[end - 1] != '\n') end--;
+    bytes[end] = '\n';
+    return end + 1;
+}
+
+// Files of names and of bytes that were read are those that the bytes were copied from.
+static void take_files(void) {
+    given all = {.count = 0};
+    pzic_handle compiled = {0}, files = {0}, rows = {0}, zone = {0};
+    pzic_fault none;
+    pzic_state state;
+    uint8_t bytes[3000], want[] = {0, 13, 0, 15, 3, 13, 14, 14}, statuses[9];
+    size_t fixed, york, count = 0;
+    CHECK(compile(source, &compiled, &none) == PZIC_OK);
+    CHECK(find(&compiled, "Test/York", &count) == PZIC_OK);
+    CHECK(pzic_files_bytes(&compiled, count, bytes, sizeof bytes, &york) == PZIC_OK && york < sizeof bytes);
+    add_file(&all, "Test/York", bytes, york);
+    add_file(&all, "Test/../York", bytes, york);
+    CHECK(pzic_files_bytes(&compiled, 0, bytes, sizeof bytes, &fixed) == PZIC_OK && fixed < sizeof bytes);
+    add_file(&all, "Test/Fixed", bytes, fixed);
+    add_file(&all, "Test/York", "", 0);
+    add_file(&all, "Test/Short", bytes, fixed - 1);
+    add_file(&all, "", bytes, fixed);
+    // An abbreviation of two letters, which a file may have and rows may not.
+    CHECK(memcmp(bytes + fixed - 11, "XYZ\0\nXYZ-1\n", 11) == 0);
+    bytes[fixed - 9] = '\0';
+    add_file(&all, "Test/Two", bytes, fixed);
+    add_file(&all, "Test/Open", bytes, without_footer(bytes, fixed));
+    memset(statuses, 99, sizeof statuses);
+    CHECK(files_of(&all, statuses, &files) == PZIC_OK && files.kind == 2);
+    CHECK(memcmp(statuses, want, sizeof want) == 0 && statuses[8] == 99);
+    CHECK(pzic_files_len(&files, &count) == PZIC_OK && count == 2);
+    expect_file(&files, 0, "Test/York", york);
+    expect_file(&files, 1, "Test/Fixed", fixed);
+    CHECK(find(&files, "Test/Fixed", &count) == PZIC_OK && count == 1);
+    CHECK(find(&files, "Test/Open", &count) == PZIC_NO_SUCH && count == 1);
+    CHECK(pzic_zone_of(&files, 1, &zone) == PZIC_OK && pzic_zone_at(&zone, 0, &state) == PZIC_OK && state.offset == 3600);
+    pzic_row_fault fault = {7, 8};
+    CHECK(convert(&files, column, &rows, &fault) == PZIC_OK);
+    expect_rows(&rows, converted);
+    CHECK(convert(&files, "Test/Open,0\n", &rows, &fault) == PZIC_BAD_ROW && fault.row == 1 && fault.kind == 36);
+    // Lengths of no names and bytes, or another number of statuses; what the handle held is gone.
+    memset(statuses, 99, sizeof statuses);
+    CHECK(pzic_files_of(all.texts, all.length - 1, all.lengths, all.count, statuses, 8, &files) == PZIC_LENGTHS && files.kind == 0);
+    CHECK(files_of(&all, statuses, &files) == PZIC_OK);
+    memset(statuses, 99, sizeof statuses);
+    CHECK(pzic_files_of(all.texts, all.length, all.lengths, all.count, statuses, 7, &files) == PZIC_LENGTHS && files.kind == 0);
+    CHECK(pzic_files_of(all.texts, all.lengths[0], all.lengths, 1, statuses, 0, &files) == PZIC_LENGTHS);
+    CHECK(pzic_files_of(all.texts, all.lengths[0], all.lengths, 1, statuses, 1, &files) == PZIC_LENGTHS);
+    CHECK(pzic_files_of(NULL, 0, NULL, 0, NULL, 0, &files) == PZIC_OK && files.kind == 2);
+    CHECK(pzic_files_len(&files, &count) == PZIC_OK && count == 0);
+    for (long n = 0;; n++) {
+        CHECK(pzic_share(&compiled, &files) == PZIC_OK);
+        growths_left = n;
+        int32_t status = files_of(&all, statuses, &files);
+        bool refused = growths_left < 0;
+        growths_left = -1;
+        if (!refused) {
+            CHECK(status == PZIC_OK && n > 5 && statuses[1] == 13);
+            break;
+        }
+        CHECK(status == PZIC_NO_MEMORY && is_empty(&files) && statuses[0] == 99);
+    }
+    pzic_free(&zone);
+    pzic_free(&rows);
+    pzic_free(&files);
+    pzic_free(&compiled);
 }
 
 static void fill(const pzic_handle *handle, pzic_handle *other) {
@@ -796,8 +1048,6 @@ static void give_no_items(void) {
     pzic_free(&zone);
 }
 
-static bool is_empty(const pzic_handle *handle) { return handle->kind == 0 && handle->at == NULL; }
-
 // A call that fails leaves the handle that it is to fill empty, whatever this held before, and writes
 // nothing that the header doesn't name.
 static void empty_handles(void) {
@@ -827,6 +1077,8 @@ static void empty_handles(void) {
         fill(held[i], &filled);
         CHECK(pzic_compile(bytes, 2, &length, 1, &filled, &fault) == PZIC_LENGTHS && is_empty(&filled));
         CHECK(fault.text == 1 && fault.line == 2 && fault.kind == 3 && row.row == 4 && row.kind == 5);
+        fill(held[i], &filled);
+        CHECK(pzic_files_of(bytes, 2, &length, 1, NULL, 0, &filled) == PZIC_LENGTHS && is_empty(&filled));
         fill(held[i], &filled);
         CHECK(compile("Word\n", &filled, &other) == PZIC_BAD_SOURCE && is_empty(&filled));
         fill(held[i], &filled);
@@ -868,7 +1120,8 @@ static void name_faults(void) {
     expect_name(pzic_name_of_fault, 43, "RowQuote");
     expect_name(pzic_name_of_reason, PZIC_REASON_SHORT, "Short");
     expect_name(pzic_name_of_reason, PZIC_REASON_TOO_LARGE, "TooLarge");
-    static const uint32_t others[] = {0, 31, 44, UINT32_MAX};
+    expect_name(pzic_name_of_fault, 44, "RowTooLong");
+    static const uint32_t others[] = {0, 31, 45, UINT32_MAX};
     for (int i = 0; i < 4; i++) expect_no_name(pzic_name_of_fault, others[i]);
     expect_no_name(pzic_name_of_reason, 0);
     expect_no_name(pzic_name_of_reason, 15);
@@ -919,7 +1172,7 @@ static void refuse_growths(const file *f) {
 
 typedef struct task {
     const file *f;
-    const pzic_handle *shared;
+    const pzic_handle *shared, *files;
     pzic_handle own;
 } task;
 
@@ -935,6 +1188,7 @@ static void *work(void *argument) {
     compare_instants(zone);
     compare_civil(zone);
     compare_changes(zone);
+    compare_rows(mine->files);
     for (int i = 0; i < 50; i++) {
         pzic_handle again = {0}, own = {0};
         pzic_state state, same;
@@ -948,6 +1202,9 @@ static void *work(void *argument) {
     }
     compile_source();
     convert_columns();
+    convert_by_layouts();
+    tell_rows();
+    take_files();
     empty_handles();
     compile_texts();
     name_faults();
@@ -956,18 +1213,35 @@ static void *work(void *argument) {
     return NULL;
 }
 
+// Makes files of one that was read, under two names.
+static void take_file(const file *f, pzic_handle *files) {
+    const size_t lengths[] = {1, f->length, 1, f->length};
+    uint8_t *texts = malloc(2 * f->length + 2), statuses[2];
+    CHECK(texts != NULL);
+    for (size_t i = 0; i < 2; i++) {
+        uint8_t *at = texts + i * (f->length + 1);
+        *at = (uint8_t)('A' + i);
+        memcpy(at + 1, f->bytes, f->length);
+    }
+    CHECK(pzic_files_of(texts, 2 * f->length + 2, lengths, 4, statuses, 2, files) == PZIC_OK);
+    CHECK(statuses[0] == PZIC_OK && statuses[1] == PZIC_OK);
+    free(texts);
+}
+
 static void use_threads(const file *f) {
-    pzic_handle zone = {0};
+    pzic_handle zone = {0}, files = {0};
     pthread_t threads[THREADS];
     task tasks[THREADS];
     read_zone(f, &zone);
+    take_file(f, &files);
     for (int i = 0; i < THREADS; i++) {
-        tasks[i] = (task){.f = f, .shared = &zone};
+        tasks[i] = (task){.f = f, .shared = &zone, .files = &files};
         CHECK(pzic_share(&zone, &tasks[i].own) == PZIC_OK);
         CHECK(pthread_create(&threads[i], NULL, work, &tasks[i]) == 0);
     }
     compare_column(&zone, false);
     for (int i = 0; i < THREADS; i++) CHECK(pthread_join(threads[i], NULL) == 0);
+    pzic_free(&files);
     pzic_free(&zone);
     CHECK(zone.kind == 0 && zone.at == NULL);
 }
@@ -1006,6 +1280,9 @@ int main(int count, char **words) {
     order_files();
     find_names();
     convert_columns();
+    convert_by_layouts();
+    tell_rows();
+    take_files();
     give_no_items();
     empty_handles();
     name_faults();
@@ -1020,6 +1297,10 @@ int main(int count, char **words) {
         compare_instants(&zone);
         compare_civil(&zone);
         compare_changes(&zone);
+        pzic_handle files = {0};
+        take_file(&f, &files);
+        compare_rows(&files);
+        pzic_free(&files);
         if (i == 2) tell_gap_and_fold(&zone);
         open_tree(words[1], words[i]);
         pzic_free(&zone);

@@ -1,12 +1,14 @@
-"""Compares the Python package with Python's zoneinfo: `library.py TREE`.
+"""Compares the Python package with Python's zoneinfo: `library.py TREE [STEP]`.
 
-Every zone of the tree is asked from 1900 to 2100: at each change, one second before and one after,
-from an instant to local time and back, at either fold; and a column of random instants. The witness
-reads the same files.
+Every zone of the tree, or one of STEP, is asked from 1900 to 2100: at each change, one second before
+and one after, from an instant to local time and back, at either fold; and a column of random
+instants. The witness reads the same files.
 """
 
 import array
+import copy
 import os
+import pickle
 import random
 import re
 import sys
@@ -148,6 +150,21 @@ def compile_texts(folder):
     caught = refuses(pzic.BadRow, made.convert, b"A,0\nA,x\n")
     check((caught.row, caught.kind) == (2, "RowInstant"), caught)
     check(caught.rows == b"A,0,1970-01-01T01:00:00,+01:00:00,0,AAA\n", caught.rows)
+    rows = made.rows(b"t\n5000;x\n?;y\n", zone="A", unit="ms", delimiter=";", header=True, append=True, keep_going=True)
+    check(rows.text == b"t;local;offset;daylight;abbreviation\n5000;x;1970-01-01T01:00:05.000;+01:00:00;0;AAA\n?;y;;;;\n", rows)
+    check(rows.number == 2 and rows.faults == (pzic.RowFault(2, "RowInstant"),) and not rows.ended, rows)
+    check(made.convert(b"A,0\n", style="iso") == b"A,0,1970-01-01T01:00:00+01:00,0,AAA\n", "iso")
+    check(made.convert(b"1970-01-01T01:00:00\n", zone="A", source="local").endswith(b",0,+01:00:00,0,AAA\n"), "local")
+    caught = refuses(pzic.BadRow, lambda: made.convert(b"0,A\n0,C\n", zone_field=2, time_field=1))
+    check((caught.row, caught.kind) == (2, "RowZone"), caught)
+    caught = refuses(pzic.BadRow, lambda: made.convert(b"A,0\nA,10\nA,1\n", max_record=3, keep_going=True))
+    check((caught.row, caught.kind, len(caught.rows)) == (2, "RowTooLong", len(b"A,0,1970-01-01T01:00:00,+01:00:00,0,AAA\n")), caught, caught.rows)
+    check(made.convert(b"A,0\n", max_record=3) == b"A,0,1970-01-01T01:00:00,+01:00:00,0,AAA\n", "max_record")
+    refuses(MemoryError, lambda: made.convert(b"zone,time\nA,0\n", header=True, max_record=8))
+    refuses(ValueError, lambda: made.convert(b"", max_record=0))
+    refuses(ValueError, lambda: made.convert(b"", max_record=(1 << 32) + 1))
+    refuses(ValueError, lambda: made.convert(b"", delimiter="a"))
+    refuses(ValueError, lambda: made.convert(b"", unit="h"))
     caught = refuses(pzic.BadSource, pzic.Compiled, b"Zone A 0 - UTC\n", b"# none\nWord\n")
     check((caught.text, caught.line, caught.kind) == (2, 2, "Keyword"), caught)
     check(list(pzic.Compiled()) == [], "no texts")
@@ -155,6 +172,28 @@ def compile_texts(folder):
     with open(path, "wb") as file:
         file.write(b"Zone A 0 - UTC\n")
     check(list(pzic.Tree.compile(path)) == ["A"], "a path")
+
+
+def take_files(tree):
+    """Files of names and of bytes that were read, and rows by a folder."""
+    dublin, fixed = tree.data("Europe/Dublin"), pzic.Compiled(b"Zone A 1 - AAA").data("A")
+    two = fixed.replace(b"AAA\0", b"AA\0\0")
+    files = pzic.Files({"B/Dublin": dublin, "A": bytearray(fixed), "../A": fixed, "\u00e9": fixed, "None": b"", "Two": two})
+    check(list(files) == ["B/Dublin", "A"] and len(files) == 2, list(files))
+    want = {"../A": "BadName", "\u00e9": "BadName", "None": "BadFile", "Two": "Unfit"}
+    check(files.left_out == want, files.left_out)
+    check(files["B/Dublin"].data == dublin and "Two" not in files, "files")
+    check(files.convert(b"A,0\n") == b"A,0,1970-01-01T01:00:00,+01:00:00,0,AAA\n", "rows of files")
+    again = pickle.loads(pickle.dumps(files))
+    check(copy.copy(files) is files and list(again) == list(files) and again.data("A") == fixed, "pickled files")
+    check(len(pzic.Files({})) == 0 and pzic.Files({}).convert(b"") == b"", "no files")
+    column = b"Europe/Dublin,1720000000\nAsia/Tokyo,0\n"
+    rows = b"Europe/Dublin,1720000000,2024-07-03T10:46:40,+01:00:00,0,IST\nAsia/Tokyo,0,1970-01-01T09:00:00,+09:00:00,0,JST\n"
+    check(tree.convert(column) == rows and tree.files(["Europe/Dublin", "Asia/Tokyo"]).convert(column) == rows, "rows of a tree")
+    check(tree.rows(b"0\n", zone="Asia/Tokyo").text == b"Asia/Tokyo,0,1970-01-01T09:00:00,+09:00:00,0,JST\n", "a zone of a tree")
+    check(list(tree.files()) == list(tree) and not tree.files().left_out, "all files")
+    refuses(pzic.NoSuchZone, tree.files, ["Nowhere"])
+    refuses(pzic.NoSuchZone, lambda: tree.convert(b"0\n", zone="Nowhere"))
 
 
 def name_of(call, number):
@@ -197,7 +236,7 @@ def main():
     random.seed(1)
     zoneinfo.reset_tzpath([os.path.abspath(folder)])
     tree = pzic.Tree.open(folder)
-    names = sorted(tree)
+    names = sorted(tree)[:: int(sys.argv[2]) if len(sys.argv) > 2 else 1]
     count = 0
     for name in names:
         theirs = zoneinfo.ZoneInfo(name)
@@ -205,6 +244,7 @@ def main():
         compare_column(name, tree[name], theirs, 200)
     refuse(tree)
     compile_texts(folder)
+    take_files(tree)
     compare_names()
     use_threads(tree["Europe/Dublin"])
     print(f"library: Python: {len(names)} zones, {count} changes, {compare_numpy(tree)}")

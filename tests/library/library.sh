@@ -4,7 +4,7 @@
 # that of threads, beside the C library's own reader; the extension of SQLite; the Python package beside Python's zoneinfo, its
 # objects, its types, and as pip installs it; and the examples of docs/LIBRARY.md in each language.
 # Needs: tzdata, cc, c++, nm, pkg-config
-# Parts need: clang, sqlite3ext.h, sqlite3, valgrind, pandas, test_zoneinfo, mypy, python3.8, pip, go, rustc
+# Parts need: clang, sqlite3ext.h, sqlite3, valgrind, pandas, test_zoneinfo, mypy, python3.8, python3-config, pip, go, rustc
 set -euo pipefail
 cd "$(dirname "${BASH_SOURCE[0]}")/../.."
 . tests/common.sh
@@ -63,8 +63,36 @@ if [ -x /usr/bin/python3 ]; then
     python=/usr/bin/python3
 fi
 "$python" -c 'import pandas' 2>"$work/log" || echo "skipped: arrays and columns of numpy and pandas: pandas isn't there"
-"$python" tests/library/library.py "$tree"
-"$python" tests/library/python_objects.py "$tree"
+
+# add_c PYTHON: prints the folder of a copy of the package that has its part in C for this Python, or nothing without headers.
+add_c() {
+    local headers suffix folder
+    { read -r headers; read -r suffix; } < <("$1" -c 'import sysconfig as s; print(s.get_path("include"), s.get_config_var("EXT_SUFFIX"), sep="\n")')
+    [ -e "$headers/Python.h" ] || return 0
+    folder=$work/in_c$suffix
+    if [ ! -e "$folder" ]; then
+        cp -r python "$folder"
+        cc -O2 -shared -fPIC -Wall -Wextra -Werror -I "$headers" python/pzic/_fast.c -o "$folder/pzic/_fast$suffix"
+    fi
+    echo "$folder"
+}
+# in_c PYTHON SCRIPT WORD...: runs a script with the part in C.
+in_c() {
+    local folder
+    folder=$(add_c "$1")
+    [ -n "$folder" ] || { echo "skipped: ${2##*/} with the part in C: $1 has no Python.h" && return 0; }
+    PYTHONPATH=$folder "$1" -c 'import pzic._fast'
+    PYTHONPATH=$folder "$@"
+}
+# in_both PYTHON SCRIPT WORD...: runs a script without the part in C, and with it.
+in_both() {
+    PZIC_PURE_PYTHON=1 "$@"
+    in_c "$@"
+}
+# Without the part in C it takes twice the time.
+PZIC_PURE_PYTHON=1 "$python" tests/library/library.py "$tree" 8
+in_c "$python" tests/library/library.py "$tree"
+in_both "$python" tests/library/python_objects.py "$tree"
 
 # The extension of SQLite, from Python, and from its own program under valgrind.
 extension=$built/lib/pzic_sqlite.so
@@ -95,7 +123,7 @@ tests='from test.test_zoneinfo import test_zoneinfo'
 for tester in "$python" python3 none; do
     ! "$tester" -c "$tests" 2>"$work/log" || break
 done
-if [ "$tester" = none ]; then echo "skipped: CPython's tests of zoneinfo: test_zoneinfo isn't there"; else "$tester" tests/library/zoneinfo_tests.py; fi
+if [ "$tester" = none ]; then echo "skipped: CPython's tests of zoneinfo: test_zoneinfo isn't there"; else in_both "$tester" tests/library/zoneinfo_tests.py; fi
 
 # The types, for the oldest Python and for this one.
 if has 'the types of the Python package' mypy; then
@@ -109,7 +137,7 @@ oldest=
 for candidate in python3.8 "${PYENV_ROOT:-$HOME/.pyenv}"/versions/3.8.*/bin/python; do
     ! "$candidate" -c '' 2>"$work/log" || { oldest=$candidate; break; }
 done
-if [ -n "$oldest" ]; then "$oldest" tests/library/oldest.py "$tree"; else echo "skipped: the oldest Python: python3.8 isn't there"; fi
+if [ -n "$oldest" ]; then in_both "$oldest" tests/library/oldest.py "$tree"; else echo "skipped: the oldest Python: python3.8 isn't there"; fi
 
 # As pip installs it, from its folder and as a wheel, each into a new environment, without a network.
 has_pip() {
@@ -119,18 +147,31 @@ in_venv() {
     env -u PZIC_LIBRARY -u PYTHONPATH "$work/$1/bin/python" -c "$2" "$tree"
 }
 install_by_pip() {
-    local offline=(--quiet --no-index --no-build-isolation) name got want
+    local offline=(--quiet --no-index --no-build-isolation) name wheel got want is_fast
     cp -r python "$work/package"
     "$python" -m venv --system-site-packages "$work/by_folder"
     "$work/by_folder/bin/pip" install "${offline[@]}" "$work/package"
     "$python" -m pip wheel "${offline[@]}" --no-deps -w "$work/wheels" "$work/package"
+    # The wheel says for which Python it is: with the part in C, for one.
+    is_fast=False
+    [ -z "$(add_c "$python")" ] || is_fast=True
+    wheel=$(cd "$work/wheels" && echo *.whl)
+    case $is_fast,$wheel in
+    True,pzic-*-cp[0-9]*-cp[0-9]*-linux_*.whl | False,pzic-*-py3-none-linux_*.whl) ;;
+    *) echo "library: the wheel has the name $wheel" >&2 && exit 1 ;;
+    esac
+    PZIC_PURE_PYTHON=1 "$python" -m pip wheel "${offline[@]}" --no-deps -w "$work/pure_wheels" "$work/package"
     "$python" -m venv "$work/by_wheel"
-    "$work/by_wheel/bin/pip" install --quiet --no-index "$work"/wheels/pzic-*-py3-none-*.whl
-    want="$(sed -n 's/^pzic //p' docs/help/version.txt) True 3600"
-    for name in by_folder by_wheel; do
+    "$python" -m venv "$work/pure"
+    "$work/by_wheel/bin/pip" install --quiet --no-index "$work/wheels/$wheel"
+    "$work/pure/bin/pip" install --quiet --no-index "$work"/pure_wheels/pzic-*-py3-none-linux_*.whl
+    for name in by_folder by_wheel pure; do
+        [ "$name" != pure ] || is_fast=False
+        want="$(sed -n 's/^pzic //p' docs/help/version.txt) True 3600 $is_fast"
         got=$(in_venv "$name" '
 import pzic, sys
-print(pzic.__version__, pzic.__file__.startswith(sys.prefix), pzic.Tree.open(sys.argv[1])["Europe/Dublin"].utcoffset(0))')
+offset = pzic.Tree.open(sys.argv[1])["Europe/Dublin"].utcoffset(0)
+print(pzic.__version__, pzic.__file__.startswith(sys.prefix), offset, "pzic._fast" in sys.modules)')
         [ "$got" = "$want" ] || { echo "library: $name: got '$got', and not '$want'" >&2; exit 1; }
     done
     # It is imported within 40 ms of processor time, the least of ten runs.

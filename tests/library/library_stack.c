@@ -76,15 +76,36 @@ static void compile(void) {
     status = pzic_compile((const uint8_t *)source, whole, &whole, 1, &files, &fault);
 }
 
+static void make_files(void) {
+    static uint8_t texts[sizeof bytes + 1];
+    const size_t lengths[] = {1, length};
+    uint8_t one;
+    texts[0] = 'A';
+    memcpy(texts + 1, bytes, length);
+    status = pzic_files_of(texts, length + 1, lengths, 2, &one, 1, &other);
+    if (status == PZIC_OK) status = one;
+}
+
 static void ask_files(void) {
     status = pzic_files_len(&files, &count) + pzic_files_find(&files, (const uint8_t *)"Test/York", 9, &count)
            + pzic_files_name(&files, 0, room, sizeof room, &count)
            + pzic_files_bytes(&files, 0, room, sizeof room, &count) + pzic_zone_of(&files, 0, &other);
 }
 
+static void ask_rows(void) {
+    static uint32_t zones[MANY];
+    static pzic_abbreviation names[MANY];
+    status = pzic_files_offsets(&files, zones, MANY, instants, MANY, offsets, MANY, flags, MANY)
+           + pzic_files_abbreviations(&files, zones, MANY, instants, MANY, names, MANY);
+}
+
 static void convert(void) {
     pzic_row_fault fault;
     status = pzic_rows(&files, (const uint8_t *)column, sizeof column - 1, &rows, &fault);
+    pzic_layout layout = PZIC_LAYOUT_INIT;
+    layout.records = PZIC_RECORDS_LINES;
+    layout.at_fault = PZIC_FAULT_GOES_ON;
+    if (status == PZIC_OK) status = pzic_rows_by(&files, &layout, NULL, 0, (const uint8_t *)column, sizeof column - 1, &rows);
 }
 
 static void ask_names(void) {
@@ -122,7 +143,8 @@ int main(int words, char **word) {
         void (*what)(void);
     } calls[] = {{"zone_read", read_zone}, {"share", share}, {"free", let_go}, {"zone_at", ask_at},
                  {"zone_span", ask_span}, {"zone_offsets", ask_many}, {"zone_instants", ask_instants},
-                 {"zone_instants_array", ask_many_instants}, {"changes", ask_changes}, {"compile", compile}, {"files", ask_files},
+                 {"zone_instants_array", ask_many_instants}, {"changes", ask_changes}, {"compile", compile}, {"files_of", make_files},
+                 {"files", ask_files}, {"files_offsets", ask_rows},
                  {"rows", convert}, {"names", ask_names}};
     FILE *in = words == 2 ? fopen(word[1], "rb") : NULL;
     if (in == NULL) return 1;

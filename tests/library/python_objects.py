@@ -16,10 +16,12 @@ import subprocess
 import sys
 import tempfile
 import threading
+import weakref
 import zoneinfo
 from datetime import date, datetime, time, timedelta, timezone
 
 import pzic
+from pzic import _cache
 from pzic import _library as c
 
 UTC = timezone.utc
@@ -78,9 +80,14 @@ def copy_trees(tree, path):
     compiled = pzic.Compiled(SOURCE)
     for made in copies_of(compiled):
         check(len(made) == 3 and made.convert(b"Fixed,0\n") == compiled.convert(b"Fixed,0\n") != b"", "compiled")
+    files = pzic.Files({"A": compiled.data("Fixed"), "../A": b"", "None": b"x"})
+    left_out = {"../A": "BadName", "None": "BadFile"}
+    for made in copies_of(files):
+        check(list(made) == ["A"] and made.left_out == files.left_out == left_out, "files")
+        check(made.convert(b"A,0\n") == files.convert(b"A,0\n") != b"", "files")
     del made
     gc.collect()
-    check(list(compiled) == ["Fixed", "Zone", "Other"], "after the copies")
+    check(list(compiled) == ["Fixed", "Zone", "Other"] and list(files) == ["A"], "after the copies")
 
 
 def copy_time_zones(tree, data):
@@ -162,12 +169,108 @@ def use_threads(data):
                 check(zone.convert_array(instants) == want, "array in a thread")
             for i in range(turn + number, len(instants), 1009):
                 # No span is kept for an instant that far away.
-                check(zone._ask(instants[i]).state.offset == want[0][i], "span in a thread")
+                check(zone._look_up(instants[i]).state.offset == want[0][i], "span in a thread")
             check(compiled.convert(b"Fixed,0\nOther,1\n") == want_rows and len(compiled) == 3, "rows in a thread")
             check(pzic.Zone(data).tzinfo("Mine") is pzic.Zone(data).tzinfo("Mine"), "one object in a thread")
 
     in_threads(8, work)
     sys.setswitchinterval(switch)
+
+
+# ------------------------------------------------------------------ what is kept
+
+
+def keep_answers(tree, data):
+    """What is kept is counted rightly, and keeps no zone alive."""
+    source = pzic.Compiled(b"Zone A 1:00 - AAA 1999\n 2:00 - BBB\n")
+    zone = source["A"]
+    tz, moment = zone.tzinfo("Counted"), datetime(1998, 12, 31, 23, tzinfo=zone.tzinfo("Counted"))
+    told = tz.utcoffset(moment), tz.tzname(moment), tz.dst(moment), zone.at(0), zone.span(0), tz
+    before = [sys.getrefcount(value) for value in told]
+    for i in range(10_000):
+        kept = tz.utcoffset(moment), tz.tzname(moment), tz.dst(moment), zone.at(i % 9), zone.span(i % 9), moment.tzinfo
+        tz.fromutc(moment), zone.utcoffset(i), moment.astimezone(UTC)
+    del kept
+    check(all(abs(sys.getrefcount(value) - count) < 9 for value, count in zip(told, before)), "references", before)
+    kinds = TooFar, pzic.TimeZone
+    ends = []
+    for kind in kinds:
+        zone = pzic.Zone(data)
+        tz = kind(zone, "Given up")
+        check(datetime(2024, 7, 3, tzinfo=tz).utcoffset() == HOUR and zone.utcoffset(INSTANT) == 3600, "answers")
+        check(datetime(2024, 7, 3, tzinfo=UTC).astimezone(tz).hour == 1, "answers")
+        ends += weakref.ref(zone), weakref.ref(tz)
+        del zone, tz
+        gc.collect()
+    check(not any(end() for end in ends), "what is given up", ends)
+
+
+class TooFar(pzic.TimeZone):
+    """A subclass, with attributes."""
+
+
+class Moment(datetime):
+    """Dates and times of a subclass."""
+
+
+def ask_oddly(tree, data):
+    """Words are taken by name, times of subclasses and of other zones are told, and faults are refused."""
+    zone, tz = pzic.Zone(data), tree.tzinfo("Europe/Dublin")
+    check(zone.at(instant=INSTANT) == zone.at(INSTANT) == zone.span(instant=True - 1 + INSTANT).state, "by name")
+    check(zone.utcoffset(instant=False) == zone.utcoffset(0) == 3600, "by name")
+    for call in zone.at, zone.span, zone.utcoffset:
+        for words, named in ((), {}), ((1, 2), {}), ((), {"other": 1}), ((1,), {"instant": 1}):
+            refuses(TypeError, lambda: call(*words, **named))
+        for number in "0", 0.0, None:
+            refuses(TypeError, call, number)
+        for number in -(2**63) - 1, 2**63, 2**99, -(2**99):
+            refuses(OverflowError, call, number)
+        check(call(pzic.MIN_INSTANT) is not None and call(pzic.MAX_INSTANT) is not None, "ends")
+    check(zone.span(pzic.MAX_INSTANT).last == pzic.MAX_INSTANT and zone.span(pzic.MIN_INSTANT).first == pzic.MIN_INSTANT, "ends")
+    open_zone = pzic.Compiled(SOURCE)["Zone"]
+    check(open_zone.at(0) is None or open_zone.at(0).name == "-00", "open")
+    unknown = pzic.Zone(open_until())
+    check(unknown.at(5000) is None and unknown.span(5000).state is None, "open")
+    check("5000" in str(refuses(LookupError, unknown.utcoffset, 5000)), "open")
+    twice = Moment(2024, 10, 27, 1, 30, fold=1, tzinfo=tz)
+    check((twice.utcoffset(), twice.tzname(), twice.dst()) == (ZERO, "GMT", -HOUR), "a subclass", twice.dst())
+    shown = Moment(2024, 10, 27, 1, 30, tzinfo=UTC).astimezone(tz)
+    check((type(shown), shown.fold, shown.replace(tzinfo=None)) == (Moment, 1, Moment(2024, 10, 27, 1, 30)), "a subclass", shown)
+    for moment in twice.replace(tzinfo=None), twice.replace(tzinfo=UTC):
+        check((tz.utcoffset(moment), tz.tzname(moment)) == (ZERO, "GMT"), "another zone")
+    for moment in datetime.min, datetime.max:
+        check(tz.utcoffset(moment) is not None and tz.tzname(moment) is not None, "ends of the years")
+    for year in b"\xff\xff", b"\0\0":
+        refuses(ValueError, datetime(year + b"\1\1\0\0\0\0\0\0", tz).utcoffset)
+    refuses(OverflowError, tree.tzinfo("Asia/Tokyo").fromutc, datetime.max.replace(tzinfo=tree.tzinfo("Asia/Tokyo")))
+    zone.__init__(tree.data("Asia/Tokyo"))
+    check(zone.utcoffset(INSTANT) == 32400, "another file")
+    refuses((AttributeError, TypeError), pzic.TimeZone.utcoffset, 5, twice)
+    refuses((AttributeError, TypeError), pzic.Zone.at, 5, 0)
+
+
+def ask_years_in_threads(data):
+    """Threads ask for the same years, which aren't kept yet."""
+    for turn in range(20):
+        zone = pzic.Zone(data)
+        tz = zone.tzinfo(f"Turn {turn}")
+        in_threads(8, lambda number: check(
+            [datetime(year, 7, 1, tzinfo=tz).utcoffset() for year in range(1980, 2040)] == [HOUR] * 60
+            and all(zone.utcoffset(i) in (0, 3600) for i in range(0, 2**31, 2**24)), "years in a thread"))
+
+
+def use_interpreters(path):
+    """Other interpreters of this process use the package."""
+    try:
+        import _xxsubinterpreters as interpreters
+    except ImportError:
+        return
+    program = (f"import sys; sys.path[:0] = {sys.path!r}; import pzic; from datetime import datetime; "
+               f"tz = pzic.Tree({path!r}).tzinfo('Europe/Dublin'); assert datetime(2024, 7, 3, tzinfo=tz).tzname() == 'IST'")
+    for _ in range(3):
+        made = interpreters.create(isolated=False)
+        interpreters.run_string(made, program)
+        interpreters.destroy(made)
 
 
 # ------------------------------------------------------------------ trees
@@ -190,6 +293,17 @@ def make_odd_tree(folder, tree):
     for name, target in ("broken", "nowhere"), ("loop", "loop"), ("up", "."), ("link", "One"), ("null", "/dev/null"):
         os.symlink(target, f"{folder}/{name}")
     return {"Area/Sub/Three", "Area/Two", "One", "link"}, odd
+
+
+def tell_releases():
+    with tempfile.TemporaryDirectory() as folder:
+        made = pzic.Tree(folder)
+        check(made.version is None, "no +VERSION")
+        for text, wanted in (b"2025b\n", "2025b"), (b"2025b", None), (b"\n", None), (b"2025 b\n", None), (b"2025b\nmore\n", "2025b"), \
+                (b"x" * 64 + b"\n", "x" * 64), (b"x" * 65 + b"\n", None), (b"2025\xff\n", None), (b"2025b\r\n", None), (b"", None):
+            with open(f"{folder}/+VERSION", "wb") as file:
+                file.write(text)
+            check(made.version == wanted, "release", text, made.version)
 
 
 def list_trees(tree):
@@ -305,6 +419,7 @@ def compare_columns(tree, numpy, pandas):
         told = timedelta(seconds=int(got.offsets[i])), got.abbreviations[i], got.local[i].item()
         check(told == (want.utcoffset(), want.tzname(), want.replace(tzinfo=None)), rows[i], instants[i], told)
         check(got.flags[i] == bool(want.dst()), rows[i], instants[i])
+    compare_files(tree, names, rows, instants, got, numpy)
     times = instants.astype("datetime64[s]")
     series = pandas.Series(rows)
     stamps = pandas.Series(times.astype("datetime64[ns]"))
@@ -318,6 +433,28 @@ def compare_columns(tree, numpy, pandas):
     refuses(ValueError, tree.convert_columns, ["UTC"], instants[:2])
     refuses(TypeError, tree.convert_columns, ["UTC"], numpy.array([1.5]))
     refuses(OverflowError, tree.convert_columns, ["Asia/Tokyo"], numpy.array([pzic.MAX_INSTANT]))
+
+
+def compare_files(tree, names, rows, instants, want, numpy):
+    """Compare columns by files in memory, by a tree with a file that rows can't be made of, and with many
+    abbreviations."""
+    for one, other in zip(tree.files(names).convert_columns(rows, instants), want):
+        check((one == other).all() and one.dtype == other.dtype, "columns by files")
+    with tempfile.TemporaryDirectory() as folder:
+        for name, data in ("Open", open_until()), ("Dublin", tree.data("Europe/Dublin")):
+            with open(os.path.join(folder, name), "wb") as file:
+                file.write(data)
+        got = pzic.Tree(folder).convert_columns(["Open", "Dublin", "Open"], numpy.array([5000, INSTANT, 999]))
+    check(got.offsets.tolist() == [0, 3600, 60] and got.flags.tolist() == [pzic.OPEN, 0, 0], "an unfit file", got)
+    check(numpy.isnat(got.local).tolist() == [True, False, False], "an unfit file", got)
+    check(got.local[1:].astype("int64").tolist() == [INSTANT + 3600, 1059], "an unfit file", got)
+    check(got.abbreviations.tolist() == ["", "IST", "ABC"], "an unfit file", got)
+    many = [a + b + c for a in "ABCDEFGHIJ" for b in "ABCDEFGHIJ" for c in "ABCDEFGHIJ"] + ["ABCDEFGHIJKLMNOP", "ABCDEFGHIJKLMNOQ"]
+    source = "".join(f"Zone {name} -1 - {name}\n" for name in many).encode()
+    got = pzic.Compiled(source).convert_columns(many, numpy.zeros(len(many), "int64"))
+    check(got.abbreviations.tolist() == many and set(got.offsets.tolist()) == {-3600}, "many abbreviations")
+    refuses(pzic.NoSuchZone, pzic.Compiled(SOURCE).convert_columns, ["None"], numpy.array([1]))
+    refuses(pzic.NoSuchZone, pzic.Compiled(SOURCE).convert_columns, numpy.array([1]), numpy.array([1]))
 
 
 def convert_by_pandas(zone, numpy, pandas):
@@ -442,13 +579,19 @@ def main():
     copy_errors(tree)
     use_processes(tree)
     use_threads(data)
+    keep_answers(tree, data)
+    ask_oddly(tree, data)
+    ask_years_in_threads(data)
+    use_interpreters(folder)
     list_trees(tree)
+    tell_releases()
     keep_manners(tree, data)
     compare_arithmetic(tree)
     look_at_statuses(tree["Europe/Dublin"])
     refuse_arrays(tree["Europe/Dublin"])
     tell_local_times(tree)
-    print(f"library: Python's objects, {use_pandas(tree)}")
+    form = "in Python" if pzic.Zone.at is _cache.PureSpans.at else "in C"
+    print(f"library: Python's objects, {use_pandas(tree)}, what is kept {form}")
 
 
 if __name__ == "__main__":

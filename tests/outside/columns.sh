@@ -2,13 +2,14 @@
 # Converts columns of 100,000 rows over all zones of the release, and compares each row with zoneinfo and reader.py.
 # It converts by the source and by trees of its files, over the program's files and those of the system's zic, by each option for
 # other columns, and columns of lines with stray double quotes by Python's csv module. It compares what `show --local` prints near
-# changes with zoneinfo too, and rows of local times by each choice for gaps and folds.
+# changes with zoneinfo too, and rows of local times by each choice for gaps and folds, with zoneinfo and the kit's jiff.
 # Needs: tzdata, zic
 set -euo pipefail
 cd "$(dirname "${BASH_SOURCE[0]}")/../.."
 . tests/common.sh
 
 build zic_main check -
+build probe counts
 program=crates/zic_main/out/zic_main
 "$program" build "$work/ours" "$release"
 zic -b fat -d "$work/fat" "$release"
@@ -18,5 +19,5 @@ python3 tests/outside/layouts.py "$program" "$release" "$work" | sed 's/^/column
 mkdir "$work/lines"
 python3 tests/outside/lines.py "$program" "$work/lines" | sed 's/^/columns: /'
 python3 tests/outside/local_times.py "$program" "$work" | sed 's/^/columns: /'
-python3 tests/outside/local_columns.py "$program" "$release" "$work" | sed 's/^/columns: /'
+python3 tests/outside/local_columns.py "$program" "$release" "$work" crates/probe/out/probe | sed 's/^/columns: /'
 python3 tests/outside/tree_columns.py "$program" "$release" "$work" | sed 's/^/columns: /'

@@ -1,6 +1,6 @@
 #!/usr/bin/env python3
 """What a zone shows: a literal transcription of the definitions of zic_occurrences/specs/{Occurrence,Order,Listing} and
-zic_states/specs/{Until,Kept,Abbreviation,Zone,End,Change,Fault} into Python, with its own parser. Nothing of the project's code
+zic_states/specs/{Until,InForce,Abbreviation,Zone,End,Change,Fault} into Python, with its own parser. Nothing of the project's code
 is read. Quantifiers over occurrences are loops over the occurrences of all years up to a horizon that lies after each end.
 
 changes(source_text, zone) -> (first_state, [(instant, offset, flag, abbreviation)])
@@ -183,7 +183,7 @@ def parse(text):
 # ------------------------------------------------------------------ occurrences (Occurrence, Order, Listing)
 
 Occurrence = namedtuple('Occurrence', 'number year')              # the rule is rules[number]
-Kept = namedtuple('Kept', 'saving daylight letter')               # letter: None where there is none
+InForce = namedtuple('InForce', 'saving daylight letter')               # letter: None where there is none
 
 def the(values):
     values = set(values)
@@ -311,7 +311,7 @@ class Literal:
     def ends(self, i):
         return self.memo(('ends', i), lambda: the(self.until(self.lines[i])))
 
-    # Kept
+    # InForce
     def last_of(self, name, offset, t, bound):
         """the occurrences that are last of those whose instants are not after t, and before the bound if there is one"""
         such = [(self.instant(name, offset, o), o) for o in self.occurrences(name)]
@@ -336,39 +336,39 @@ class Literal:
     def governing(self, t):
         return [i for i in range(len(self.lines)) if self.has_begun(i, t) and self.is_not_over(i, t)]
 
-    def keeps_by(self, i, t):
+    def in_force_by(self, i, t):
         line = self.lines[i]
         if line.rules[0] == '-':
-            return Kept(0, False, None)
+            return InForce(0, False, None)
         if line.rules[0] == 'amount':
-            return Kept(line.rules[1], line.rules[2], None)
+            return InForce(line.rules[1], line.rules[2], None)
         name = line.rules[1]
         last = self.last_of(name, line.offset, t, self.bound(i))
         if last:
             r = the(self.rule_of(o) for o in last)
-            return Kept(r.saving, r.daylight, r.letter)
-        return Kept(0, False, self.letter_before(name))
+            return InForce(r.saving, r.daylight, r.letter)
+        return InForce(0, False, self.letter_before(name))
 
     def window_end(self, i):
         """of line i, which follows another"""
         def make():
             start = self.ends(i - 1)
-            P = self.lines[i - 1].offset + self.keeps(i - 1, start - 1).saving
-            O = self.lines[i].offset + self.keeps_by(i, start).saving
+            P = self.lines[i - 1].offset + self.in_force_of(i - 1, start - 1).saving
+            O = self.lines[i].offset + self.in_force_by(i, start).saving
             return start + max(0, P - O)
         return self.memo(('window', i), make)
 
-    def keeps(self, i, t):
-        return self.keeps_by(i, t if i == 0 else max(t, self.window_end(i)))
+    def in_force_of(self, i, t):
+        return self.in_force_by(i, t if i == 0 else max(t, self.window_end(i)))
 
-    def zone_keeps(self, t):
+    def zone_has_in_force(self, t):
         i = the(self.governing(t))
-        return self.lines[i], self.keeps(i, t)
+        return self.lines[i], self.in_force_of(i, t)
 
     def shows(self, t):
-        line, kept = self.zone_keeps(t)
-        offset = line.offset + kept.saving
-        return (offset, kept.daylight, abbreviation(line.format, offset, kept.daylight, kept.letter))
+        line, in_force = self.zone_has_in_force(t)
+        offset = line.offset + in_force.saving
+        return (offset, in_force.daylight, abbreviation(line.format, offset, in_force.daylight, in_force.letter))
 
     # End
     def end(self):

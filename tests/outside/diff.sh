@@ -1,7 +1,8 @@
 #!/usr/bin/env bash
 # Compares what `diff` lists for two sources with the spans at which Python's zoneinfo over the trees of
 # these answers differently, both ways: the system's release of the tz database, and the same with other
-# rules, abbreviations, local mean times and names. No source differs from itself.
+# rules, abbreviations, local mean times and names; and small random sources. No source differs from itself. Compares
+# what `diff --summary` lists with such spans up to 500 years after the last transitions.
 # Needs: tzdata
 set -euo pipefail
 cd "$(dirname "${BASH_SOURCE[0]}")/../.."
@@ -10,6 +11,8 @@ cd "$(dirname "${BASH_SOURCE[0]}")/../.."
 build zic_main check -
 program=$PWD/crates/zic_main/out/zic_main
 witness=$PWD/tests/outside/differences.py
+summaries=$PWD/tests/outside/summaries.py
+pairs=$PWD/tests/outside/pairs.py
 cp "$release" "$work/old"
 cd "$work"
 # Days of rules, an abbreviation of Irish time, local mean times by a second, a name less and a name more.
@@ -30,9 +33,75 @@ compare() {
     python3 "$witness" "$1.tree" "$2.tree" "$3" "$4" listing "${words[@]}"
 }
 
+# summarize OLD NEW NOW [WHAT]
+summarize() {
+    local ignored=()
+    [ ! "${4-}" ] || ignored=(--ignore "$4")
+    "$program" diff --summary --now "$3" "${ignored[@]}" "$1" "$2" >listing
+    IFS=, read -ra words <<<"${4-}"
+    python3 "$summaries" "$1.tree" "$2.tree" "$3" listing "${words[@]}"
+}
+
 echo "diff: $(compare old new 1850 2045)"
 echo "diff, the other way: $(compare new old 1990 2030)"
 echo "diff, offsets alone: $(compare old new 2000 2015 daylight,abbreviation)"
+for seed in 1 2 3 4; do
+    python3 "$pairs" "$seed" one other
+    rm -rf one.tree other.tree
+    "$program" build one.tree one
+    "$program" build other.tree other
+    echo "diff, random sources: $(compare one other 1900 2100)"
+    echo "summary, random sources: $(summarize one other 0)"
+    echo "summary, random sources, offsets alone: $(summarize other one 0 daylight,abbreviation)"
+done
+echo "summary: $(summarize old new 1800000000)"
+# Zones that differ before 1900; after 2400 for a year, and from then on; by the days of rules each year, and only in leap years
+# whose February ends on a Sunday; for a second; and not at all, but in how they are written.
+cat >was <<'EOF'
+Rule T 2007 max - Mar Sun>=8 2:00 1:00 D
+Rule T 2007 max - Nov Sun>=1 2:00 0 S
+Rule F 2007 max - Feb lastSun 2:00 1:00 D
+Rule F 2007 max - Nov Sun>=1 2:00 0 S
+Zone P/before 0:01 - LMT 1890
+1 - AAA
+Zone P/year 1 - AAA
+Zone P/after 1 - AAA
+Zone P/days -5:00 T E%sT
+Zone P/leap -5:00 F E%sT
+Zone P/second 1 - AAA 2000
+2 - BBB
+Zone P/same 1 - AAA
+Zone P/old 1 - OLD
+EOF
+cat >now <<'EOF'
+Rule T 2007 2030 - Mar Sun>=8 2:00 1:00 D
+Rule T 2031 max - Mar Sun>=1 2:00 1:00 D
+Rule T 2007 max - Nov Sun>=1 2:00 0 S
+Rule F 2007 max - Feb Sun>=22 2:00 1:00 D
+Rule F 2007 max - Nov Sun>=1 2:00 0 S
+Zone P/before 0:02 - LMT 1890
+1 - AAA
+Zone P/year 1 - AAA 2450
+2 - BBB 2451
+1 - AAA
+Zone P/after 1 - AAA 2450
+2 - BBB
+Zone P/days -5:00 T E%sT
+Zone P/leap -5:00 F E%sT
+Zone P/second 1 - AAA 2000 Jan 1 0:00:01
+2 - BBB
+Zone P/same 1 - AAA 2000
+1 - AAA
+Zone P/new 1 - NEW
+EOF
+for source in was now; do "$program" build "$source.tree" "$source"; done
+echo "summary, edges: $(summarize was now 1800000000) and $(summarize now was 15178917600)"
+"$program" diff --summary old old | cmp - /dev/null
+# trees, whose names come in another order
+cmp <("$program" diff --trees old.tree new.tree | sort) <("$program" diff old new | sort)
+cmp <("$program" diff --summary --trees --now 0 old.tree new.tree | sort) <("$program" diff --summary --now 0 old new | sort)
+"$program" diff --trees old.tree old.tree | cmp - /dev/null
+"$program" verify --strict old.tree old
 for workers in 1 2 64; do
     "$program" diff --workers "$workers" old new | cmp - <("$program" diff old new)
 done

@@ -41,27 +41,37 @@ class File:
         self.times = transitions(path.read_bytes())
         self.ignored = ignored
 
+    def local(self, t):
+        return (EPOCH + timedelta(seconds=t)).astimezone(self.zone)
+
     def at(self, t):
-        local = (EPOCH + timedelta(seconds=t)).astimezone(self.zone)
+        local = self.local(t)
         seconds = int(local.utcoffset().total_seconds())
         sign, rest = '-' if seconds < 0 else '+', abs(seconds)
         offset = f'{sign}{rest // 3600:02}:{rest // 60 % 60:02}:{rest % 60:02}'
         flag = '' if 'daylight' in self.ignored else str(int(bool(local.dst())))
         return offset, flag, '' if 'abbreviation' in self.ignored else local.tzname()
 
+    def whole(self, t):
+        """Returns what isn't compared too."""
+        local = self.local(t)
+        return local.utcoffset(), local.dst(), local.tzname()
+
     def changes(self, first, last):
         """Returns instants, among them each at which the answer changes."""
         found = [t for t in self.times if first < t <= last]
         t = max(first, self.times[-1] if self.times else first)
+        answer = self.whole(t)
         while t < last:
             later = min(t + SAMPLE, last)
-            if self.at(t) != self.at(later):
+            after = self.whole(later)
+            if answer != after:
                 low, high = t, later
                 while high - low > 1:
                     middle = (low + high) // 2
-                    low, high = (middle, high) if self.at(middle) == self.at(t) else (low, middle)
+                    low, high = (middle, high) if self.whole(middle) == answer else (low, middle)
                 found.append(high)
-            t = later
+            t, answer = later, after
         return found
 
 

@@ -43,6 +43,7 @@ OPTIONS = {
     "ns": ["--unit", "ns"],
     "rfc3339": ["--from", "rfc3339"],
     "header": ["--header"],
+    "iso": ["--style", "iso"],
     "append": ["--append"],
     "going": ["--keep-going", "--faults", "FILE"],
     "space": ["--delimiter", " "],
@@ -152,11 +153,17 @@ def faulty_row(column, name, count, start):
     """the row of a record with a fault"""
     if count is None:
         return start
+    empty = 3 if "iso" in column.chosen else 4
     if "append" in column.chosen:
-        return start + 4 * column.delimiter
+        return start + empty * column.delimiter
     text = io.StringIO()
-    csv.writer(text, delimiter=column.delimiter).writerow([name, count, "", "", "", ""])
+    csv.writer(text, delimiter=column.delimiter).writerow([name, count, *empty * [""]])
     return text.getvalue().removesuffix("\r\n")
+
+
+def iso_offset(offset):
+    """the offset of a row after its local time: without its seconds, if it has none"""
+    return offset[:-3] if offset.endswith(":00") else offset
 
 
 def row_by(column, zone, name, count, start):
@@ -165,12 +172,16 @@ def row_by(column, zone, name, count, start):
     local, *rest = rest_of(zone, second).split(",")
     if column.digits:
         local += f".{fraction:0{column.digits}}"
+    if "iso" in column.chosen:
+        local += iso_offset(rest.pop(0))
     return column.delimiter.join([*([start] if "append" in column.chosen else [name, str(count)]), local, *rest])
 
 
 def rows_of(column, zones):
     """the rows of a column by zoneinfo's zones, each with its line end, as one text, and the faults, each as --faults writes it"""
     starts, names = iter(column.starts), ["zone", "instant", "local", "offset", "daylight", "abbreviation"]
+    if "iso" in column.chosen:
+        names.remove("offset")
     rows, faults = [], []
     if "header" in column.chosen:
         header = next(starts)
@@ -195,7 +206,8 @@ def words_of(chosen, path):
 
 def told_of(faults):
     """what is told of rows with faults"""
-    return f"row {faults[0].replace(',', ': ')}\n{len(faults)} rows with faults\n" if faults else ""
+    count = "1 row with a fault" if len(faults) == 1 else f"{len(faults)} rows with faults"
+    return f"row {faults[0].replace(',', ': ')}\n{count}\n" if faults else ""
 
 
 def compare_texts(what, text, wanted):

@@ -6,9 +6,10 @@ usage: lines.py PROGRAM FOLDER
 
 The columns are random, of a fixed seed: lines of a zone and an instant, some between double quotes, with a double quote more in one of
 eight, with another number of fields, other names and other instants, and line ends of all kinds. The program converts each by 1 and 4 workers
-and pieces of 1,024 and 3 rows, from a file and through a pipe in bursts; in parts, cut between lines; and columns without a double quote as CSV
-too. Prints a line for each comparison, and the first differences; the status is 1 if there is one.
+and pieces of 1,024 and 3 rows, from a file and through a pipe in bursts; with a limit of the length of a line; in parts, cut between lines; and
+columns without a double quote as CSV too. Prints a line for each comparison, and the first differences; the status is 1 if there is one.
 """
+import contextlib
 import csv
 import random
 import re
@@ -69,15 +70,22 @@ def row(line):
     return f",{local.replace(tzinfo=None).isoformat()},{rest}", None
 
 
-def wanted(lines):
-    """the rows of lines, and their faults"""
+def wanted(lines, most=None):
+    """the rows of lines, and their faults, where a line may have so many bytes"""
     rows, faults = [], []
     for number, line in enumerate(lines, 1):
         rest, fault = row(line)
+        if most is not None and len(line.encode()) > most:
+            line, rest, fault = decoded(line.encode()[:most + 4]), "", "RowTooLong"
         rows.append(line + rest + "\n")
         if fault:
             faults.append(f"{number},{fault}\n")
     return "".join(rows), faults
+
+
+def decoded(data):
+    """bytes as text, also those of half a letter"""
+    return data.decode(errors="surrogateescape")
 
 
 def told(faults):
@@ -85,7 +93,8 @@ def told(faults):
     if not faults:
         return 0, ""
     number, kind = faults[0].strip().split(",")
-    return 1, f"row {number}: {kind}\n{len(faults)} rows with faults\n"
+    count = "1 row with a fault" if len(faults) == 1 else f"{len(faults)} rows with faults"
+    return 1, f"row {number}: {kind}\n{count}\n"
 
 
 def converted(words, text, burst):
@@ -93,16 +102,19 @@ def converted(words, text, burst):
     data = text.encode()
     if not burst:
         ran = subprocess.run(words, input=data, stdout=subprocess.PIPE, stderr=subprocess.PIPE)
-        return ran.returncode, ran.stdout.decode(), ran.stderr.decode()
+        return ran.returncode, decoded(ran.stdout), ran.stderr.decode()
     ran = subprocess.Popen(words, stdin=subprocess.PIPE, stdout=open(words[-1] + ".out", "wb"), stderr=subprocess.PIPE)
-    for at in range(0, len(data), burst):
-        ran.stdin.write(data[at:at + burst])
-        ran.stdin.flush()
-    ran.stdin.close()
+    # A run that ends at a record reads no more.
+    with contextlib.suppress(BrokenPipeError):
+        for at in range(0, len(data), burst):
+            ran.stdin.write(data[at:at + burst])
+            ran.stdin.flush()
+    with contextlib.suppress(BrokenPipeError):
+        ran.stdin.close()
     error = ran.stderr.read().decode()
     status = ran.wait()
     with open(words[-1] + ".out", "rb") as file:
-        return status, file.read().decode(), error
+        return status, decoded(file.read()), error
 
 
 def compare(program, folder, what, lines, text):
@@ -134,6 +146,28 @@ def in_parts(program, folder, lines):
     if "".join(rows) != wanted(lines)[0]:
         files.differ("parts: other rows than the whole")
     files.report(f"{len(rows)} parts, cut between lines")
+
+
+def of_a_length(program, folder, lines):
+    """rows with the first bytes of lines that are longer than a limit, and by csv, where lines have no double quote, up to the first"""
+    for _ in range(200):
+        some = random.sample(lines, random.randint(1, 8))
+        plain = random.randrange(2) == 0
+        some = [line.replace('"', "") if plain else line for line in some]
+        most = random.choice([1, len(some[0].encode()), max(len(line.encode()) for line in some), random.randint(8, 30)])
+        short = next((i for i, line in enumerate(some) if len(line.encode()) > most), None)
+        rows, faults = wanted(some[:short])
+        status, error = told(faults)
+        answers = {"csv": (status, rows, error) if short is None else (1, rows, f"row {short + 1}: RowTooLong\n{error}")}
+        rows, faults = wanted(some, most)
+        answers["lines"] = (told(faults)[0], rows, told(faults)[1])
+        text = "".join(line + random.choice(ENDS) for line in some)
+        for kind in ("lines", "csv") if plain else ("lines",):
+            words = [program, "convert", "--records", kind, "--append", "--keep-going", "--max-record", str(most), f"{folder}/source"]
+            for burst in 0, 1:
+                if converted(words, text, burst) != answers[kind]:
+                    files.differ(f"{text!r} with lines of at most {most} bytes: other rows or faults")
+    files.report("200 short columns with a limit of lines, whole and byte by byte")
 
 
 def without_quotes(program, folder, lines):
@@ -168,6 +202,7 @@ def main():
     compare(program, folder, "a long column", lines, text)
     short = lines[:2000]
     compare(program, folder, "a short column", short, "\n".join(short))
+    of_a_length(program, folder, short)
     in_parts(program, folder, lines)
     without_quotes(program, folder, lines)
     sys.exit(files.found["in all"] != 0)

@@ -1,14 +1,17 @@
 #!/usr/bin/env python3
 """Has the program convert columns of local times, and compares the rows with those of Python's zoneinfo.
 
-usage: local_columns.py PROGRAM SOURCE FOLDER
+usage: local_columns.py PROGRAM SOURCE FOLDER PROBE
 
-FOLDER has the folder `ours` with the program's files of the source. A column has, of each name, local times round changes of the UT offset from
-1900 to 2100, as local_times.py takes them, and 100,000 local times at random, in an order by a fixed seed and with a T or a space. It is converted by
-each choice for gaps and folds, by the source and by the files, by 1 and by 4 threads, with --append, with another delimiter and in milliseconds, and
-each row is compared with what zoneinfo has by its two folds: the instants of the local time, and in a gap the offsets before it and after it
-(PEP 495). Prints a line for all of them, and the first differences; the status is 1 if there is one.
+FOLDER has the folder `ours` with the program's files of the source. A column has, of each name, the local times round each change of the UT offset
+from 1900 to 2100, as local_times.py takes them, and 1,000,000 local times at random, in an order by a fixed seed and with a T or a space. It is
+converted by each choice for gaps and folds, by the source with 1 thread and by the files with 4, and each row is compared with what zoneinfo has by
+its two folds: the instants of the local time, and in a gap the offsets before it and after it (PEP 495). The first 100,000 of these are converted by
+other forms too: with --append, with another delimiter, in other units, and with --style iso. What zoneinfo has is compared with the kit's jiff too, of
+all local times that are not at random, by PROBE, the program of crates/probe. Prints a line for all of them, and the first differences; the status is
+1 if there is one.
 """
+import itertools
 import random
 import subprocess
 import sys
@@ -16,17 +19,20 @@ from datetime import datetime, timedelta
 from zoneinfo import ZoneInfo
 
 import files
+from layouts import iso_offset
 from local_times import EPOCH, FIRST, LAST, locals_near, offset_at
 from rows import row
 
 CHOICES = ["reject", "earlier", "later", "compatible"]
-RANDOM = 100_000
-CHANGES = 4
-# words, the delimiter, the digits of a fraction, and whether rows begin with their records
+RANDOM = 1_000_000
+FEW = 100_000
+# words, the delimiter, the digits of a fraction, whether rows begin with their records, and whether the offset stands after local time
 FORMS = [
-    ([], ",", 0, False),
-    (["--append"], ",", 0, True),
-    (["--delimiter", ";", "--unit", "ms"], ";", 3, False),
+    ([], ",", 0, False, False),
+    (["--append"], ",", 0, True, False),
+    (["--delimiter", ";", "--unit", "ms"], ";", 3, False, False),
+    (["--style", "iso"], ",", 0, False, True),
+    (["--style", "iso", "--append", "--unit", "us"], ",", 6, True, True),
 ]
 
 
@@ -55,7 +61,7 @@ def times_of(folder, names, zones):
     for name in names:
         zone = zones[name]
         changes = [t for t in files.instants_of(files.file_of(files.octets_of(f"{folder}/{name}"))) if FIRST <= t < LAST and offset_at(zone, t - 1) != offset_at(zone, t)]
-        for change in random.sample(changes, min(CHANGES, len(changes))):
+        for change in changes:
             for local in locals_near(zone, change):
                 yield name, local
     for _ in range(RANDOM):
@@ -76,20 +82,32 @@ def column_of(times, delimiter, digits):
     return records, fractions
 
 
-def wanted(times, zones, choice, form, records, fractions):
-    """the rows and the faults of a column"""
-    _, delimiter, digits, appends = form
-    rows, faults = [], []
+def wanted(times, zones, form, records, fractions):
+    """for each choice the rows and the faults of a column"""
+    _, delimiter, _, appends, _ = form
+    by_choice = {choice: ([], []) for choice in CHOICES}
     for number, ((name, local, instants, read), record, fraction) in enumerate(zip(times, records, fractions), 1):
         start = record if appends else delimiter.join([name, text_of(local, fraction)])
-        instant = chosen(choice, instants, read)
-        if isinstance(instant, str):
-            faults.append(f"{number},{instant}")
-            rows.append(record + 4 * delimiter)
-        else:
-            count = str(instant * 10 ** digits + int(fraction[1:] or 0))
-            rows.append(delimiter.join([start, count, *row("", zones[name], instant).split(",")[3:]]))
-    return rows, faults
+        texts = {}
+        for choice, (rows, faults) in by_choice.items():
+            instant = chosen(choice, instants, read)
+            if instant not in texts:
+                texts[instant] = row_text(zones[name], instant, fraction, form, start, record)
+            rows.append(texts[instant])
+            if isinstance(instant, str):
+                faults.append(f"{number},{instant}")
+    return by_choice
+
+
+def row_text(zone, instant, fraction, form, start, record):
+    """the row of a record, or of a fault"""
+    _, delimiter, digits, _, iso = form
+    if isinstance(instant, str):
+        return record + 4 * delimiter
+    shown, *rest = row("", zone, instant).split(",")[2:]
+    if iso:
+        rest[0] = shown + fraction + iso_offset(rest[0])
+    return delimiter.join([start, str(instant * 10 ** digits + int(fraction[1:] or 0)), *rest])
 
 
 def compare(program, words, choice, records, rows, faults, list_path):
@@ -107,7 +125,18 @@ def compare(program, words, choice, records, rows, faults, list_path):
             files.differ(f"{what}: {record}: {ours}, and not {theirs}")
 
 
-def main(program, source, folder):
+def by_jiff(probe, path, times):
+    """compares what local times of a file mean with what jiff tells: alone, and by the three choices"""
+    asked = "".join(f"{local}\n" for _, local, *_ in times)
+    done = subprocess.run([probe, "jiff_local", path], input=asked, capture_output=True, text=True, check=True)
+    for (_, local, instants, read), line in zip(times, done.stdout.splitlines()):
+        wanted = [chosen(choice, instants, read) for choice in CHOICES]
+        if line != " ".join("-" if isinstance(t, str) else str(t) for t in wanted):
+            files.differ(f"{path}: {local}: {line} by jiff, and not {wanted}")
+    return len(done.stdout.splitlines())
+
+
+def main(program, source, folder, probe):
     random.seed(530)
     ours = f"{folder}/ours"
     names = files.names_of(ours)
@@ -116,13 +145,15 @@ def main(program, source, folder):
         with open(f"{ours}/{name}", "rb") as file:
             zones[name] = ZoneInfo.from_file(file, name)
     times = [(name, local, *meant(zones[name], local)) for name, local in times_of(ours, names, zones)]
+    near = sum(by_jiff(probe, f"{ours}/{name}", list(group)) for name, group in itertools.groupby(times[:-RANDOM], lambda time: time[0]))
+    files.report(f"{near} local times by jiff")
     random.shuffle(times)
     count = 0
     for form in FORMS:
-        words, delimiter, digits, _ = form
-        records, fractions = column_of(times, delimiter, digits)
-        for choice in CHOICES:
-            rows, faults = wanted(times, zones, choice, form, records, fractions)
+        words, delimiter, digits, *_ = form
+        some = times[:FEW] if words else times
+        records, fractions = column_of(some, delimiter, digits)
+        for choice, (rows, faults) in wanted(some, zones, form, records, fractions).items():
             for by in [["--workers", "1", source], ["--workers", "4", "--row-piece", "97", "--tree", ours]]:
                 compare(program, [*words, *by], choice, records, rows, faults, f"{folder}/faults")
                 count += len(rows)

@@ -7,9 +7,20 @@ usage: readers.py PROGRAM LIST FOLDER
 The footers are those of LIST, one a line, and of the TZif files in FOLDER. PROGRAM is that of crates/probe, which is asked by the
 call `strings states` of its word `rows`: one second before each edge from 1970 to 2500, at the edge, and one second after it.
 
-A reader may differ only where it is known to (docs/DECISIONS.md, "Other readers of footers"), and there has to show just what its
-own way gives: an instant where it does is left out. PROGRAM may never differ from the definitions as footers.py has them. Prints
-the numbers of footers, instants, differences and instants left out, and the first differences; the status is 1 if there is one.
+A reader may differ only where it is known to, and there has to show just what its own way gives: an instant where it does is left
+out. PROGRAM may never differ from the definitions as footers.py has them. Prints the numbers of footers, instants, differences and
+instants left out, and the first differences; the status is 1 if there is one. These differences are known:
+
+- Both use only the start and the end of the instant's own UT year. So they differ if an edge falls in another UT year than its own
+  (`AAA0BBB,0/-167,J100`), and at the beginning of a year if a start and an end changed their order from one year to the next
+  (`AAA0BBB,M2.5.0,M2.5.1`). POSIX doesn't say that edges count in their own year alone.
+- glibc shows standard time throughout a year whose start and end are one instant (`AAA0BBB,J60,J60/3`).
+- zoneinfo reads a day counted from 0 as one day too early, and takes `J59` for February 29 in leap years.
+- zoneinfo chooses the abbreviation by local time: if that is in another year than UT, it may be the wrong one.
+- Python has no UT offset of 24 hours or more, so zoneinfo is asked for the local time, from which the offset follows.
+- zoneinfo of 3.11.2 and earlier refuses a time with a `+` or with hours of three digits.
+- zoneinfo gives no daylight flag where there is no saving, so only offset and abbreviation are compared. Nothing before 1970 is
+  compared, since glibc uses the edges of 1970 for every year before it.
 """
 import io
 import os

@@ -7,7 +7,7 @@
 # - tries each example of docs/errors.txt, and compares docs/ERRORS.md and the texts of `explain`
 #   with what is made of it;
 # - looks for each command and option of docs/help in the manual page and in the completions, and
-#   tries the completions in bash;
+#   tries the completions in bash and zsh;
 # - prints the index of promises and public functions, and looks for functions without an edit or a
 #   test;
 # - checks links, the length of README.md, and the names in docs/PROOF.md.
@@ -162,25 +162,13 @@ try_entry() {
 
 try_errors() (
     set +eu
-    word='' name='' setup='' wrong='' prints='' right='' examples=0
+    name='' setup='' wrong='' prints='' right='' examples=0
     enter_home errors || exit
+    # Each line of what errors.py prints is the assignments of an entry.
     while IFS= read -r line; do
-        case $line in
-        ';'* | '') ;;
-        '# '* | '## '*)
-            try_entry
-            name=${line#'#'} name=${name#'#'} name=${name#' '} word=
-            ;;
-        '  '*)
-            case $word in
-            setup | wrong | prints | right) printf -v "$word" '%s' "${!word}${!word:+$'\n'}${line#  }" ;;
-            esac
-            ;;
-        *:) word=${line%:} ;;
-        *) differ "errors.txt: $line" ;;
-        esac
-    done <"$repository/docs/errors.txt"
-    try_entry
+        eval "$line"
+        try_entry
+    done < <("$repository/docs/errors.py" examples)
     echo "pages: the examples of $examples entries of errors.txt are tried"
 )
 
@@ -192,10 +180,11 @@ for page in README.md docs/USING.md docs/ZIC.md docs/SCALE.md; do
 done
 try_errors &
 for part in "${parts[@]}" $!; do wait "$part" || differ 'a page or the examples were not run to their end'; done
-cmp -s <(docs/make-errors.sh) docs/ERRORS.md ||
-    differ 'docs/ERRORS.md is not what docs/make-errors.sh makes'
-cmp -s <(docs/make-texts.sh) crates/zic_explain/src/texts.rt ||
-    differ 'crates/zic_explain/src/texts.rt is not what docs/make-texts.sh makes'
+cmp -s <(docs/errors.py page) docs/ERRORS.md || differ 'docs/ERRORS.md is not what docs/errors.py makes'
+for part in source other; do
+    file=crates/zic_explain/src/${part}_texts.rt
+    cmp -s <(docs/errors.py "$part") "$file" || differ "$file is not what docs/errors.py makes"
+done
 for page in docs/errors.txt docs/help/*.txt; do
     awk 'length > 79 { print; bad = 1 } END { exit bad }' "$page" >&2 ||
         differ "$page has lines of more than 79 characters"
@@ -211,10 +200,7 @@ done
 while IFS= read -r name; do
     "$pzic" explain "$name" >"$work/explained" 2>"$work/told" || differ "$name is not explained"
     [ ! -s "$work/told" ] || differ "explain $name says '$(cat "$work/told")'"
-    [ "$(head -n 1 "$work/explained")" = "$name" ] || differ "the explanation of $name has another name"
-    awk -v "name=$name" '/^#/ { here = substr($0, 4) == name } here && /^  / { print }' docs/errors.txt |
-        grep -vxFf "$work/explained" >"$work/unsaid" || true
-    [ ! -s "$work/unsaid" ] || differ "the explanation of $name lacks: $(head -n 1 "$work/unsaid")"
+    docs/errors.py explain "$name" | cmp -s - "$work/explained" || differ "$name is explained otherwise than in docs/errors.txt"
 done < <(sed -n 's/^## //p' docs/errors.txt)
 # Each name of an error in the sources of the program has an entry.
 kinds=(crates/zic_base/src/fault.rt crates/zic_base/src/row_fault.rt crates/zic_tzif/src/reason.rt)
@@ -266,13 +252,34 @@ completed() {
         _pzic
         printf "%s\n" "${COMPREPLY[@]}"' bash "$@" | sort
 }
-for name in check build convert show dump explain; do
+for name in check build verify diff convert show dump explain; do
     words=$(completed pzic "$name" --)
     [ "$words" = "$(options_of "$name")" ] || differ "bash completes 'pzic $name --' by '$words'"
 done
 words=$(completed pzic '')
 [ "$words" = $'build\ncheck\nconvert\ndiff\ndump\nexplain\nshow\nverify' ] || differ "bash completes 'pzic' by '$words'"
-! has 'the completions of zsh' zsh || zsh -n completions/_pzic || differ 'zsh can not read completions/_pzic'
+printf 'Zone Test/One 1 - CET\nZone Test/Two 2 - EET\n' >"$work/two.zi"
+mkdir "$work/bin"
+ln -s "$PWD/$pzic" "$work/bin/pzic"
+words=$(PATH=$work/bin:$PATH completed pzic convert "$work/two.zi" --zone Test/T)
+[ "$words" = Test/Two ] || differ "bash completes a zone of a source by '$words'"
+# Prints the line that zsh makes of another one by the key Tab.
+completed_by_zsh() {
+    # shellcheck disable=SC2016
+    timeout 60 zsh -f -c '
+        zmodload zsh/zpty
+        zpty shell zsh -f -i
+        zpty -w shell "fpath=($PWD/completions \$fpath); autoload -Uz compinit; compinit -u -D; bindkey \"^I\" complete-word"
+        zpty -w shell "show() { print -r -- \$BUFFER >$2; BUFFER=exit; zle accept-line }; zle -N show; bindkey \"^O\" show"
+        zpty -w -n shell "$1"$'\''\t\x0f'\''
+        while zpty -r shell line; do :; done' zsh "$1" "$work/line"
+    cat "$work/line"
+}
+if has 'the completions of zsh' zsh; then
+    zsh -n completions/_pzic || differ 'zsh can not read completions/_pzic'
+    line=$(PATH=$work/bin:$PATH completed_by_zsh "pzic convert $work/two.zi --zone Test/T")
+    [ "$line" = "pzic convert $work/two.zi --zone Test/Two " ] || differ "zsh completes a zone of a source to '$line'"
+fi
 
 # ------------------------------------------------------------------ the pages themselves
 

@@ -2,6 +2,7 @@
 # Checks what depends on how standard input and output are read and written: pipes, short reads, a terminal, progress.
 # It gives lines one by one, and columns without an end, and looks at the line of progress and the record that `--explain` reads
 # again.
+# Alone: its lines come at intervals.
 set -euo pipefail
 cd "$(dirname "${BASH_SOURCE[0]}")/../.."
 . tests/common.sh
@@ -35,6 +36,18 @@ for seconds in 0 0.005; do
     ask convert plain
     told "pzic convert plain, an octet at a time every $seconds s" 0 "$utc"$'\n'"$utc"$'\n'"$utc" ''
 done
+# A header in which fields have names: one that comes an octet at a time, one of 70,000 bytes, and one that can't be read.
+printf 'time,zone\r\n0,Etc/UTC\r\n0,Etc/UTC' >column
+python3 "$columns" drip 0 <column >pipe &
+ask convert --skip-header --zone-field zone --time-field time plain
+told 'pzic convert --zone-field zone, an octet at a time' 0 "$utc"$'\n'"$utc" ''
+{ head -c 70000 /dev/zero | tr '\0' x && printf ',zone,time\n,Etc/UTC,0\n,Etc/UTC,0\n'; } >column
+cat column >pipe &
+ask convert --skip-header --zone-field zone --time-field time plain
+told 'pzic convert --zone-field zone, after a field of 70,000 bytes' 0 "$utc"$'\n'"$utc" ''
+input=.
+ask convert --skip-header --zone-field zone plain
+told 'pzic convert --zone-field zone <.' 3 '' 'cannot read column'
 rm pipe
 input=/dev/null
 # No row waits for the next line.

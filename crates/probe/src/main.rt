@@ -10,6 +10,7 @@ mod input;
 mod rows;
 mod stop;
 
+use by_jiff::Query;
 use input::word;
 use std::io::{self, ErrorKind};
 use std::process::ExitCode;
@@ -26,7 +27,8 @@ fn run(rt: &HostRuntime, name: &str) -> io::Result<ExitCode> {
     match name {
         "counts" => counts::run(rt),
         "changes" => changes::run(rt),
-        "jiff" => by_jiff::run(rt),
+        "jiff" => by_jiff::run(rt, Query::Instants),
+        "jiff_local" => by_jiff::run(rt, Query::LocalTimes),
         "rows" => rows::run(rt),
         _ => Err(io::Error::from(ErrorKind::InvalidInput)),
     }

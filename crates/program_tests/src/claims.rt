@@ -151,8 +151,8 @@ fn four(claims: &Claims, mut pass: Pass) -> [Claim; 4]
 /// Returns how often a claim stands in a row.
 fn count(row: &[Claim; 4], claim: Claim) -> usize {
     let mut count = 0usize;
-    for stands in row {
-        if *stands == claim {
+    for item in row {
+        if *item == claim {
             count = count.wrapping_add(1);
         }
     }

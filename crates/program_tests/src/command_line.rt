@@ -7,14 +7,14 @@ use std::process::Abort;
 use zic_command_line::parse;
 
 /// Returns the request that the words make.
-fn asked(rt: &impl Abort, alloc: Global, line: &str) -> String {
+fn request_of(rt: &impl Abort, alloc: Global, line: &str) -> String {
     let words = words_of(rt, alloc, line);
-    let asked = must(rt, parse(alloc, &words));
-    must(rt, format!(in alloc; "{:?}", asked.request))
+    let line = must(rt, parse(alloc, &words));
+    must(rt, format!(in alloc; "{:?}", line.request))
 }
 
 /// Words, and what they ask for.
-static REQUESTS: [(&str, &str); 21] = [
+static REQUESTS: [(&str, &str); 23] = [
     (
         "pzic check -",
         "Check { source: \"-\", plan: Plan { workers: 4, zone_piece: 16, row_piece: 1, max_rows: 0, max_bytes: 0 } }",
@@ -29,23 +29,23 @@ static REQUESTS: [(&str, &str); 21] = [
     ),
     (
         "pzic build D a",
-        "Build { folder: \"D\", sources: [\"a\"], plan: Plan { workers: 4, zone_piece: 16, row_piece: 1, max_rows: 0, max_bytes: 0 }, links: Copy, sync: false }",
+        "Build(Building { folder: \"D\", sources: [\"a\"], plan: Plan { workers: 4, zone_piece: 16, row_piece: 1, max_rows: 0, max_bytes: 0 }, links: Copy, sync: false, release: None, tables: None })",
     ),
     (
         "pzic build --workers 1 D a - b",
-        "Build { folder: \"D\", sources: [\"a\", \"-\", \"b\"], plan: Plan { workers: 1, zone_piece: 16, row_piece: 1, max_rows: 0, max_bytes: 0 }, links: Copy, sync: false }",
+        "Build(Building { folder: \"D\", sources: [\"a\", \"-\", \"b\"], plan: Plan { workers: 1, zone_piece: 16, row_piece: 1, max_rows: 0, max_bytes: 0 }, links: Copy, sync: false, release: None, tables: None })",
     ),
     (
         "pzic build --links copy D a",
-        "Build { folder: \"D\", sources: [\"a\"], plan: Plan { workers: 4, zone_piece: 16, row_piece: 1, max_rows: 0, max_bytes: 0 }, links: Copy, sync: false }",
+        "Build(Building { folder: \"D\", sources: [\"a\"], plan: Plan { workers: 4, zone_piece: 16, row_piece: 1, max_rows: 0, max_bytes: 0 }, links: Copy, sync: false, release: None, tables: None })",
     ),
     (
         "pzic build --links hard D a",
-        "Build { folder: \"D\", sources: [\"a\"], plan: Plan { workers: 4, zone_piece: 16, row_piece: 1, max_rows: 0, max_bytes: 0 }, links: Hard, sync: false }",
+        "Build(Building { folder: \"D\", sources: [\"a\"], plan: Plan { workers: 4, zone_piece: 16, row_piece: 1, max_rows: 0, max_bytes: 0 }, links: Hard, sync: false, release: None, tables: None })",
     ),
     (
         "pzic build --sync D a --links=symlink",
-        "Build { folder: \"D\", sources: [\"a\"], plan: Plan { workers: 4, zone_piece: 16, row_piece: 1, max_rows: 0, max_bytes: 0 }, links: Symbolic, sync: true }",
+        "Build(Building { folder: \"D\", sources: [\"a\"], plan: Plan { workers: 4, zone_piece: 16, row_piece: 1, max_rows: 0, max_bytes: 0 }, links: Symbolic, sync: true, release: None, tables: None })",
     ),
     ("pzic show f 12", "Show { file: \"f\", instant: 12 }"),
     ("pzic show f -- -1", "Show { file: \"f\", instant: -1 }"),
@@ -63,42 +63,50 @@ static REQUESTS: [(&str, &str); 21] = [
     ),
     (
         "pzic convert a",
-        "Convert(Conversion { zones: Source(\"a\"), plan: Plan { workers: 4, zone_piece: 16, row_piece: 1024, max_rows: 100000000, max_bytes: 4294967296 }, layout: Layout { zone: Field(0), time: 1, from: Count, count: Exactly(2), unit: Second, delimiter: Delimiter { byte: 44 }, records: Csv, header: Absent, start: Fields, at_fault: End }, faults: None, progress: false })",
+        "Convert(Conversion { zones: Source(\"a\"), plan: Plan { workers: 4, zone_piece: 16, row_piece: 1024, max_rows: 100000000, max_bytes: 4294967296 }, layout: Layout { zone: Field(0), time: 1, from: Count, count: Exactly(2), unit: Second, delimiter: Delimiter { byte: 44 }, records: Csv, header: Absent, max_record: None, start: Fields, style: Fields, at_fault: End }, names: FieldNames { zone: None, time: None }, faults: None, rejects: None, progress: false, shows_release: false })",
     ),
     (
         "pzic convert --workers 1 --zone-piece 2 a --row-piece 65536 --max-rows 0 --max-bytes 0",
-        "Convert(Conversion { zones: Source(\"a\"), plan: Plan { workers: 1, zone_piece: 2, row_piece: 65536, max_rows: 0, max_bytes: 0 }, layout: Layout { zone: Field(0), time: 1, from: Count, count: Exactly(2), unit: Second, delimiter: Delimiter { byte: 44 }, records: Csv, header: Absent, start: Fields, at_fault: End }, faults: None, progress: false })",
+        "Convert(Conversion { zones: Source(\"a\"), plan: Plan { workers: 1, zone_piece: 2, row_piece: 65536, max_rows: 0, max_bytes: 0 }, layout: Layout { zone: Field(0), time: 1, from: Count, count: Exactly(2), unit: Second, delimiter: Delimiter { byte: 44 }, records: Csv, header: Absent, max_record: None, start: Fields, style: Fields, at_fault: End }, names: FieldNames { zone: None, time: None }, faults: None, rejects: None, progress: false, shows_release: false })",
     ),
     (
-        "pzic convert --progress a --workers 64",
-        "Convert(Conversion { zones: Source(\"a\"), plan: Plan { workers: 64, zone_piece: 16, row_piece: 1024, max_rows: 100000000, max_bytes: 4294967296 }, layout: Layout { zone: Field(0), time: 1, from: Count, count: Exactly(2), unit: Second, delimiter: Delimiter { byte: 44 }, records: Csv, header: Absent, start: Fields, at_fault: End }, faults: None, progress: true })",
+        "pzic convert --progress a --max-record 100 --workers 64",
+        "Convert(Conversion { zones: Source(\"a\"), plan: Plan { workers: 64, zone_piece: 16, row_piece: 1024, max_rows: 100000000, max_bytes: 4294967296 }, layout: Layout { zone: Field(0), time: 1, from: Count, count: Exactly(2), unit: Second, delimiter: Delimiter { byte: 44 }, records: Csv, header: Absent, max_record: Some(100), start: Fields, style: Fields, at_fault: End }, names: FieldNames { zone: None, time: None }, faults: None, rejects: None, progress: true, shows_release: false })",
     ),
     (
         "pzic convert --header a --progress",
-        "Convert(Conversion { zones: Source(\"a\"), plan: Plan { workers: 4, zone_piece: 16, row_piece: 1024, max_rows: 100000000, max_bytes: 4294967296 }, layout: Layout { zone: Field(0), time: 1, from: Count, count: Exactly(2), unit: Second, delimiter: Delimiter { byte: 44 }, records: Csv, header: First, start: Fields, at_fault: End }, faults: None, progress: true })",
+        "Convert(Conversion { zones: Source(\"a\"), plan: Plan { workers: 4, zone_piece: 16, row_piece: 1024, max_rows: 100000000, max_bytes: 4294967296 }, layout: Layout { zone: Field(0), time: 1, from: Count, count: Exactly(2), unit: Second, delimiter: Delimiter { byte: 44 }, records: Csv, header: First, max_record: None, start: Fields, style: Fields, at_fault: End }, names: FieldNames { zone: None, time: None }, faults: None, rejects: None, progress: true, shows_release: false })",
     ),
     (
         "pzic convert --skip-header --zone Etc/UTC --unit ms --delimiter tab a",
-        "Convert(Conversion { zones: Source(\"a\"), plan: Plan { workers: 4, zone_piece: 16, row_piece: 1024, max_rows: 100000000, max_bytes: 4294967296 }, layout: Layout { zone: Name(\"Etc/UTC\"), time: 0, from: Count, count: Exactly(1), unit: Millisecond, delimiter: Delimiter { byte: 9 }, records: Csv, header: Skipped, start: Fields, at_fault: End }, faults: None, progress: false })",
+        "Convert(Conversion { zones: Source(\"a\"), plan: Plan { workers: 4, zone_piece: 16, row_piece: 1024, max_rows: 100000000, max_bytes: 4294967296 }, layout: Layout { zone: Name(\"Etc/UTC\"), time: 0, from: Count, count: Exactly(1), unit: Millisecond, delimiter: Delimiter { byte: 9 }, records: Csv, header: Skipped, max_record: None, start: Fields, style: Fields, at_fault: End }, names: FieldNames { zone: None, time: None }, faults: None, rejects: None, progress: false, shows_release: false })",
     ),
     (
-        "pzic convert --append --keep-going --records lines --faults f a",
-        "Convert(Conversion { zones: Source(\"a\"), plan: Plan { workers: 4, zone_piece: 16, row_piece: 1024, max_rows: 100000000, max_bytes: 4294967296 }, layout: Layout { zone: Field(0), time: 1, from: Count, count: AtLeast(2), unit: Second, delimiter: Delimiter { byte: 44 }, records: Lines, header: Absent, start: Record, at_fault: GoOn }, faults: Some(\"f\"), progress: false })",
+        "pzic convert --append --keep-going --records lines --faults f --rejects g a",
+        "Convert(Conversion { zones: Source(\"a\"), plan: Plan { workers: 4, zone_piece: 16, row_piece: 1024, max_rows: 100000000, max_bytes: 4294967296 }, layout: Layout { zone: Field(0), time: 1, from: Count, count: AtLeast(2), unit: Second, delimiter: Delimiter { byte: 44 }, records: Lines, header: Absent, max_record: None, start: Record, style: Fields, at_fault: Reject }, names: FieldNames { zone: None, time: None }, faults: Some(\"f\"), rejects: Some(\"g\"), progress: false, shows_release: false })",
     ),
     (
         "pzic convert --zone-field 3 --time-field 1 --unit ns --from rfc3339 --tree a",
-        "Convert(Conversion { zones: Tree(\"a\"), plan: Plan { workers: 4, zone_piece: 16, row_piece: 1024, max_rows: 100000000, max_bytes: 4294967296 }, layout: Layout { zone: Field(2), time: 0, from: Rfc3339, count: AtLeast(3), unit: Nanosecond, delimiter: Delimiter { byte: 44 }, records: Csv, header: Absent, start: Fields, at_fault: End }, faults: None, progress: false })",
+        "Convert(Conversion { zones: Tree(\"a\"), plan: Plan { workers: 4, zone_piece: 16, row_piece: 1024, max_rows: 100000000, max_bytes: 4294967296 }, layout: Layout { zone: Field(2), time: 0, from: Rfc3339, count: AtLeast(3), unit: Nanosecond, delimiter: Delimiter { byte: 44 }, records: Csv, header: Absent, max_record: None, start: Fields, style: Fields, at_fault: End }, names: FieldNames { zone: None, time: None }, faults: None, rejects: None, progress: false, shows_release: false })",
     ),
     (
         "pzic convert --zone-field 3 --time-field 1 --from local --ambiguous later --tree a",
-        "Convert(Conversion { zones: Tree(\"a\"), plan: Plan { workers: 4, zone_piece: 16, row_piece: 1024, max_rows: 100000000, max_bytes: 4294967296 }, layout: Layout { zone: Field(2), time: 0, from: Local(Later), count: AtLeast(3), unit: Second, delimiter: Delimiter { byte: 44 }, records: Csv, header: Absent, start: Fields, at_fault: End }, faults: None, progress: false })",
+        "Convert(Conversion { zones: Tree(\"a\"), plan: Plan { workers: 4, zone_piece: 16, row_piece: 1024, max_rows: 100000000, max_bytes: 4294967296 }, layout: Layout { zone: Field(2), time: 0, from: Local(Later), count: AtLeast(3), unit: Second, delimiter: Delimiter { byte: 44 }, records: Csv, header: Absent, max_record: None, start: Fields, style: Fields, at_fault: End }, names: FieldNames { zone: None, time: None }, faults: None, rejects: None, progress: false, shows_release: false })",
+    ),
+    (
+        "pzic convert --zone-field 3 --time-field 1 --style iso --from local --tree a",
+        "Convert(Conversion { zones: Tree(\"a\"), plan: Plan { workers: 4, zone_piece: 16, row_piece: 1024, max_rows: 100000000, max_bytes: 4294967296 }, layout: Layout { zone: Field(2), time: 0, from: Local(Reject), count: AtLeast(3), unit: Second, delimiter: Delimiter { byte: 44 }, records: Csv, header: Absent, max_record: None, start: Fields, style: Iso, at_fault: End }, names: FieldNames { zone: None, time: None }, faults: None, rejects: None, progress: false, shows_release: false })",
+    ),
+    (
+        "pzic convert --zone-field tz --time-field +2 --header a",
+        "Convert(Conversion { zones: Source(\"a\"), plan: Plan { workers: 4, zone_piece: 16, row_piece: 1024, max_rows: 100000000, max_bytes: 4294967296 }, layout: Layout { zone: Field(0), time: 1, from: Count, count: AtLeast(2), unit: Second, delimiter: Delimiter { byte: 44 }, records: Csv, header: First, max_record: None, start: Fields, style: Fields, at_fault: End }, names: FieldNames { zone: Some(\"tz\"), time: None }, faults: None, rejects: None, progress: false, shows_release: false })",
     ),
 ];
 
 #[test]
 fn words_are_a_request(rt: HostRuntime) {
     for (line, want) in &REQUESTS {
-        let got = asked(&rt, rt.alloc(), *line);
+        let got = request_of(&rt, rt.alloc(), *line);
         expect_text(&rt, got.as_bytes(), want.as_bytes(), *line);
     }
 }

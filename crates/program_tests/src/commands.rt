@@ -21,7 +21,7 @@ fn plan(rt: &impl Abort, workers: u64) -> Plan {
 }
 
 /// Returns the text and status of a failure, if the answer is one.
-fn told<T: Drop>(rt: &impl Abort, alloc: Global, answer: Result<T, Failure>) -> String {
+fn reported<T: Drop>(rt: &impl Abort, alloc: Global, answer: Result<T, Failure>) -> String {
     match answer {
         Ok(_) => String::new(alloc),
         Err(failure) => failure_text(rt, alloc, failure),
@@ -34,22 +34,27 @@ fn failure_text(rt: &impl Abort, alloc: Global, failure: Failure) -> String {
     must(rt, format!(in alloc; "{failure}, status {status}"))
 }
 
-/// Ends the test where something else is told of the answer of a command.
-fn expect_told<T: Drop>(rt: &impl Abort, alloc: Global, answer: Result<T, Failure>, want: &str) {
-    let text = told(rt, alloc, answer);
-    expect_text(rt, text.as_bytes(), want.as_bytes(), "what is told");
+/// Ends the test where something else is reported of the answer of a command.
+fn expect_reported<T: Drop>(
+    rt: &impl Abort,
+    alloc: Global,
+    answer: Result<T, Failure>,
+    want: &str,
+) {
+    let text = reported(rt, alloc, answer);
+    expect_text(rt, text.as_bytes(), want.as_bytes(), "what is reported");
 }
 
 #[test]
-fn what_is_not_read_is_told(rt: HostRuntime) {
+fn what_is_not_read_is_reported(rt: HostRuntime) {
     let device = Device::new(b"Zone", 1, Err(ErrorKind::Other));
     let mut reader = Counted::new(device);
     let answer = read_source_text(rt.alloc(), "zones", &mut reader);
-    expect_told(&rt, rt.alloc(), answer, "cannot read zones, status 3");
+    expect_reported(&rt, rt.alloc(), answer, "cannot read zones, status 3");
     expect(&rt, reader.failures() == 1, "a failure of the reader");
     let device = Device::new(UTC_FILE, 100, Err(ErrorKind::Other));
     let answer = read_file_bytes(rt.alloc(), "utc", &mut Counted::new(device));
-    expect_told(&rt, rt.alloc(), answer, "cannot read utc, status 3");
+    expect_reported(&rt, rt.alloc(), answer, "cannot read utc, status 3");
 }
 
 #[test]
@@ -59,9 +64,9 @@ fn what_is_not_flushed_is_not_written(rt: HostRuntime) {
     let text = copy_of(&rt, rt.alloc(), "Zone Etc/UTC 0 - UTC\n");
     let texts = slice::from_ref(&text);
     let answer = check(&rt, rt.alloc(), &plan(&rt, 1), texts, &mut writer);
-    expect_told(&rt, rt.alloc(), answer, want);
+    expect_reported(&rt, rt.alloc(), answer, want);
     let answer = show(rt.alloc(), UTC_FILE, 0, &mut writer);
-    expect_told(&rt, rt.alloc(), answer, want);
+    expect_reported(&rt, rt.alloc(), answer, want);
     let local = must(&rt, LocalTime::new(i64::MAX / 2).ok_or(()));
     expect(
         &rt,
@@ -69,9 +74,9 @@ fn what_is_not_flushed_is_not_written(rt: HostRuntime) {
         "the seconds of a local time",
     );
     let answer = show_local(rt.alloc(), UTC_FILE, &local, &mut writer);
-    expect_told(&rt, rt.alloc(), answer, want);
+    expect_reported(&rt, rt.alloc(), answer, want);
     let years = must(&rt, Years::new(2, 2500).ok_or(()));
     let answer = dump(rt.alloc(), "f", UTC_FILE, &years, &mut writer);
-    expect_told(&rt, rt.alloc(), answer, want);
+    expect_reported(&rt, rt.alloc(), answer, want);
     expect(&rt, writer.failures() == 4, "the failures of the writer");
 }

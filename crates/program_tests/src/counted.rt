@@ -150,8 +150,8 @@ fn callers_tell_failed_reads(rt: HostRuntime) {
     expect(&rt, read == Some(5) && reader.failures() == 1, "five bytes");
     let mut reader = Counted::new(Scripted { answers: &GIVEN });
     let read = read_whole(&mut reader, &mut bytes);
-    let is_told = read.is_none() && reader.has_failed_since(1);
-    expect(&rt, is_told && reader.failures() == 2, "a failed read");
+    let is_reported = read.is_none() && reader.has_failed_since(1);
+    expect(&rt, is_reported && reader.failures() == 2, "a failed read");
 }
 
 #[test]
@@ -189,21 +189,21 @@ static WHOLE: [(&str, &[Answer], bool, usize); 5] = [
     ("1 0", &[Ok(1), Ok(0), Ok(4)], false, 1),
 ];
 
-/// Returns whether a write of all of `abcd` to a writer with these answers comes to this.
-fn is_whole(answers: &[Answer], all: bool, unasked: usize) -> bool {
+/// Returns whether a write of all of `abcd` to a writer with these answers ends so.
+fn is_whole(answers: &[Answer], all: bool, unused: usize) -> bool {
     let mut writer = Counted::new(Scripted { answers });
-    let told = match write_all(&mut writer, b"abcd") {
+    let reported = match write_all(&mut writer, b"abcd") {
         Ok(()) => all,
         Err(WriteFailed) => !all,
     };
     let failed = writer.has_failed_since(0);
-    told && failed != all && writer.into_inner().answers.len() == unasked
+    reported && failed != all && writer.into_inner().answers.len() == unused
 }
 
 #[test]
 fn all_is_written_up_to_the_first_failure_also_of_a_flush(rt: HostRuntime) {
-    for (title, answers, all, unasked) in &WHOLE {
-        expect(&rt, is_whole(*answers, *all, *unasked), *title);
+    for (title, answers, all, unused) in &WHOLE {
+        expect(&rt, is_whole(*answers, *all, *unused), *title);
     }
     let mut writer = Counted::new(Scripted {
         answers: &[Ok(0), OTHER],

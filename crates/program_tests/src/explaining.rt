@@ -3,10 +3,8 @@
 
 use crate::samples::{expect_text, must};
 use zic_base::{Kind, RowKind};
-use zic_explain::{
-    QuotedLines, RecordForm, entries, expectation, line_place, nearest_zone, quote_place,
-    row_place, shown_word,
-};
+use zic_explain::{entries, expectation, shown_word};
+use zic_places::{QuotedLines, RecordForm, line_place, nearest_zone, quote_place, row_place};
 use zic_plan::{TimeFrom, Unit};
 
 /// Two fields with a comma between them: the name of a zone and seconds.
@@ -59,8 +57,8 @@ fn no_zone_is_near_and_nothing_is_expected(rt: HostRuntime) {
     );
     expect_text(&rt, nearest.as_bytes(), b"", "the nearest zone");
     let entries = must(&rt, entries(rt.alloc()));
-    let told = must(&rt, expectation(rt.alloc(), &entries, "no thread"));
-    expect_text(&rt, told.as_bytes(), b"", "what is expected");
+    let reported = must(&rt, expectation(rt.alloc(), &entries, "no thread"));
+    expect_text(&rt, reported.as_bytes(), b"", "what is expected");
 }
 
 /// Words, and what is shown of them.

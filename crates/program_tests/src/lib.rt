@@ -1,6 +1,6 @@
 //! Tests of what the program is built on: pieces, counted readers and writers, columns and rows;
-//! the files of sources, columns converted with them, and the commands. They are a separate crate,
-//! because a crate with tests is proved twice.
+//! the files of sources, their differences, columns converted with them, and the commands. They are
+//! a separate crate, because a crate with tests is proved twice.
 #![tactic(auto)]
 
 #[cfg(test)]
@@ -13,6 +13,8 @@ mod command_line;
 mod commands;
 #[cfg(test)]
 mod counted;
+#[cfg(test)]
+mod differences;
 #[cfg(test)]
 mod explaining;
 #[cfg(test)]

@@ -3,8 +3,8 @@
 use crate::samples::{expect, expect_text, must};
 use std::process::Abort;
 use zic_base::State;
-use zic_plan::Unit;
-use zic_rows::{RowText, StateText, quick_time};
+use zic_plan::{Style, Unit};
+use zic_rows::{RowRest, RowText, StateText, quick_time};
 
 /// Where a record and its instant begin, and where they end.
 #[derive(Clone, Copy, Drop)]
@@ -72,7 +72,12 @@ fn push(
     } = part;
     if start <= instant && instant <= end && end <= bytes.len() {
         if let Some(time) = quick_time(bytes, instant, end, unit) {
-            must(rt, text.push_row(bytes, start, end, time, state));
+            let rest = RowRest {
+                time,
+                state,
+                style: Style::Fields,
+            };
+            must(rt, text.push_row(bytes, start, end, &rest));
             return;
         }
     }

@@ -40,8 +40,8 @@ pub fn expect_text(rt: &impl Abort, got: &[u8], want: &[u8], what: &str) {
 /// Returns how often a byte stands in a text.
 pub fn count_of(text: &[u8], byte: u8) -> usize {
     let mut count = 0usize;
-    for stands in text {
-        if *stands == byte {
+    for item in text {
+        if *item == byte {
             count = count.wrapping_add(1);
         }
     }

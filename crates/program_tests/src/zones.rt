@@ -8,8 +8,8 @@ use crate::samples::{expect_text, must};
 use std::process::Abort;
 use zic_files::Files;
 use zic_pieces::Open;
-use zic_plan::Unit;
-use zic_rows::{RowText, StateText, quick_time};
+use zic_plan::{Style, Unit};
+use zic_rows::{RowRest, RowText, StateText, quick_time};
 use zic_zones::{RowStates, RowZones, SourceZones, UNKNOWN, Zones};
 
 /// A zone with no rule, one with two changes a year, 4 and 8 months apart, and one whose two changes
@@ -85,7 +85,12 @@ fn push(rt: &impl Abort, text: &mut RowText, files: &Files, zones: &RowZones<'_>
         if let (Some(file), Some(time)) = (found, time) {
             if file < files.len() {
                 if let Some(state) = state_at(&zones.states(), file, time.second) {
-                    must(rt, text.push_row(record, 0, end, time, state));
+                    let rest = RowRest {
+                        time,
+                        state,
+                        style: Style::Fields,
+                    };
+                    must(rt, text.push_row(record, 0, end, &rest));
                     return;
                 }
             }

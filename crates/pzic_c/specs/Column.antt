@@ -1,4 +1,4 @@
--- What the cells of a column tell of a zone. Own choice.
+-- The cells of a column, by a zone. Own choice.
 use Rattle.std.specs.Prelude.{◌≡◌, ℕ, ℤ, ◌⊎◌, List, length, Option, Some, None}
 use Rattle.std.specs.List.{AllZip}
 use Rattle.zic_base.specs.State.{Shown}
@@ -24,12 +24,12 @@ AreFlagsAt content t flags = (answer : Option Shown) × Answers content t answer
 abbrev pub AreAsLong : List ℤ → List ℤ → List ℕ → Type 0
 AreAsLong instants offsets flags = (length offsets ≡ length instants) × (length flags ≡ length instants)
 
--- each offset and each flag tells what the file answers at the instant of its place
+-- each offset and each flag is what the file answers at the instant of its place
 pub record AreAnswersAt (content : Content) (instants : List ℤ) (offsets : List ℤ) (flags : List ℕ) : Type 0 where
-  pub offsets_told : AllZip (IsOffsetAt content) instants offsets
-  pub flags_told : AllZip (AreFlagsAt content) instants flags
+  pub given_offsets : AllZip (IsOffsetAt content) instants offsets
+  pub given_flags : AllZip (AreFlagsAt content) instants flags
 
--- The column is told; or its arrays differ in length, and stay as they were.
+-- The column is written; or its arrays differ in length, and stay as they were.
 abbrev pub AreOffsetsGiven : Content → List ℤ → ℤ → List ℤ → List ℕ → List ℤ → List ℕ → Type 0
 AreOffsetsGiven content instants status offsets_before flags_before offsets flags =
     ((status ≡ OK) × AreAnswersAt content instants offsets flags)

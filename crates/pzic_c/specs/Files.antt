@@ -1,4 +1,4 @@
--- What the calls on files tell. Own choice.
+-- What the calls on files return. Own choice.
 use Rattle.std.specs.Prelude.{◌≡◌, ◌≢◌, ℕ, ℤ, ◌<◌, ◌≤◌, ◌⊎◌, List, length, slice_get, All, IsSomeAnd, Option, Some, None}
 use Rattle.zic_files.specs.File.{File}
 use Rattle.pzic_c.specs.Handle.{content_at, content_of}
@@ -12,7 +12,7 @@ IsFound files name status before number =
     ((status ≡ OK) × IsSomeAnd (slice_get files number) (λ file. file.name ≡ name))
     ⊎ ((status ≡ NO_SUCH) × (number ≡ before) × All (λ file. file.name ≢ name) files)
 
--- A part of the file of the number is told: its length, and as much of it as there is room for; or no file has the number, and nothing is written.
+-- A part of the file of the number is returned: its length, and as much of it as there is room for; or no file has the number, and nothing is written.
 abbrev pub IsPartCopied : (File → List ℕ) → List File → ℕ → ℤ → List ℕ → List ℕ → ℕ → ℕ → Type 0
 IsPartCopied part files number status before after count_before count =
     IsSomeAnd (slice_get files number) (λ file. IsTextCopied (part file) status before after count)

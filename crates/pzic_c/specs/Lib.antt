@@ -3,10 +3,14 @@ pub mod CivilTime
 pub mod code
 pub mod Column
 pub mod Files
+pub mod FilesOf
 pub mod Handle
+pub mod Layout
+pub mod LayoutRows
 pub mod Local
 pub mod Names
 pub mod Owned
+pub mod RowColumn
 pub mod Rows
 pub mod Source
 pub mod State

@@ -1,9 +1,10 @@
--- What the calls on local times tell. Own choice.
+-- What the calls on local times return. Own choice.
+use Rattle.pzic_c.specs.Column.{AreAsLong}
 use Rattle.std.specs.Prelude.{◌≡◌, ℕ, ℤ, pos, ◌⊎◌, List, length, Option, Some, None, Result, Ok, Err, MatchResult}
 use Rattle.std.specs.List.{AllZip}
 use Rattle.zic_tzif.specs.Content.{Content}
 use Rattle.zic_local.specs.Choice.{Means, IsUnresolved}
-use Rattle.zic_local.specs.LocalTime.{IsInRange, Tells}
+use Rattle.zic_local.specs.LocalTime.{IsInRange, AnswersLocal}
 use Rattle.zic_plan.specs.declared.disambiguation.Disambiguation.{Disambiguation}
 use Rattle.zic_plan.specs.declared.disambiguation.Disambiguation.TheVariants as choice
 use Rattle.zic_local.specs.declared.disambiguation.Unresolved.{Unresolved}
@@ -20,18 +21,18 @@ local_time_of (instants.One t) = record { first = t; last = t; change = pos 0; b
 local_time_of (instants.Fold fold) = record { first = fold.first; last = fold.last; change = pos 0; before = pos 0; after = pos 0; count = fold.count }
 local_time_of instants.Unspecified = record { first = pos 0; last = pos 0; change = pos 0; before = pos 0; after = pos 0; count = 0 }
 
--- the status that tells of a local time
-abbrev pub status_of_told : LocalInstants → ℤ
-status_of_told (instants.Gap gap) = OK
-status_of_told (instants.One t) = OK
-status_of_told (instants.Fold fold) = OK
-status_of_told instants.Unspecified = UNSPECIFIED
+-- the status for the instants of a local time
+abbrev pub status_of_instants : LocalInstants → ℤ
+status_of_instants (instants.Gap gap) = OK
+status_of_instants (instants.One t) = OK
+status_of_instants (instants.Fold fold) = OK
+status_of_instants instants.Unspecified = UNSPECIFIED
 
 -- The instants of a local time are given, or the gap that it is in; or it is so near an end of 64 bits that its instants may be outside, and
 -- nothing is written.
 abbrev pub IsLocalTimeGiven : Content → ℤ → ℤ → LocalTime → LocalTime → Type 0
 IsLocalTimeGiven content local status before found =
-    (IsInRange local × ((told : LocalInstants) × Tells content local told × (status ≡ status_of_told told) × (found ≡ local_time_of told)))
+    (IsInRange local × ((reported : LocalInstants) × AnswersLocal content local reported × (status ≡ status_of_instants reported) × (found ≡ local_time_of reported)))
     ⊎ ((IsInRange local → ⊥) × (status ≡ OUT_OF_RANGE) × (found ≡ before))
 
 -- the number of a disambiguation
@@ -64,13 +65,9 @@ meant_status None = 9
 abbrev pub IsInstantMeant : Content → Disambiguation → ℤ → ℤ → Type 0
 IsInstantMeant content choice local t = (answer : Option (Result ℤ Unresolved)) × IsMeant content choice local answer × (t ≡ instant_of answer)
 
--- the status tells whether an instant is meant by a local time
+-- the status says whether an instant is meant by a local time
 abbrev pub IsStatusMeant : Content → Disambiguation → ℤ → ℕ → Type 0
 IsStatusMeant content choice local status = (answer : Option (Result ℤ Unresolved)) × IsMeant content choice local answer × (status ≡ meant_status answer)
-
--- the lists have as many items
-abbrev pub AreOfOneLength : List ℤ → List ℤ → List ℕ → Type 0
-AreOfOneLength locals instants statuses = (length instants ≡ length locals) × (length statuses ≡ length locals)
 
 -- each instant and each status is that of the local time of its place, by the disambiguation of a number
 pub record AreMeant (content : Content) (number : ℕ) (locals instants : List ℤ) (statuses : List ℕ) : Type 0 where
@@ -83,6 +80,6 @@ pub record AreMeant (content : Content) (number : ℕ) (locals instants : List �
 abbrev pub AreInstantsGiven : Content → ℕ → List ℤ → ℤ → List ℤ → List ℕ → List ℤ → List ℕ → Type 0
 AreInstantsGiven content number locals status instants_before statuses_before instants statuses =
     ((status ≡ OK) × AreMeant content number locals instants statuses)
-    ⊎ ((status ≡ LENGTHS) × (AreOfOneLength locals instants statuses → ⊥) × (instants ≡ instants_before) × (statuses ≡ statuses_before))
-    ⊎ ((status ≡ NO_SUCH) × AreOfOneLength locals instants statuses × ((choice : Disambiguation) → number ≡ choice_number choice → ⊥)
+    ⊎ ((status ≡ LENGTHS) × (AreAsLong locals instants statuses → ⊥) × (instants ≡ instants_before) × (statuses ≡ statuses_before))
+    ⊎ ((status ≡ NO_SUCH) × AreAsLong locals instants statuses × ((choice : Disambiguation) → number ≡ choice_number choice → ⊥)
     × (instants ≡ instants_before) × (statuses ≡ statuses_before))

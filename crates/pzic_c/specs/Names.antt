@@ -1,9 +1,9 @@
--- What a call tells of a name.
+-- What a call writes of a name.
 use Rattle.std.specs.Prelude.{◌≡◌, ℕ, ℤ, ◌⊎◌, List}
 use Rattle.pzic_c.specs.Text.{IsTextCopied}
 use Rattle.pzic_c.specs.declared.status.TheConstants.{NO_SUCH}
 
--- The name is told, or there is none, and nothing is written.
+-- The name is written, or there is none, and nothing is written.
 abbrev pub IsNameCopied : (List ℕ → Type 0) → ℤ → List ℕ → List ℕ → ℕ → ℕ → Type 0
 IsNameCopied Is status before after count_before count =
     ((name : List ℕ) × Is name × IsTextCopied name status before after count)

@@ -1,4 +1,4 @@
--- What the call that compiles a source tells. Own choice.
+-- What the call that compiles a source returns. Own choice.
 use Rattle.std.specs.Prelude.{◌≡◌, ◌≢◌, ℕ, ℤ, ◌⊎◌, List, [], ◌∷◌, length, take, drop, Option, Some, None, IfSome, IsSomeAnd}
 use Rattle.std.specs.List.{sum}
 use Rattle.zic_base.specs.Fault.{kind_number}
@@ -14,21 +14,21 @@ abbrev pub texts_in : List ℕ → List ℕ → List (List ℕ)
 texts_in [] bytes = []
 texts_in (n ∷ lengths) bytes = take n bytes ∷ texts_in lengths (drop n bytes)
 
--- The status and the fault tell why texts have no files: a fault's text, line and kind, or that memory ran out, and then the fault stays as it was.
+-- The status and the fault say why texts have no files: a fault's text, line and kind, or that memory ran out, and then the fault stays as it was.
 abbrev pub IsFaultGiven : Option Fault → ℤ → SourceFault → SourceFault → Type 0
-IsFaultGiven (Some fault) status before told =
-    (status ≡ BAD_SOURCE) × (told.text ≡ fault.place.text) × (told.line ≡ fault.place.line) × (told.kind ≡ kind_number fault.kind)
-IsFaultGiven None status before told = (status ≡ NO_MEMORY) × (told ≡ before)
+IsFaultGiven (Some fault) status before reported =
+    (status ≡ BAD_SOURCE) × (reported.text ≡ fault.place.text) × (reported.line ≡ fault.place.line) × (reported.kind ≡ kind_number fault.kind)
+IsFaultGiven None status before reported = (status ≡ NO_MEMORY) × (reported ≡ before)
 
--- The texts were compiled, and the handle holds their files; or they weren't, the handle holds nothing, and the first fault is told, or that memory ran
+-- The texts were compiled, and the handle holds their files; or they weren't, the handle holds nothing, and the first fault is returned, or that memory ran
 -- out, which may come at any time.
 abbrev pub IsCompiled : List (List ℕ) → ℤ → SourceFault → SourceFault → Option Held → Type 0
-IsCompiled texts status before told (Some held) = (status ≡ OK) × (told ≡ before) × IsSomeAnd (files_of held) (AreFilesOfTexts texts)
-IsCompiled texts status before told None =
-    (fault : Option Fault) × IfSome fault (IsFaultOfTexts texts) × IsFaultGiven fault status before told
+IsCompiled texts status before reported (Some held) = (status ≡ OK) × (reported ≡ before) × IsSomeAnd (files_of held) (AreFilesOfTexts texts)
+IsCompiled texts status before reported None =
+    (fault : Option Fault) × IfSome fault (IsFaultOfTexts texts) × IsFaultGiven fault status before reported
 
 -- The texts of these lengths were compiled, or not; or the lengths aren't those of texts that lie one after another here, and the handle holds nothing.
 abbrev pub AreCompiled : List ℕ → List ℕ → ℤ → SourceFault → SourceFault → Option Held → Type 0
-AreCompiled bytes lengths status before told held =
-    ((sum lengths ≡ length bytes) × IsCompiled (texts_in lengths bytes) status before told held)
-    ⊎ ((sum lengths ≢ length bytes) × (status ≡ LENGTHS) × (told ≡ before) × (held ≡ None))
+AreCompiled bytes lengths status before reported held =
+    ((sum lengths ≡ length bytes) × IsCompiled (texts_in lengths bytes) status before reported held)
+    ⊎ ((sum lengths ≢ length bytes) × (status ≡ LENGTHS) × (reported ≡ before) × (held ≡ None))

@@ -12,7 +12,7 @@ use std::alloc::Global;
 use zic_clocks::{next_change, previous_change, write_changes};
 use zic_tzif::Zone;
 
-/// Tells the first change after an instant.
+/// Gives the first change after an instant.
 fn tell_next(zone: &Zone, instant: i64, change: &mut i64) -> i32
     ensures { IsNextGiven zone.now instant result change.old change.new }
 {
@@ -25,7 +25,7 @@ fn tell_next(zone: &Zone, instant: i64, change: &mut i64) -> i32
     }
 }
 
-/// Tells the last change before an instant.
+/// Gives the last change before an instant.
 fn tell_previous(zone: &Zone, instant: i64, change: &mut i64) -> i32
     ensures { IsPreviousGiven zone.now instant result change.old change.new }
 {
@@ -38,7 +38,7 @@ fn tell_previous(zone: &Zone, instant: i64, change: &mut i64) -> i32
     }
 }
 
-/// Tells the changes after one instant and up to another, as many as there is room for.
+/// Gives the changes after one instant and up to another, as many as there is room for.
 fn tell_changes(zone: &Zone, first: i64, last: i64, room: &mut [i64], count: &mut usize) -> i32
     ensures { AreChangesGiven zone.now first last result room.old room.new count.new }
 {
@@ -46,7 +46,7 @@ fn tell_changes(zone: &Zone, first: i64, last: i64, room: &mut [i64], count: &mu
     OK
 }
 
-/// Tells the first change of local time after an instant.
+/// Gives the first change of local time after an instant.
 #[unsafe(no_mangle)]
 pub extern "C" fn pzic_raw_zone_next_change(
     alloc: Global,
@@ -55,12 +55,12 @@ pub extern "C" fn pzic_raw_zone_next_change(
     change: &mut i64,
 ) -> i32
     requires { IsHandle zone.old }
-    ensures kept { zone.new ≡ zone.old }
-    ensures told { MatchOption (zone_in zone.old)
+    ensures unchanged { zone.new ≡ zone.old }
+    ensures gives { MatchOption (zone_in zone.old)
         ((result ≡ NO_HANDLE) × (change.new ≡ change.old))
         (λ content. IsNextGiven content instant result change.old change.new) }
 {
-    zone.ask(
+    zone.lend(
         alloc,
         &mut |held: &Held| match held.zone() {
             Some(zone) => tell_next(zone, instant, change),
@@ -69,7 +69,7 @@ pub extern "C" fn pzic_raw_zone_next_change(
     )
 }
 
-/// Tells the last change of local time before an instant.
+/// Gives the last change of local time before an instant.
 #[unsafe(no_mangle)]
 pub extern "C" fn pzic_raw_zone_previous_change(
     alloc: Global,
@@ -78,12 +78,12 @@ pub extern "C" fn pzic_raw_zone_previous_change(
     change: &mut i64,
 ) -> i32
     requires { IsHandle zone.old }
-    ensures kept { zone.new ≡ zone.old }
-    ensures told { MatchOption (zone_in zone.old)
+    ensures unchanged { zone.new ≡ zone.old }
+    ensures gives { MatchOption (zone_in zone.old)
         ((result ≡ NO_HANDLE) × (change.new ≡ change.old))
         (λ content. IsPreviousGiven content instant result change.old change.new) }
 {
-    zone.ask(
+    zone.lend(
         alloc,
         &mut |held: &Held| match held.zone() {
             Some(zone) => tell_previous(zone, instant, change),
@@ -92,7 +92,7 @@ pub extern "C" fn pzic_raw_zone_previous_change(
     )
 }
 
-/// Tells the changes of local time after one instant and up to another, as many as there is room for.
+/// Gives the changes of local time after one instant and up to another, as many as there is room for.
 #[unsafe(no_mangle)]
 pub extern "C" fn pzic_raw_zone_changes(
     alloc: Global,
@@ -103,12 +103,12 @@ pub extern "C" fn pzic_raw_zone_changes(
     count: &mut usize,
 ) -> i32
     requires { IsHandle zone.old }
-    ensures kept { zone.new ≡ zone.old }
-    ensures told { MatchOption (zone_in zone.old)
+    ensures unchanged { zone.new ≡ zone.old }
+    ensures gives { MatchOption (zone_in zone.old)
         ((result ≡ NO_HANDLE) × (changes.new ≡ changes.old) × (count.new ≡ count.old))
         (λ content. AreChangesGiven content first last result changes.old changes.new count.new) }
 {
-    zone.ask(
+    zone.lend(
         alloc,
         &mut |held: &Held| match held.zone() {
             Some(zone) => tell_changes(zone, first, last, changes, count),

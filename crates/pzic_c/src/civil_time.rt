@@ -33,7 +33,7 @@ pub struct CivilTime {
 
 impl CivilTime {
     /// Turns to what clocks show at an instant, where a file answers this. Returns the status that
-    /// tells the answer.
+    /// says what the answer is.
     fn tell(&mut self, answer: Answer<'_>, instant: i64) -> i32
         ensures { IsCivilTime instant (answered answer.entry) result self.new }
     {
@@ -49,14 +49,14 @@ impl CivilTime {
     }
 }
 
-/// Tells the date and the time of day at an instant.
+/// Gives the date and the time of day at an instant.
 fn tell_civil(zone: &Zone, instant: i64, civil: &mut CivilTime) -> i32
     ensures { IsCivilTimeAt zone.now instant result civil.new }
 {
     civil.tell(zone.at(instant), instant)
 }
 
-/// Tells the date and the time of day at an instant.
+/// Gives the date and the time of day at an instant.
 #[unsafe(no_mangle)]
 pub extern "C" fn pzic_raw_zone_civil(
     alloc: Global,
@@ -65,12 +65,12 @@ pub extern "C" fn pzic_raw_zone_civil(
     civil: &mut CivilTime,
 ) -> i32
     requires { IsHandle zone.old }
-    ensures kept { zone.new ≡ zone.old }
-    ensures told { MatchOption (zone_in zone.old)
+    ensures unchanged { zone.new ≡ zone.old }
+    ensures gives { MatchOption (zone_in zone.old)
         ((result ≡ NO_HANDLE) × (civil.new ≡ civil.old))
         (λ content. IsCivilTimeAt content instant result civil.new) }
 {
-    zone.ask(
+    zone.lend(
         alloc,
         &mut |held: &Held| match held.zone() {
             Some(zone) => tell_civil(zone, instant, civil),

@@ -5,7 +5,7 @@ ghost use Rattle.std.specs.List.{AllZip};
 ghost use Rattle.zic_posix.specs.Instants.{Includes};
 ghost use Rattle.zic_tzif.specs.Content.{Content};
 ghost use Rattle.pzic_c.specs.Column.{IsOffsetAt, AreFlagsAt};
-ghost use Rattle.pzic_c.specs.code.Kept.{IsKept};
+ghost use Rattle.pzic_c.specs.code.Cached.{IsCached};
 
 use zic_tzif::{Answer, Instants, Zone};
 
@@ -16,7 +16,7 @@ const OPEN: u8 = 2;
 
 /// Columns with fewer instants keep one answer alone.
 const FEW: usize = 4096;
-/// The number of answers that are kept for a longer column.
+/// The number of answers that are cached for a longer column.
 const SLOTS: usize = 1024;
 /// The time of a slot has 2 to the power of this many seconds, 48 days.
 const SLOT_BITS: u32 = 22;
@@ -26,14 +26,14 @@ const ROUND: i64 = 4_294_967_296;
 
 /// What a zone says at some instants, in two numbers.
 #[derive(Clone, Copy)]
-struct Kept {
+struct Cached {
     instants: Instants,
     offset: i32,
     flags: u8,
 }
 
-/// What is kept before a zone was asked: of no instant.
-const NOTHING: Kept = Kept {
+/// What is cached before the first answer: of no instant.
+const NOTHING: Cached = Cached {
     instants: Instants { first: 0, last: -1 },
     offset: 0,
     flags: 0,
@@ -41,19 +41,19 @@ const NOTHING: Kept = Kept {
 
 /// Returns what a zone says at an instant, and the instants round it at which it says that.
 #[inline(never)]
-fn kept_round(zone: &Zone, t: i64) -> Kept
-    ensures asked { Includes result.instants t }
-    ensures kept { IsKept zone.now result }
+fn cached_round(zone: &Zone, t: i64) -> Cached
+    ensures requested { Includes result.instants t }
+    ensures cached { IsCached zone.now result }
 {
     let span = zone.span(t);
     let instants = span.instants;
     match span.answer {
-        Answer::Known(state) => Kept {
+        Answer::Known(state) => Cached {
             instants,
             offset: state.offset,
             flags: if state.daylight { DAYLIGHT } else { 0 },
         },
-        Answer::Unspecified => Kept {
+        Answer::Unspecified => Cached {
             instants,
             offset: 0,
             flags: OPEN,
@@ -61,63 +61,63 @@ fn kept_round(zone: &Zone, t: i64) -> Kept
     }
 }
 
-/// Asks a zone, and keeps what it says at an instant in a slot.
-fn renew(zone: &Zone, kept: &mut [Kept], slot: usize, t: i64) -> Kept
-    requires slot { slot < length kept.old }
-    requires all { All (IsKept zone.now) kept.old }
-    ensures all { All (IsKept zone.now) kept.new }
-    ensures asked { Includes result.instants t }
-    ensures kept { IsKept zone.now result }
+/// Looks up what a zone says at an instant, and caches it in a slot.
+fn renew(zone: &Zone, cached: &mut [Cached], slot: usize, t: i64) -> Cached
+    requires slot { slot < length cached.old }
+    requires all { All (IsCached zone.now) cached.old }
+    ensures all { All (IsCached zone.now) cached.new }
+    ensures requested { Includes result.instants t }
+    ensures cached { IsCached zone.now result }
 {
-    let made = kept_round(zone, t);
-    kept[slot] = made;
+    let made = cached_round(zone, t);
+    cached[slot] = made;
     made
 }
 
-/// Returns what a zone says at an instant. The zone is asked only where the slot of the instant's
-/// time doesn't tell it.
-fn ask(zone: &Zone, kept: &mut [Kept], t: i64) -> Kept
-    requires { All (IsKept zone.now) kept.old }
-    ensures all { All (IsKept zone.now) kept.new }
-    ensures asked { Includes result.instants t }
-    ensures kept { IsKept zone.now result }
+/// Returns what a zone says at an instant. It is looked up only where the slot of the instant's
+/// time doesn't have it.
+fn look_up(zone: &Zone, cached: &mut [Cached], t: i64) -> Cached
+    requires { All (IsCached zone.now) cached.old }
+    ensures all { All (IsCached zone.now) cached.new }
+    ensures requested { Includes result.instants t }
+    ensures cached { IsCached zone.now result }
 {
     let slot = (t.rem_euclid(ROUND) >> SLOT_BITS) as usize;
-    if slot >= kept.len() {
-        return kept_round(zone, t);
+    if slot >= cached.len() {
+        return cached_round(zone, t);
     }
-    if kept[slot].instants.contains(t) {
-        return kept[slot];
+    if cached[slot].instants.contains(t) {
+        return cached[slot];
     }
-    renew(zone, kept, slot, t)
+    renew(zone, cached, slot, t)
 }
 
 /// Returns what a zone says at an instant, where `last` is what it said at the one before.
 #[inline(always)]
-fn next(zone: &Zone, kept: &mut [Kept], last: Kept, t: i64) -> Kept
-    requires all { All (IsKept zone.now) kept.old }
-    requires last { IsKept zone.now last }
-    ensures all { All (IsKept zone.now) kept.new }
-    ensures asked { Includes result.instants t }
-    ensures kept { IsKept zone.now result }
+fn next(zone: &Zone, cached: &mut [Cached], last: Cached, t: i64) -> Cached
+    requires all { All (IsCached zone.now) cached.old }
+    requires last { IsCached zone.now last }
+    ensures all { All (IsCached zone.now) cached.new }
+    ensures requested { Includes result.instants t }
+    ensures cached { IsCached zone.now result }
 {
     if last.instants.contains(t) {
         last
     } else {
-        ask(zone, kept, t)
+        look_up(zone, cached, t)
     }
 }
 
-/// Writes what a zone says at each instant, with room for answers that are kept.
+/// Writes what a zone says at each instant, with room for cached answers.
 #[inline(always)]
 fn write_with(
     zone: &Zone,
-    kept: &mut [Kept],
+    cached: &mut [Cached],
     instants: &[i64],
     offsets: &mut [i32],
     flags: &mut [u8],
 )
-    requires kept { All (IsKept zone.now) kept.old }
+    requires cached { All (IsCached zone.now) cached.old }
     requires offsets { length offsets.old ≡ length instants.now }
     requires flags { length flags.old ≡ length instants.now }
     ensures offsets { AllZip (IsOffsetAt zone.now) instants.now offsets.new }
@@ -125,15 +125,15 @@ fn write_with(
 {
     let mut last = NOTHING;
     for i in 0..instants.len() {
-        last = next(zone, kept, last, instants[i]);
+        last = next(zone, cached, last, instants[i]);
         offsets[i] = last.offset;
         flags[i] = last.flags;
     }
 }
 
 /// Returns room for the answers of any zone. It holds no answer yet.
-fn nothing_kept() -> [Kept; SLOTS]
-    ensures { (content : Content) → All (IsKept content) result }
+fn nothing_cached() -> [Cached; SLOTS]
+    ensures { (content : Content) → All (IsCached content) result }
 {
     [NOTHING; SLOTS]
 }
@@ -146,8 +146,8 @@ fn write_many(zone: &Zone, instants: &[i64], offsets: &mut [i32], flags: &mut [u
     ensures offsets { AllZip (IsOffsetAt zone.now) instants.now offsets.new }
     ensures flags { AllZip (AreFlagsAt zone.now) instants.now flags.new }
 {
-    let mut kept = nothing_kept();
-    write_with(zone, &mut kept, instants, offsets, flags);
+    let mut cached = nothing_cached();
+    write_with(zone, &mut cached, instants, offsets, flags);
 }
 
 /// Writes what a zone says at each instant: the offset in seconds, positive east, and the flags.

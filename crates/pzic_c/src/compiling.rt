@@ -30,8 +30,8 @@ pub struct SourceFault {
     pub kind: u32,
 }
 
-/// Returns whether the lengths come to this many bytes together.
-fn is_whole(lengths: &[usize], count: usize) -> bool
+/// Returns whether the sum of the lengths is this number of bytes.
+pub(crate) fn is_whole(lengths: &[usize], count: usize) -> bool
     ensures { IsTrue result ↔ sum lengths.now ≡ count }
 {
     let mut left = count;
@@ -70,13 +70,13 @@ fn files_of_texts(alloc: Global, texts: &[u8], lengths: &[usize]) -> Result<File
     compile(alloc, &source)
 }
 
-/// Tells why texts have no files.
-fn refuse_source(stop: Stop, told: &mut SourceFault) -> i32
-    ensures { IsFaultGiven (fault_of stop) result told.old told.new }
+/// Gives why texts have no files.
+fn refuse_source(stop: Stop, reported: &mut SourceFault) -> i32
+    ensures { IsFaultGiven (fault_of stop) result reported.old reported.new }
 {
     match stop {
         Stop::Fault(fault) => {
-            *told = SourceFault {
+            *reported = SourceFault {
                 text: fault.place.text,
                 line: fault.place.line,
                 kind: u32::from(fault.kind.number()),

@@ -3,7 +3,7 @@
 ghost use Rattle.std.specs.Prelude.{◌≡◌, length};
 ghost use Rattle.pzic_c.specs.Text.{overwritten};
 
-/// Copies as much as there is room for, and tells the whole length.
+/// Copies as much as there is room for, and returns the whole length.
 pub(crate) fn copy(from: &[u8], room: &mut [u8], count: &mut usize)
     ensures room { room.new ≡ overwritten room.old from.now }
     ensures count { count.new ≡ length from.now }

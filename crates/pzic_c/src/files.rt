@@ -13,25 +13,25 @@ use std::alloc::Global;
 use std::sync::Arc;
 use zic_files::Files;
 
-/// Tells how many files there are.
+/// Gives how many files there are.
 fn tell_len(files: &Files, count: &mut usize) -> i32
     ensures status { result ≡ OK }
-    ensures told { count.new ≡ length files.now }
+    ensures gives { count.new ≡ length files.now }
 {
     *count = files.len();
     OK
 }
 
-/// Tells how many files a handle holds.
+/// Gives how many files a handle holds.
 #[unsafe(no_mangle)]
 pub extern "C" fn pzic_raw_files_len(alloc: Global, files: &mut Handle, count: &mut usize) -> i32
     requires { IsHandle files.old }
-    ensures kept { files.new ≡ files.old }
-    ensures told { MatchOption (files_in files.old)
+    ensures unchanged { files.new ≡ files.old }
+    ensures gives { MatchOption (files_in files.old)
         ((result ≡ NO_HANDLE) × (count.new ≡ count.old))
         (λ all. (result ≡ OK) × (count.new ≡ length all)) }
 {
-    files.ask(
+    files.lend(
         alloc,
         &mut |held: &Held| match held.files() {
             Some(all) => tell_len(all, count),
@@ -40,7 +40,7 @@ pub extern "C" fn pzic_raw_files_len(alloc: Global, files: &mut Handle, count: &
     )
 }
 
-/// Tells the number of the file of a name.
+/// Gives the number of the file of a name.
 fn find(files: &Files, name: &[u8], number: &mut usize) -> i32
     ensures { IsFound files.now name.now result number.old number.new }
 {
@@ -62,12 +62,12 @@ pub extern "C" fn pzic_raw_files_find(
     number: &mut usize,
 ) -> i32
     requires { IsHandle files.old }
-    ensures kept { files.new ≡ files.old }
+    ensures unchanged { files.new ≡ files.old }
     ensures found { MatchOption (files_in files.old)
         ((result ≡ NO_HANDLE) × (number.new ≡ number.old))
         (λ all. IsFound all name.now result number.old number.new) }
 {
-    files.ask(
+    files.lend(
         alloc,
         &mut |held: &Held| match held.files() {
             Some(all) => find(all, name, number),
@@ -76,7 +76,7 @@ pub extern "C" fn pzic_raw_files_find(
     )
 }
 
-/// Tells the name of a file.
+/// Gives the name of a file.
 fn copy_name(files: &Files, number: usize, room: &mut [u8], count: &mut usize) -> i32
     ensures { IsPartCopied (λ file. file.name) files.now number result room.old room.new count.old
         count.new }
@@ -88,7 +88,7 @@ fn copy_name(files: &Files, number: usize, room: &mut [u8], count: &mut usize) -
     OK
 }
 
-/// Tells the bytes of a file.
+/// Gives the bytes of a file.
 fn copy_bytes(files: &Files, number: usize, room: &mut [u8], count: &mut usize) -> i32
     ensures { IsPartCopied (λ file. file.image.octets) files.now number result room.old room.new
         count.old count.new }
@@ -110,13 +110,13 @@ pub extern "C" fn pzic_raw_files_name(
     count: &mut usize,
 ) -> i32
     requires { IsHandle files.old }
-    ensures kept { files.new ≡ files.old }
-    ensures told { MatchOption (files_in files.old)
+    ensures unchanged { files.new ≡ files.old }
+    ensures gives { MatchOption (files_in files.old)
         ((result ≡ NO_HANDLE) × (room.new ≡ room.old) × (count.new ≡ count.old))
         (λ all. IsPartCopied (λ file. file.name) all number result room.old room.new count.old
         count.new) }
 {
-    files.ask(
+    files.lend(
         alloc,
         &mut |held: &Held| match held.files() {
             Some(all) => copy_name(all, number, room, count),
@@ -135,13 +135,13 @@ pub extern "C" fn pzic_raw_files_bytes(
     count: &mut usize,
 ) -> i32
     requires { IsHandle files.old }
-    ensures kept { files.new ≡ files.old }
-    ensures told { MatchOption (files_in files.old)
+    ensures unchanged { files.new ≡ files.old }
+    ensures gives { MatchOption (files_in files.old)
         ((result ≡ NO_HANDLE) × (room.new ≡ room.old) × (count.new ≡ count.old))
         (λ all. IsPartCopied (λ file. file.image.octets) all number result room.old room.new
         count.old count.new) }
 {
-    files.ask(
+    files.lend(
         alloc,
         &mut |held: &Held| match held.files() {
             Some(all) => copy_bytes(all, number, room, count),
@@ -155,7 +155,7 @@ fn put_zone(alloc: Global, files: &Arc<Files>, number: usize, zone: &mut Handle)
     requires handle { IsHandle zone.old }
     requires empty { held_in zone.old ≡ None }
     ensures handle { IsHandle zone.new }
-    ensures told { IsZoneGiven files.now.value number result (held_in zone.new) }
+    ensures gives { IsZoneGiven files.now.value number result (held_in zone.new) }
 {
     if number >= files.len() {
         return NO_SUCH;
@@ -179,14 +179,14 @@ pub extern "C" fn pzic_raw_zone_of(
 ) -> i32
     requires files { IsHandle files.old }
     requires zone { IsHandle zone.old }
-    ensures kept { files.new ≡ files.old }
+    ensures unchanged { files.new ≡ files.old }
     ensures handle { IsHandle zone.new }
     ensures zone { MatchOption (files_in files.old)
         ((result ≡ NO_HANDLE) × (held_in zone.new ≡ None))
         (λ all. IsZoneGiven all number result (held_in zone.new)) }
 {
     drop(zone.take(alloc));
-    files.ask(
+    files.lend(
         alloc,
         &mut |held: &Held| match held.files() {
             Some(all) => put_zone(alloc, all, number, zone),

@@ -19,7 +19,7 @@ const NOTHING: u32 = 0;
 const ZONE: u32 = 1;
 /// The kind of a handle that holds files.
 const FILES: u32 = 2;
-/// The kind of a handle that holds the text of rows.
+/// The kind of a handle that holds rows.
 const ROWS: u32 = 3;
 
 /// A handle, which C keeps and passes to each call. All zeros is one that holds nothing.
@@ -48,10 +48,10 @@ impl Handle {
 
     /// Calls `answer` with what the handle holds, and returns its status, or `NO_HANDLE` if the handle
     /// holds nothing. The handle stays as it is, its pointer too.
-    pub(crate) fn ask<F: FnMut(&Held) -> i32>(&mut self, alloc: Global, answer: &mut F) -> i32
+    pub(crate) fn lend<F: FnMut(&Held) -> i32>(&mut self, alloc: Global, answer: &mut F) -> i32
         requires handle { IsHandle self.old }
         requires callable { (held : _) → F.pre answer.old held }
-        ensures kept { self.new ≡ self.old }
+        ensures unchanged { self.new ≡ self.old }
         ensures answered { MatchOption (held_in self.old)
             ((result ≡ NO_HANDLE) × (answer.new ≡ answer.old))
             (λ held. CalledAt F.FnMut answer.old held result answer.new) }
@@ -73,7 +73,7 @@ impl Handle {
         let kind = match held.as_ref() {
             Held::Zone(_) | Held::Member(_) => ZONE,
             Held::Files(_) => FILES,
-            Held::Text(_) => ROWS,
+            Held::Rows(_) => ROWS,
         };
         self.owned = Owned::of_parts(Parts::of(held));
         self.kind = kind;

@@ -3,21 +3,22 @@
 ghost use Rattle.std.specs.Prelude.{◌≡◌, ◌<◌, length, Some, None, IfOk, IfSome, MatchOption};
 ghost use Rattle.std.specs.Option.{option_copied};
 ghost use Rattle.pzic_c.specs.code.Near.{IsNear};
-ghost use Rattle.pzic_c.specs.Handle.{AreAlike, content_at, content_of, files_of, text_of};
+ghost use Rattle.pzic_c.specs.Handle.{AreAlike, content_at, content_of, files_of, rows_of};
 
+use crate::made::Made;
 use crate::member::{Member, Single};
 use std::alloc::{AllocError, Global};
 use std::sync::Arc;
 use zic_files::Files;
 use zic_tzif::Zone;
 
-/// What a handle holds. Handles of one zone, of the same files or of one text share it.
+/// What a handle holds. Handles of one zone, of the same files or of the same rows share it.
 #[derive(Drop)]
 pub(crate) enum Held {
     Zone(Single),
     Member(Member),
     Files(Arc<Files>),
-    Text(Arc<Vec<u8>>),
+    Rows(Arc<Made>),
 }
 
 impl Held {
@@ -29,7 +30,7 @@ impl Held {
         match self {
             Held::Zone(single) => Some(single.zone()),
             Held::Member(member) => Some(member.zone()),
-            Held::Files(_) | Held::Text(_) => None,
+            Held::Files(_) | Held::Rows(_) => None,
         }
     }
 
@@ -44,13 +45,13 @@ impl Held {
         }
     }
 
-    /// Returns the text of rows, if it is one.
-    pub(crate) fn text(&self) -> Option<&[u8]>
-        ensures { MatchOption result (text_of self.now ≡ None)
-            (λ text. text_of self.now ≡ Some text.now) }
+    /// Returns the rows, if there are any.
+    pub(crate) fn rows(&self) -> Option<&Made>
+        ensures { MatchOption result (rows_of self.now ≡ None)
+            (λ rows. rows_of self.now ≡ Some rows.now) }
     {
         match self {
-            Held::Text(text) => Some(text),
+            Held::Rows(rows) => Some(rows),
             _ => None,
         }
     }
@@ -63,7 +64,7 @@ impl Held {
             Held::Zone(single) => Held::Zone(single.again()?),
             Held::Member(member) => Held::Member(member.again()?),
             Held::Files(files) => Held::Files(Arc::try_clone(files)?),
-            Held::Text(text) => Held::Text(Arc::try_clone(text)?),
+            Held::Rows(rows) => Held::Rows(Arc::try_clone(rows)?),
         };
         Ok(Box::new(alloc, twin)?)
     }
@@ -99,10 +100,10 @@ pub(crate) fn hold_member(
     Ok(Box::new(alloc, Held::Member(Member { files, number }))?)
 }
 
-/// Returns what a handle of the text of rows holds.
-pub(crate) fn hold_text(alloc: Global, text: Vec<u8>) -> Result<Box<Held>, AllocError>
-    ensures { IfOk result (λ held. text_of held.value ≡ Some text.items) }
+/// Returns what a handle of rows holds.
+pub(crate) fn hold_rows(alloc: Global, rows: Made) -> Result<Box<Held>, AllocError>
+    ensures { IfOk result (λ held. rows_of held.value ≡ Some rows) }
 {
-    let text = Arc::new(alloc, text)?;
-    Ok(Box::new(alloc, Held::Text(text))?)
+    let rows = Arc::new(alloc, rows)?;
+    Ok(Box::new(alloc, Held::Rows(rows))?)
 }

@@ -1,5 +1,5 @@
 //! The calls of the library for C, C++, Python and whoever links it: `include/pzic.h` has them, and
-//! `docs/LIBRARY.md` tells of them. No call starts a thread, prints, aborts or keeps global state.
+//! `docs/LIBRARY.md` describes them. No call starts a thread, prints, aborts or keeps global state.
 #![tactic(auto)]
 
 mod changes;
@@ -8,14 +8,19 @@ mod column;
 mod compiling;
 mod copying;
 mod files;
+mod files_of;
 mod handle;
 mod held;
+mod layout;
+mod layout_rows;
 mod local;
 mod local_column;
+mod made;
 mod member;
 mod names;
 mod owned;
 mod parts;
+mod row_column;
 mod rows;
 mod sharing;
 mod state;

@@ -4,7 +4,7 @@ ghost use Rattle.std.specs.Prelude.{◌≡◌, ◌↔◌, IsTrue, MatchOption};
 ghost use Rattle.zic_local.specs.LocalTime.{IsInRange};
 ghost use Rattle.pzic_c.specs.code.Near.{IsNear};
 ghost use Rattle.pzic_c.specs.Handle.{IsHandle, zone_in};
-ghost use Rattle.pzic_c.specs.Local.{IsLocalTimeGiven, local_time_of, status_of_told};
+ghost use Rattle.pzic_c.specs.Local.{IsLocalTimeGiven, local_time_of, status_of_instants};
 ghost use Rattle.pzic_c.specs.declared.status.TheConstants.{NO_HANDLE};
 
 use crate::handle::Handle;
@@ -20,7 +20,7 @@ const FIRST: i64 = i64::MIN + FARTHEST_FILE_OFFSET as i64;
 /// The last of them.
 const LAST: i64 = i64::MAX - FARTHEST_FILE_OFFSET as i64;
 
-/// What a zone tells of a local time. What there isn't is 0.
+/// The instants of a local time in a zone. What there isn't is 0.
 #[repr(C)]
 #[derive(Drop)]
 pub struct LocalTime {
@@ -38,8 +38,8 @@ pub struct LocalTime {
 
 impl LocalTime {
     /// Returns what C sees of a local time.
-    fn new(told: LocalInstants) -> LocalTime
-        ensures { result ≡ local_time_of told }
+    fn new(reported: LocalInstants) -> LocalTime
+        ensures { result ≡ local_time_of reported }
     {
         let none = LocalTime {
             first: 0,
@@ -49,7 +49,7 @@ impl LocalTime {
             after: 0,
             count: 0,
         };
-        match told {
+        match reported {
             LocalInstants::Gap(gap) => LocalTime {
                 change: gap.change,
                 before: gap.before,
@@ -80,17 +80,17 @@ pub(crate) fn is_in_range(local: i64) -> bool
     FIRST <= local && local <= LAST
 }
 
-/// Returns the status of what is told of a local time.
-fn status_of(told: LocalInstants) -> i32
-    ensures { result ≡ status_of_told told }
+/// Returns the status of the instants of a local time.
+fn status_of(reported: LocalInstants) -> i32
+    ensures { result ≡ status_of_instants reported }
 {
-    match told {
+    match reported {
         LocalInstants::Unspecified => UNSPECIFIED,
         _ => OK,
     }
 }
 
-/// Tells the instants of a local time.
+/// Gives the instants of a local time.
 fn tell_local(zone: &Zone, local: i64, found: &mut LocalTime) -> i32
     requires { IsNear zone.now }
     ensures { IsLocalTimeGiven zone.now local result found.old found.new }
@@ -98,12 +98,12 @@ fn tell_local(zone: &Zone, local: i64, found: &mut LocalTime) -> i32
     if !is_in_range(local) {
         return OUT_OF_RANGE;
     }
-    let told = instants(zone, local);
-    *found = LocalTime::new(told);
-    status_of(told)
+    let reported = instants(zone, local);
+    *found = LocalTime::new(reported);
+    status_of(reported)
 }
 
-/// Tells the instants of a local time.
+/// Gives the instants of a local time.
 #[unsafe(no_mangle)]
 pub extern "C" fn pzic_raw_zone_instants(
     alloc: Global,
@@ -112,12 +112,12 @@ pub extern "C" fn pzic_raw_zone_instants(
     found: &mut LocalTime,
 ) -> i32
     requires { IsHandle zone.old }
-    ensures kept { zone.new ≡ zone.old }
+    ensures unchanged { zone.new ≡ zone.old }
     ensures found { MatchOption (zone_in zone.old)
         ((result ≡ NO_HANDLE) × (found.new ≡ found.old))
         (λ content. IsLocalTimeGiven content local result found.old found.new) }
 {
-    zone.ask(
+    zone.lend(
         alloc,
         &mut |held: &Held| match held.zone() {
             Some(zone) => tell_local(zone, local, found),

@@ -15,7 +15,7 @@ use std::alloc::Global;
 use zic_local::{Disambiguation, Unresolved, instant};
 use zic_tzif::Zone;
 
-/// The instant that is meant by a local time, and the status that tells whether there is one.
+/// The instant that is meant by a local time, and the status, which says whether there is one.
 #[derive(Clone, Copy)]
 struct Meant {
     instant: i64,
@@ -90,7 +90,7 @@ fn write(
     }
 }
 
-/// Tells the instants that are meant by local times, where the arrays are as long and the number is
+/// Gives the instants that are meant by local times, where the arrays are as long and the number is
 /// that of a disambiguation.
 fn tell_instants(
     zone: &Zone,
@@ -113,7 +113,7 @@ fn tell_instants(
     OK
 }
 
-/// Tells the instants that are meant by local times.
+/// Gives the instants that are meant by local times.
 #[unsafe(no_mangle)]
 pub extern "C" fn pzic_raw_zone_instants_array(
     alloc: Global,
@@ -124,13 +124,13 @@ pub extern "C" fn pzic_raw_zone_instants_array(
     statuses: &mut [u8],
 ) -> i32
     requires { IsHandle zone.old }
-    ensures kept { zone.new ≡ zone.old }
+    ensures unchanged { zone.new ≡ zone.old }
     ensures meant { MatchOption (zone_in zone.old)
         ((result ≡ NO_HANDLE) × (instants.new ≡ instants.old) × (statuses.new ≡ statuses.old))
         (λ content. AreInstantsGiven content disambiguation locals.now result instants.old
         statuses.old instants.new statuses.new) }
 {
-    zone.ask(
+    zone.lend(
         alloc,
         &mut |held: &Held| match held.zone() {
             Some(zone) => tell_instants(zone, disambiguation, locals, instants, statuses),

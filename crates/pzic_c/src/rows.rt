@@ -1,14 +1,15 @@
 //! The calls on the rows of columns.
 
 ghost use Rattle.std.specs.Prelude.{◌≡◌, ◌+◌, ◌^◌, ◌<◌, None, MatchOption};
-ghost use Rattle.pzic_c.specs.Handle.{IsHandle, files_in, held_in, text_in};
+ghost use Rattle.pzic_c.specs.Handle.{IsHandle, files_in, held_in, rows_in};
 ghost use Rattle.pzic_c.specs.Rows.{AreRowsGiven, IsRowFaultGiven};
 ghost use Rattle.pzic_c.specs.Text.{IsTextCopied};
-ghost use Rattle.pzic_c.specs.declared.status.TheConstants.{NO_HANDLE};
+ghost use Rattle.pzic_c.specs.declared.status.TheConstants.{NO_HANDLE, OK};
 
 use crate::copying::copy;
 use crate::handle::Handle;
-use crate::held::{Held, hold_text};
+use crate::held::{Held, hold_rows};
+use crate::made::{Made, RowFault};
 use crate::status::{BAD_ROW, NO_HANDLE, NO_MEMORY, OK};
 use std::alloc::Global;
 use zic_base::RowKind;
@@ -16,25 +17,15 @@ use zic_convert::rows_of_column;
 use zic_files::Files;
 use zic_plan::MAX_ROWS;
 
-/// The first row that has a fault.
-#[repr(C)]
-#[derive(Drop)]
-pub struct RowFault {
-    /// The number of the row, from 1.
-    pub row: u64,
-    /// The number of the kind.
-    pub kind: u32,
-}
-
-/// Tells the fault of the row after `count` rows, if it has one.
-fn tell_fault(fault: Option<RowKind>, count: u64, told: &mut RowFault) -> i32
+/// Gives the fault of the row after `count` rows, if it has one.
+fn tell_fault(fault: Option<RowKind>, count: u64, reported: &mut RowFault) -> i32
     requires { count + 1 < 2 ^ 64 }
-    ensures { IsRowFaultGiven fault count result told.old told.new }
+    ensures { IsRowFaultGiven fault count result reported.old reported.new }
 {
     let Some(kind) = fault else {
         return OK;
     };
-    *told = RowFault {
+    *reported = RowFault {
         row: count + 1,
         kind: u32::from(kind.number()),
     };
@@ -52,13 +43,18 @@ fn put_rows(
     requires handle { IsHandle rows.old }
     requires empty { held_in rows.old ≡ None }
     ensures handle { IsHandle rows.new }
-    ensures told { AreRowsGiven files.now column.now result fault.old fault.new
+    ensures gives { AreRowsGiven files.now column.now result fault.old fault.new
         (held_in rows.new) }
 {
     let Ok(made) = rows_of_column(alloc, files, MAX_ROWS, column) else {
         return NO_MEMORY;
     };
-    match hold_text(alloc, made.text) {
+    let rows_made = Made {
+        text: made.text,
+        count: made.count,
+        faults: Vec::new(alloc),
+    };
+    match hold_rows(alloc, rows_made) {
         Ok(held) => {
             rows.put(held);
             tell_fault(made.fault, made.count, fault)
@@ -78,14 +74,14 @@ pub extern "C" fn pzic_raw_rows(
 ) -> i32
     requires files { IsHandle files.old }
     requires rows { IsHandle rows.old }
-    ensures kept { files.new ≡ files.old }
+    ensures unchanged { files.new ≡ files.old }
     ensures handle { IsHandle rows.new }
-    ensures told { MatchOption (files_in files.old)
+    ensures gives { MatchOption (files_in files.old)
         ((result ≡ NO_HANDLE) × (fault.new ≡ fault.old) × (held_in rows.new ≡ None))
         (λ all. AreRowsGiven all column.now result fault.old fault.new (held_in rows.new)) }
 {
     drop(rows.take(alloc));
-    files.ask(
+    files.lend(
         alloc,
         &mut |held: &Held| match held.files() {
             Some(all) => put_rows(alloc, all, column, rows, fault),
@@ -103,16 +99,37 @@ pub extern "C" fn pzic_raw_rows_text(
     count: &mut usize,
 ) -> i32
     requires { IsHandle rows.old }
-    ensures kept { rows.new ≡ rows.old }
-    ensures told { MatchOption (text_in rows.old)
+    ensures unchanged { rows.new ≡ rows.old }
+    ensures gives { MatchOption (rows_in rows.old)
         ((result ≡ NO_HANDLE) × (room.new ≡ room.old) × (count.new ≡ count.old))
-        (λ text. IsTextCopied text result room.old room.new count.new) }
+        (λ made. IsTextCopied made.text.items result room.old room.new count.new) }
 {
-    rows.ask(
+    rows.lend(
         alloc,
-        &mut |held: &Held| match held.text() {
-            Some(text) => {
-                copy(text, room, count);
+        &mut |held: &Held| match held.rows() {
+            Some(made) => {
+                copy(&made.text, room, count);
+                OK
+            }
+            None => NO_HANDLE,
+        },
+    )
+}
+
+/// Gives how many rows there are, without the header, and with those that are left out.
+#[unsafe(no_mangle)]
+pub extern "C" fn pzic_raw_rows_len(alloc: Global, rows: &mut Handle, count: &mut u64) -> i32
+    requires { IsHandle rows.old }
+    ensures unchanged { rows.new ≡ rows.old }
+    ensures gives { MatchOption (rows_in rows.old)
+        ((result ≡ NO_HANDLE) × (count.new ≡ count.old))
+        (λ made. (result ≡ OK) × (count.new ≡ made.count)) }
+{
+    rows.lend(
+        alloc,
+        &mut |held: &Held| match held.rows() {
+            Some(made) => {
+                *count = made.count;
                 OK
             }
             None => NO_HANDLE,

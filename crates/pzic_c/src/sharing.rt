@@ -13,12 +13,12 @@ use std::alloc::Global;
 pub extern "C" fn pzic_raw_share(alloc: Global, handle: &mut Handle, other: &mut Handle) -> i32
     requires handle { IsHandle handle.old }
     requires other { IsHandle other.old }
-    ensures kept { handle.new ≡ handle.old }
+    ensures unchanged { handle.new ≡ handle.old }
     ensures other { IsHandle other.new }
     ensures shared { IsShared (held_in handle.old) result (held_in other.new) }
 {
     drop(other.take(alloc));
-    handle.ask(
+    handle.lend(
         alloc,
         &mut |held: &Held| match held.again(alloc) {
             Ok(twin) => {

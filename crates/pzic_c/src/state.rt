@@ -11,7 +11,7 @@ use zic_base::State as Shown;
 use zic_tzif::Answer;
 
 /// The most bytes of an abbreviation that a state has.
-const KEPT: usize = 16;
+const NAME_ROOM: usize = 16;
 
 /// Local time at an instant.
 #[repr(C)]
@@ -24,7 +24,7 @@ pub struct State {
     /// The length of the abbreviation in bytes.
     pub name_length: usize,
     /// The first 16 bytes of the abbreviation, and NULs.
-    pub name: [u8; KEPT + 1],
+    pub name: [u8; NAME_ROOM + 1],
 }
 
 impl State {
@@ -40,7 +40,7 @@ impl State {
         }
     }
 
-    /// Turns to what a file answers. Returns the status that tells it.
+    /// Turns to what a file answers. Returns its status.
     pub(crate) fn tell(&mut self, answer: Answer<'_>) -> i32
         ensures { IsAnswer (answered answer.entry) result self.new }
     {
@@ -62,11 +62,11 @@ impl State {
 }
 
 /// Returns the first 16 bytes of an abbreviation, and NULs after them.
-fn padded(name: &[u8]) -> [u8; KEPT + 1]
+fn padded(name: &[u8]) -> [u8; NAME_ROOM + 1]
     ensures { result ≡ padded (take 16 name.now) }
 {
-    let kept = name.len().min(KEPT);
-    let mut octets = [0; KEPT + 1];
-    octets[..kept].copy_from_slice(&name[..kept]);
+    let cached = name.len().min(NAME_ROOM);
+    let mut octets = [0; NAME_ROOM + 1];
+    octets[..cached].copy_from_slice(&name[..cached]);
     octets
 }

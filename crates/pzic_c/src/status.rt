@@ -10,11 +10,12 @@ pub const NO_MEMORY: i32 = 2;
 pub const BAD_FILE: i32 = 3;
 /// The handle holds nothing that the call works on.
 pub const NO_HANDLE: i32 = 4;
-/// The arrays differ in length.
+/// The arrays differ in length, or the column is too long.
 pub const LENGTHS: i32 = 5;
 /// The text is no source, or a zone of it has a fault.
 pub const BAD_SOURCE: i32 = 6;
-/// No file has the name or the number, or no kind, reason or disambiguation has the number.
+/// No file has the name or the number, no kind, reason or disambiguation has the number, or there is no
+/// such layout.
 pub const NO_SUCH: i32 = 7;
 /// A row has a fault.
 pub const BAD_ROW: i32 = 8;
@@ -24,3 +25,9 @@ pub const OUT_OF_RANGE: i32 = 9;
 pub const GAP: i32 = 10;
 /// The local time is in a fold.
 pub const FOLD: i32 = 11;
+/// The name can't be that of a zone. `pzic_tree.h` has the number 12.
+pub const BAD_NAME: i32 = 13;
+/// Rows can't be made of the file.
+pub const UNFIT: i32 = 14;
+/// A file has the name already.
+pub const TAKEN: i32 = 15;

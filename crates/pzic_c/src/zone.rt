@@ -16,7 +16,7 @@ use std::alloc::Global;
 use zic_local::laws::instants_are_near;
 use zic_tzif::{ReadStop, Zone, read};
 
-/// Tells why bytes weren't read.
+/// Gives why bytes weren't read.
 fn refuse_bytes(stop: ReadStop, reason: &mut u32) -> i32
     ensures { IsReasonGiven (reason_of stop) result reason.old reason.new }
 {
@@ -29,14 +29,14 @@ fn refuse_bytes(stop: ReadStop, reason: &mut u32) -> i32
     }
 }
 
-/// Tells local time at an instant.
+/// Gives local time at an instant.
 fn tell_at(zone: &Zone, instant: i64, state: &mut State) -> i32
     ensures { IsAnswerAt zone.now instant result state.new }
 {
     state.tell(zone.at(instant))
 }
 
-/// Tells local time at an instant, and the first and the last of the instants round it.
+/// Gives local time at an instant, and the first and the last of the instants round it.
 fn tell_round(zone: &Zone, instant: i64, state: &mut State, first: &mut i64, last: &mut i64) -> i32
     ensures { IsAnswerAround zone.now instant (instants first.new last.new) result state.new }
 {
@@ -46,7 +46,7 @@ fn tell_round(zone: &Zone, instant: i64, state: &mut State, first: &mut i64, las
     state.tell(span.answer)
 }
 
-/// Tells local time at each of many instants, where the arrays are as long.
+/// Gives local time at each of many instants, where the arrays are as long.
 fn tell_column(zone: &Zone, instants: &[i64], offsets: &mut [i32], flags: &mut [u8]) -> i32
     ensures { AreOffsetsGiven zone.now instants.now result offsets.old flags.old offsets.new
         flags.new }
@@ -85,7 +85,7 @@ pub extern "C" fn pzic_raw_zone_read(
     }
 }
 
-/// Tells local time at an instant.
+/// Gives local time at an instant.
 #[unsafe(no_mangle)]
 pub extern "C" fn pzic_raw_zone_at(
     alloc: Global,
@@ -94,12 +94,12 @@ pub extern "C" fn pzic_raw_zone_at(
     state: &mut State,
 ) -> i32
     requires { IsHandle zone.old }
-    ensures kept { zone.new ≡ zone.old }
-    ensures told { MatchOption (zone_in zone.old)
+    ensures unchanged { zone.new ≡ zone.old }
+    ensures gives { MatchOption (zone_in zone.old)
         ((result ≡ NO_HANDLE) × (state.new ≡ state.old))
         (λ content. IsAnswerAt content instant result state.new) }
 {
-    zone.ask(
+    zone.lend(
         alloc,
         &mut |held: &Held| match held.zone() {
             Some(zone) => tell_at(zone, instant, state),
@@ -108,7 +108,7 @@ pub extern "C" fn pzic_raw_zone_at(
     )
 }
 
-/// Tells local time at an instant, and the instants round it at which it is the same.
+/// Gives local time at an instant, and the instants round it at which it is the same.
 #[unsafe(no_mangle)]
 pub extern "C" fn pzic_raw_zone_span(
     alloc: Global,
@@ -119,13 +119,13 @@ pub extern "C" fn pzic_raw_zone_span(
     last: &mut i64,
 ) -> i32
     requires { IsHandle zone.old }
-    ensures kept { zone.new ≡ zone.old }
-    ensures told { MatchOption (zone_in zone.old)
+    ensures unchanged { zone.new ≡ zone.old }
+    ensures gives { MatchOption (zone_in zone.old)
         ((result ≡ NO_HANDLE) × (state.new ≡ state.old) × (first.new ≡ first.old)
         × (last.new ≡ last.old))
         (λ content. IsAnswerAround content instant (instants first.new last.new) result state.new) }
 {
-    zone.ask(
+    zone.lend(
         alloc,
         &mut |held: &Held| match held.zone() {
             Some(zone) => tell_round(zone, instant, state, first, last),
@@ -134,7 +134,7 @@ pub extern "C" fn pzic_raw_zone_span(
     )
 }
 
-/// Tells local time at each of many instants, in any order.
+/// Gives local time at each of many instants, in any order.
 #[unsafe(no_mangle)]
 pub extern "C" fn pzic_raw_zone_offsets(
     alloc: Global,
@@ -144,13 +144,13 @@ pub extern "C" fn pzic_raw_zone_offsets(
     flags: &mut [u8],
 ) -> i32
     requires { IsHandle zone.old }
-    ensures kept { zone.new ≡ zone.old }
-    ensures told { MatchOption (zone_in zone.old)
+    ensures unchanged { zone.new ≡ zone.old }
+    ensures gives { MatchOption (zone_in zone.old)
         ((result ≡ NO_HANDLE) × (offsets.new ≡ offsets.old) × (flags.new ≡ flags.old))
         (λ content. AreOffsetsGiven content instants.now result offsets.old flags.old offsets.new
         flags.new) }
 {
-    zone.ask(
+    zone.lend(
         alloc,
         &mut |held: &Held| match held.zone() {
             Some(zone) => tell_column(zone, instants, offsets, flags),

@@ -15,12 +15,12 @@ use Rattle.zic_base.specs.declared.zone_stop.ZoneStop.TheVariants as zone_stops
 abbrev pub fault_at : Place → Kind → Fault
 fault_at place kind = record { place = place; kind = kind }
 
--- the fault that a stop tells, and nothing where it is out of memory
+-- the fault of a stop, and none where it is out of memory
 abbrev pub fault_of : Stop → Option Fault
 fault_of (stops.Fault fault) = Some fault
 fault_of stops.Memory = None
 
--- the kind of fault that a zone's stop tells, and nothing where it is out of memory
+-- the kind of fault of a zone's stop, and none where it is out of memory
 abbrev pub kind_of : ZoneStop → Option Kind
 kind_of (zone_stops.Fault kind) = Some kind
 kind_of zone_stops.Memory = None

@@ -1,4 +1,4 @@
--- Out of memory, told once for all calls. A call answers a value, a refusal, or out of memory. For each type of errors one
+-- Out of memory, defined once for all calls. A call answers a value, a refusal, or out of memory. For each type of errors one
 -- function gives the refusal that an error is, and nothing where it is out of memory. No clause can say that a growth was
 -- refused; a clause says what holds where a call answers so.
 use Rattle.std.specs.Prelude.{Result, Option, IfErr, IfSome, IfNone}

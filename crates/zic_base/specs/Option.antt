@@ -1,4 +1,4 @@
--- Steps that may come to nothing.
+-- Steps that may have no result.
 use Rattle.std.specs.Prelude.{Bool, false, Option, Some, None, option_and_then}
 
 -- `x ← o` goes on with what o has, and stops where it has nothing

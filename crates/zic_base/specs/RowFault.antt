@@ -15,6 +15,7 @@ row_kind_number kind.RowLocal = 40
 row_kind_number kind.RowSkipped = 41
 row_kind_number kind.RowRepeated = 42
 row_kind_number kind.RowQuote = 43
+row_kind_number kind.RowTooLong = 44
 
 -- the word for a kind: its name
 abbrev pub row_kind_word : RowKind → List ℕ
@@ -27,3 +28,4 @@ row_kind_word kind.RowLocal = codes "RowLocal"
 row_kind_word kind.RowSkipped = codes "RowSkipped"
 row_kind_word kind.RowRepeated = codes "RowRepeated"
 row_kind_word kind.RowQuote = codes "RowQuote"
+row_kind_word kind.RowTooLong = codes "RowTooLong"

@@ -7,7 +7,7 @@ use crate::fault::Kind;
 use crate::row_fault::RowKind;
 
 /// Returns the name of the fault whose kind has this number, if one has it: 1 to 34 are those of
-/// sources, 35 to 42 those of rows.
+/// sources, 35 to 44 those of rows.
 pub fn name_of_fault(number: u32) -> Option<&'static str>
     ensures { MatchOption result ((name : List ℕ) → IsFaultName number name → ⊥)
         (λ name. IsFaultName number name.now) }

@@ -1,12 +1,11 @@
 //! Types and texts that all crates share: places of lines, faults of sources, zones and rows, why a
 //! run ends early, short texts, the bytes of abbreviations, digits, states, limits, and the word for
-//! standard input. The rows of `witness/rows` test it.
+//! standard input.
 #![tactic(auto)]
 
 mod byte;
 mod digits;
 mod fault;
-mod fault_log;
 mod fault_name;
 mod limit;
 mod place;
@@ -20,7 +19,6 @@ mod zone_stop;
 pub use byte::{are_abbreviation_bytes, is_abbreviation_byte};
 pub use digits::{clock_text, offset_text, two_digits};
 pub use fault::{Fault, Kind, Stop};
-pub use fault_log::{FaultLog, Unnoted};
 pub use fault_name::name_of_fault;
 pub use limit::{FARTHEST_FILE_OFFSET, LONGEST_ABBREVIATION, LONGEST_FILE, SHORTEST_ABBREVIATION};
 pub use place::Place;

@@ -5,7 +5,7 @@ ghost use Rattle.std.specs.Prelude.{◌≡◌};
 /// The fault of a row. The number of each kind is fixed.
 #[derive(Clone, Copy, Debug, PartialEq, Eq)]
 pub enum RowKind {
-    /// A record hasn't two fields.
+    /// A record has another number of fields than the layout says.
     RowFields = 35,
     /// No file has the name.
     RowZone = 36,
@@ -23,13 +23,15 @@ pub enum RowKind {
     RowRepeated = 42,
     /// The double quotes of a line are open at its end, where each line is a record.
     RowQuote = 43,
+    /// A record has more bytes than records may have.
+    RowTooLong = 44,
 }
 
 impl RowKind {
     ghost use Rattle.std.specs.Prelude.{◌≢◌, MatchOption};
     ghost use Rattle.zic_base.specs.RowFault.{row_kind_number, row_kind_word};
 
-    /// Returns the number of the kind, 35 to 43: own choice.
+    /// Returns the number of the kind, 35 to 44: own choice.
     pub fn number(self) -> u8
         ensures { result ≡ row_kind_number self }
     {
@@ -50,6 +52,7 @@ impl RowKind {
             RowKind::RowSkipped => "RowSkipped",
             RowKind::RowRepeated => "RowRepeated",
             RowKind::RowQuote => "RowQuote",
+            RowKind::RowTooLong => "RowTooLong",
         }
     }
 
@@ -68,6 +71,7 @@ impl RowKind {
             41 => RowKind::RowSkipped,
             42 => RowKind::RowRepeated,
             43 => RowKind::RowQuote,
+            44 => RowKind::RowTooLong,
             _ => return None,
         })
     }

@@ -11,7 +11,7 @@ use std::alloc::{AllocError, Global};
 use std::hash::{Hash, Hasher};
 use std::marker::Model;
 
-/// Bytes, which are kept inline where there are at most `N`; clauses see their list. Texts are
+/// Bytes, which are stored inline where there are at most `N`; clauses see their list. Texts are
 /// equal where their bytes are.
 #[derive(Debug, Drop)]
 pub struct ShortText<const N: usize> {

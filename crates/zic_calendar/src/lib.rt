@@ -1,5 +1,5 @@
 //! The proleptic Gregorian calendar: day numbers, weekdays, the day forms of time zone rules, and
-//! civil time. Nothing here takes memory or fails. The rows of `witness/rows` test it.
+//! civil time. Nothing here takes memory or fails.
 #![tactic(auto)]
 
 mod civil_time;

@@ -49,7 +49,8 @@ module _ (content : Content) (from : ℤ) (past : IsBeforeLast content from → 
   gives_moved u v state low high same (inr (after, (f, spells, means))) =
       inr (past_later v high, (f, spells, moved f (limits_of content.version content.text f spells) u v state same means))
 
-  answers_moved : (u v : ℤ) (answer : Option Shown) → from ≤ℤ u → from ≤ℤ v → place u ≡ place v → Answers content u answer → Answers content v answer
+  -- what is answered at an instant is answered at each at the same place
+  pub answers_moved : (u v : ℤ) (answer : Option Shown) → from ≤ℤ u → from ≤ℤ v → place u ≡ place v → Answers content u answer → Answers content v answer
   answers_moved u v (Some state) low high same gives = gives_moved u v state low high same gives
   answers_moved u v None low high same left = record { some = left.some; after = past_later v high; no_footer = left.no_footer }
 
@@ -161,7 +162,7 @@ module _ (content : Content) (from : ℤ) (past : IsBeforeLast content from → 
         (λ beyond. never content from past low last later is same u beyond changes)
         (λ within. first u after within changes)
     previous_found (Some change) found =
-        last_is_previous content t MIN_INSTANT from change found (let within = found.within in omega (arith, ints, within, below))
+        last_is_previous content t MIN_INSTANT from change found (omega (arith, ints)) (let within = found.within in omega (arith, ints, within, below))
         (λ other beyond before changes. never content from past low last later is same other beyond changes)
 
 -- ---- a search that goes on to the least instant, or finds a change before that
@@ -169,7 +170,7 @@ module _ (content : Content) (from : ℤ) (past : IsBeforeLast content from → 
 module _ (content : Content) (t last : ℤ) (before : IsSecondBefore t last) where
   pub previous_change : (low change : ℤ) → MIN_INSTANT ≤ℤ low → IsLastWithin content low last change → IsPreviousChange content t change
   previous_change low change least found =
-      last_is_previous content t low last change found (before.back change (let after = found.after in omega (arith, ints, least, after)) found.within)
+      last_is_previous content t low last change found least (before.back change (let after = found.after in omega (arith, ints, least, after)) found.within)
       (λ other beyond earlier changes. let within = before.reach other earlier in omega (arith, ints, beyond, within))
 
   pub previous_to_start : (found : Option ℤ) → MatchOption found (StaysSame content MIN_INSTANT last) (IsLastWithin content MIN_INSTANT last)

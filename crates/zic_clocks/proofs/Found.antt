@@ -1,6 +1,7 @@
 -- Changes that were found are the first, the last and just those.
 use Rattle.std.proofs.Common.{◌≡◌, ℕ, ℤ, ◌<ℤ◌, ◌≤ℤ◌, inl, inr, List, [], ◌∷◌, ◌++◌, ◌≤◌, length, take, drop, refl, arith}
 use Rattle.std.proofs.lemmas.Int.{ints, by_lt_z}
+use Rattle.zic_posix.specs.declared.instants.TheConstants.{MIN_INSTANT}
 use Rattle.zic_tzif.specs.Content.{Content}
 use Rattle.zic_dump.specs.Changes.{ChangesAt, StaysSame}
 use Rattle.zic_local.specs.LocalTime.{AreJust}
@@ -30,12 +31,12 @@ module _ (content : Content) where
   next_is_later t last change later next = λ other after before changes. let least = next.bound other (after, changes) in omega (arith, ints, least, before, later)
 
   -- the last change up to an instant, after which there is none before t
-  pub last_is_previous : (t first last change : ℤ) → IsLastWithin content first last change → change <ℤ t → ((other : ℤ) → last <ℤ other → other <ℤ t → ChangesAt content other → ⊥)
+  pub last_is_previous : (t first last change : ℤ) → IsLastWithin content first last change → MIN_INSTANT ≤ℤ first → change <ℤ t → ((other : ℤ) → last <ℤ other → other <ℤ t → ChangesAt content other → ⊥)
       → IsPreviousChange content t change
-  last_is_previous t first last change found before none = record {
-    holds = (before, found.changes);
+  last_is_previous t first last change found least before none = record {
+    holds = (let after = found.after in omega (arith, ints, least, after), before, found.changes);
     bound = λ other earlier. by_lt_z change other
-        (λ more. absurd (by_lt_z last other (λ beyond. none other beyond earlier.0 earlier.1) (λ within. found.none_after other more within earlier.1)))
+        (λ more. absurd (by_lt_z last other (λ beyond. none other beyond earlier.1 earlier.2) (λ within. found.none_after other more within earlier.2)))
         (λ not. not);
   }
 

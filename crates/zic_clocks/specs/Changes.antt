@@ -2,6 +2,7 @@
 -- answered from then on, so a transition that changes nothing is none.
 use Rattle.std.specs.Prelude.{◌≡◌, ℕ, ◌<◌, ◌≤◌, ℤ, ◌<ℤ◌, ◌≤ℤ◌, List, length, take, drop}
 use Rattle.zic_calendar.specs.Weekday.{IsLeast, IsGreatest}
+use Rattle.zic_posix.specs.declared.instants.TheConstants.{MIN_INSTANT}
 use Rattle.zic_tzif.specs.Content.{Content}
 use Rattle.zic_dump.specs.Changes.{ChangesAt}
 use Rattle.zic_local.specs.LocalTime.{AreJust}
@@ -10,9 +11,9 @@ use Rattle.zic_local.specs.LocalTime.{AreJust}
 abbrev pub IsNextChange : Content → ℤ → ℤ → Type 0
 IsNextChange content t = IsLeast (λ change. (t <ℤ change) × ChangesAt content change)
 
--- the change before an instant: the greatest before it
+-- the change before an instant: the greatest before it that has a second before it in 64 bits
 abbrev pub IsPreviousChange : Content → ℤ → ℤ → Type 0
-IsPreviousChange content t = IsGreatest (λ change. (change <ℤ t) × ChangesAt content change)
+IsPreviousChange content t = IsGreatest (λ change. (MIN_INSTANT <ℤ change) × (change <ℤ t) × ChangesAt content change)
 
 -- a change after one instant, and not after another
 abbrev pub IsChangeWithin : Content → ℤ → ℤ → ℤ → Type 0

@@ -28,8 +28,8 @@ pub fn next_change(zone: &Zone, t: i64) -> Option<i64>
     first_change(zone, t, from.saturating_add(PERIOD))
 }
 
-/// Returns the last change of local time before an instant. `None` says that there is none in 64
-/// bits. Takes as long as [`next_change`].
+/// Returns the last change of local time before an instant and after the least of 64 bits. `None`
+/// says that there is none. Takes as long as [`next_change`].
 pub fn previous_change(zone: &Zone, t: i64) -> Option<i64>
     ensures { MatchOption result (StaysSame zone.now MIN_INSTANT (t -ℤ pos 1))
         (IsPreviousChange zone.now t) }

@@ -9,7 +9,7 @@ use Rattle.zic_columns.specs.Column.{AreWholeRecords, HasNoQuote, column_records
 use Rattle.zic_columns.specs.Laws.{LinesAreCut, LinesWithoutQuotesAreCsv}
 use Rattle.zic_columns.specs.Lines.{is_open, line_record, line_records, open_record}
 use Rattle.zic_columns.specs.Own.{CsvRecord, csv_records, own_texts}
-use Rattle.zic_columns.specs.Record.{first_fields, whole_of}
+use Rattle.zic_columns.specs.Record.{first_fields, own_record}
 use Rattle.zic_columns.specs.code.Line.{AreWholeLines}
 use Rattle.zic_columns.specs.code.LineScan.{AllClosed, AreClosedLines, HasNoLineEnd}
 use Rattle.zic_columns.proofs.CutLaw.{line_end_whole}
@@ -136,15 +136,15 @@ closed_up_to (suc n) bytes few closed =
     (none_or_some line))
     first.then
 
-closed_alone : (lines : List (List ℕ)) → All IsClosed lines → map line_record lines ≡ map whole_of lines
+closed_alone : (lines : List (List ℕ)) → All IsClosed lines → map line_record lines ≡ map own_record lines
 closed_alone [] closed = refl
 closed_alone (line ∷ lines) closed =
-    rw (All-head IsClosed line lines closed) (ap (λ (l : List CsvRecord). whole_of line ∷ l) (closed_alone lines (All-tail IsClosed line lines closed)))
+    rw (All-head IsClosed line lines closed) (ap (λ (l : List CsvRecord). own_record line ∷ l) (closed_alone lines (All-tail IsClosed line lines closed)))
 
 -- so the records of lines that are not open are those of CSV
 pub closed_alike : (bytes : List ℕ) → AllClosed bytes → line_records bytes ≡ csv_records bytes
 closed_alike bytes closed =
-    closed_alone (lines_of bytes) closed ∙ ap (map whole_of) (sym (closed_up_to (length bytes + 1) bytes (omega arith) closed)) ∙ sym (of_own_bytes bytes)
+    closed_alone (lines_of bytes) closed ∙ ap (map own_record) (sym (closed_up_to (length bytes + 1) bytes (omega arith) closed)) ∙ sym (of_own_bytes bytes)
 
 -- ---- without double quotes
 

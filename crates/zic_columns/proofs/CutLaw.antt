@@ -9,7 +9,7 @@ use Rattle.csv.specs.declared.parser.Action.TheVariants as act
 use Rattle.csv.specs.declared.parser.State.{State}
 use Rattle.csv.specs.declared.parser.State.TheVariants as st
 use Rattle.csv.specs.declared.parser.Terminator.TheVariants as term
-use Rattle.zic_columns.specs.Column.{AreWholeRecords, StandsBeforeRecord, ends_line, state_after}
+use Rattle.zic_columns.specs.Column.{AreWholeRecords, IsBeforeRecord, ends_line, state_after}
 use Rattle.zic_columns.specs.code.Machine.{BeginsRecord, EndsWith}
 use Rattle.zic_columns.proofs.FirstFacts.{ends_whole}
 use Rattle.zic_columns.proofs.MachineFacts.{ends_both, ends_byte, one_whole, reads_byte}
@@ -87,9 +87,9 @@ first_within byte within = cond_both (byte == 34) (st.InQuoted, act.Skip) (in_fi
 
 -- Bytes after which a reader stands before a record begin with the end of the record in which it stood.
 abbrev Ends : State → List ℕ → Type 0
-Ends s bytes = (front : List ℕ) × (back : List ℕ) × (t : State) × (bytes ≡ front ++ back) × EndsWith s front × (ends_at_end t ≡ false) × (ends_at_end (state_after t back) ≡ false)
+Ends s bytes = (front : List ℕ) × (back : List ℕ) × (t : State) × (bytes ≡ front ++ back) × EndsWith s front × (ends_at_end t ≡ false) × (ends_at_end (state_after default_config t back) ≡ false)
 
-ends_in : (s : State) (bytes : List ℕ) → in_record s ≡ true → ends_at_end (state_after s bytes) ≡ false → Ends s bytes
+ends_in : (s : State) (bytes : List ℕ) → in_record s ≡ true → ends_at_end (state_after default_config s bytes) ≡ false → Ends s bytes
 unfolding state_after
 ends_in s [] is before = absurd (ends_there s is before)
 ends_in s (byte ∷ bytes) is before =
@@ -111,7 +111,7 @@ ends_in s (byte ∷ bytes) is before =
 pub line_end_whole : (byte : ℕ) → ends_line byte ≡ true → AreWholeRecords (byte ∷ [])
 line_end_whole byte ends = ends_whole (byte ∷ []) (All-push (λ b. ends_line b ≡ true) [] byte (All-nil (λ b. ends_line b ≡ true)) ends)
 
-whole_up_to : (n : ℕ) (s : State) (bytes : List ℕ) → length bytes ≤ n → ends_at_end s ≡ false → ends_at_end (state_after s bytes) ≡ false → AreWholeRecords bytes
+whole_up_to : (n : ℕ) (s : State) (bytes : List ℕ) → length bytes ≤ n → ends_at_end s ≡ false → ends_at_end (state_after default_config s bytes) ≡ false → AreWholeRecords bytes
 unfolding state_after
 whole_up_to n s [] le before after = whole_none
 whole_up_to zero s (byte ∷ bytes) le before after = absurd (omega (arith, le))
@@ -122,7 +122,7 @@ whole_up_to (suc n) s (byte ∷ bytes) le before after =
     whole_both (byte ∷ []) bytes (line_end_whole byte line.1) (whole_up_to n to.0 bytes (omega (arith, le)) (ap ends_at_end line.0) after))
     (λ (field : (to ≡ start_field default_config byte) × (ends_line byte ≡ false)).
     let first = first_within byte field.1 in
-    let then = subst (λ (t : State × Action). ends_at_end (state_after t.0 bytes) ≡ false) field.0 after in
+    let then = subst (λ (t : State × Action). ends_at_end (state_after default_config t.0 bytes) ≡ false) field.0 after in
     let u = (start_field default_config byte).0 in
     let parts = ends_in u bytes first.0 then in
     let starts : BeginsRecord (byte ∷ parts.0) = record { some = omega arith; begins = field.1 } in
@@ -132,5 +132,5 @@ whole_up_to (suc n) s (byte ∷ bytes) le before after =
     subst (λ (b : List ℕ). AreWholeRecords (byte ∷ b)) (sym parts.3) (whole_both (byte ∷ parts.0) parts.1 one more))
     (begins s byte before)
 
-pub records_are_cut : (bytes : List ℕ) → StandsBeforeRecord bytes → AreWholeRecords bytes
+pub records_are_cut : (bytes : List ℕ) → IsBeforeRecord bytes → AreWholeRecords bytes
 records_are_cut bytes before = whole_up_to (length bytes) st.StartRecord bytes (omega arith) refl before

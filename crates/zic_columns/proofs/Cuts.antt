@@ -8,7 +8,7 @@ use Rattle.std.proofs.lemmas.Grind.{flat_map-append}
 use Rattle.zic_columns.specs.Column.{AreWholeRecords, column_records}
 use Rattle.zic_columns.specs.code.Cut.{AreCutAfter}
 use Rattle.zic_columns.specs.Own.{CsvRecord, csv_records}
-use Rattle.zic_columns.specs.Round.{ArePiecesOf, wholes_of}
+use Rattle.zic_columns.specs.Round.{ArePiecesOf, records_of_pieces}
 use Rattle.zic_columns.specs.code.Range.{AreWithin, piece_at, pieces_at}
 use Rattle.zic_columns.specs.code.Cutting.{IsCut}
 use Rattle.zic_columns.specs.code.Line.{IsFirstRecord}
@@ -17,7 +17,7 @@ use Rattle.zic_columns.proofs.Ranges.{within_front}
 use Rattle.zic_columns.specs.declared.pieces.Cut.{Cut}
 use Rattle.zic_columns.specs.declared.pieces.TheConstants.{MAX_ROUND_PIECES}
 use Rattle.zic_columns.proofs.SomeRecords.{column_records-nil, joined, whole_both, whole_none}
-use Rattle.zic_columns.proofs.Wholes.{none_of_wholes, wholes_cut, wholes_joined, wholes_none}
+use Rattle.zic_columns.proofs.PieceRecords.{none_of_wholes, wholes_cut, wholes_joined, wholes_none}
 use Rattle.zic_columns.specs.declared.pieces.PieceRange.{PieceRange}
 
 -- each piece has so many records
@@ -51,7 +51,7 @@ pub record IsCutTo (bytes : List ℕ) (size : ℕ) (ranges : List PieceRange) (r
   pub inside : AreWithin ranges at
   pub sizes : ArePiecesOf size (pieces_at bytes ranges)
   pub full : (column_records rest ≡ []) ⊎ AreFull size (pieces_at bytes ranges)
-  pub records : csv_records (take at bytes) ≡ wholes_of (pieces_at bytes ranges)
+  pub records : csv_records (take at bytes) ≡ records_of_pieces (pieces_at bytes ranges)
   pub whole : (rest ≡ []) ⊎ AreWholeRecords (take at bytes)
 
 pub cut_none : (bytes : List ℕ) (size : ℕ) → IsCutTo bytes size [] bytes
@@ -125,8 +125,8 @@ cut_more bytes size ranges rest first after some to has cut =
       full = rw pieces (full_or_none rest size first after (pieces_at bytes ranges) cut full);
       records =
           ap csv_records front ∙ wholes_cut (take at bytes) first whole ∙ ap (λ (r : List CsvRecord). r ++ csv_records first) to.records
-          ∙ sym (ap wholes_of pieces ∙ flat_map-append csv_records (pieces_at bytes ranges) (first ∷ [])
-          ∙ ap (λ (r : List CsvRecord). wholes_of (pieces_at bytes ranges) ++ r) (append-nil (csv_records first)));
+          ∙ sym (ap records_of_pieces pieces ∙ flat_map-append csv_records (pieces_at bytes ranges) (first ∷ [])
+          ∙ ap (λ (r : List CsvRecord). records_of_pieces (pieces_at bytes ranges) ++ r) (append-nil (csv_records first)));
       whole = ⊎_elim
           (λ none. inl none)
           (λ (one : AreWholeRecords first). inr (subst AreWholeRecords (sym front) (whole_both (take at bytes) first whole one)))
@@ -156,7 +156,7 @@ pub cut_to_end : (bytes : List ℕ) (size : ℕ) (cut : Cut) (rest : List ℕ) �
     → IsCut bytes size cut
 cut_to_end bytes size cut rest to len few left =
     let all : take cut.len bytes ≡ bytes = take_all cut.len bytes (omega (arith, len)) in
-    let pieces = wholes_of (pieces_at bytes cut.ranges.items) in
+    let pieces = records_of_pieces (pieces_at bytes cut.ranges.items) in
     let parts : csv_records bytes ≡ pieces =
     ap csv_records (sym (take-append-drop to.at bytes)) ∙ wholes_joined (take to.at bytes) (drop to.at bytes) (subst (λ (r : List ℕ). (r ≡ []) ⊎ AreWholeRecords (take to.at bytes)) to.after to.whole)
     ∙ ap (λ (r : List CsvRecord). r ++ csv_records (drop to.at bytes)) to.records ∙ ap (λ (r : List CsvRecord). pieces ++ r) (ap csv_records (sym to.after) ∙ wholes_none rest left)
@@ -168,7 +168,7 @@ cut_to_end bytes size cut rest to len few left =
       sizes = to.sizes;
       records = ap csv_records all ∙ parts;
       whole = inl (drop_all cut.len bytes (omega (arith, len)));
-      none = λ no. none_of_wholes bytes (parts ∙ ap (λ (r : List PieceRange). wholes_of (pieces_at bytes r)) (nil_from_length cut.ranges.items no));
+      none = λ no. none_of_wholes bytes (parts ∙ ap (λ (r : List PieceRange). records_of_pieces (pieces_at bytes r)) (nil_from_length cut.ranges.items no));
     }
 
 -- pieces stand in the first bytes as in all

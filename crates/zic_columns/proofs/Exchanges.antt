@@ -1,4 +1,5 @@
 -- A column in which the delimiter and the comma stand in each other's place.
+use Rattle.zic_plan.specs.Delimiter.{exchange}
 use Rattle.std.proofs.Common.{◌≡◌, ◌≢◌, ◌+◌, ◌<◌, ◌≤◌, ◌==◌, ℕ, suc, false, List, [], ◌∷◌, ◌++◌, map, length, get_or, set, take, drop, Option, None, Some, refl, sym, ap, ◌∙◌, subst, append_assoc, drop-cons, arith}
 use Rattle.std.specs.Prelude.{if◌then◌else◌, option_map}
 use Rattle.std.proofs.lemmas.Bool.{cond_both, eq-eqb, eqb-false, eqb-true, ne_eqb}
@@ -10,7 +11,7 @@ use Rattle.csv.specs.declared.parser.Action.TheVariants as act
 use Rattle.csv.specs.declared.parser.State.{State}
 use Rattle.csv.specs.declared.parser.State.TheVariants as st
 use Rattle.zic_columns.specs.Column.{column_records}
-use Rattle.zic_columns.specs.Exchange.{AreDelimitedRecords, CanDelimit, config_of, exchange, exchanged}
+use Rattle.zic_columns.specs.Exchange.{AreDelimitedRecords, CanDelimit, config_of, exchanged}
 use Rattle.zic_columns.specs.Laws.{RecordsAreExchanged, TextsAreExchanged}
 use Rattle.zic_columns.specs.Own.{delimited_texts, own_after, own_from}
 use Rattle.zic_columns.proofs.SomeRecords.{are_read}
@@ -122,8 +123,8 @@ module _ (d : ℕ) (can : CanDelimit d) where
     next_exchanged are.0 [] [] are.1 ∙ ap (option_map read_exchanged) are.3,
   )
 
-  own_kept : (s : State) (b : ℕ) (own : List ℕ) → own_after s (exchange d b) (exchanged d own) ≡ exchanged d (own_after s b own)
-  own_kept s b own =
+  own_unchanged : (s : State) (b : ℕ) (own : List ℕ) → own_after s (exchange d b) (exchanged d own) ≡ exchanged d (own_after s b own)
+  own_unchanged s b own =
       cond_both (ends_at_end s) (own ++ b ∷ []) [] (λ (l : List ℕ). (if ends_at_end s then exchanged d own ++ exchange d b ∷ [] else []) ≡ exchanged d l)
       (λ yes. rw yes (sym (map-append (exchange d) own (b ∷ [])))) (λ no. rw no refl)
 
@@ -136,7 +137,7 @@ module _ (d : ℕ) (can : CanDelimit d) where
   own_exchanged s own (b ∷ bytes) =
       let to = step default_config s b in
       let after = own_after to.0 b own in
-      rw (step_exchanged s b, own_kept to.0 b own)
+      rw (step_exchanged s b, own_unchanged to.0 b own)
       (cond_both (is_end to.1) (own ∷ own_from default_config to.0 [] bytes) (own_from default_config to.0 after bytes)
       (λ (l : List (List ℕ)). (if is_end to.1 then exchanged d own ∷ own_from (config_of d) to.0 [] (exchanged d bytes)
       else own_from (config_of d) to.0 (exchanged d after) (exchanged d bytes)) ≡ map (exchanged d) l)

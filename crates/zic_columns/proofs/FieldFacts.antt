@@ -155,11 +155,11 @@ abbrev BeginsWith : List ℕ → Option Read → Type 0
 BeginsWith text None = Unit {0}
 BeginsWith text (Some read) = first_text read.0 ≡ text
 
-kept_after : (a : Action) (text : List ℕ) (fields : List (List ℕ)) (field : List ℕ) → (others : List (List ℕ)) × (fields_after a (text ∷ fields) field ≡ text ∷ others)
-kept_after act.EndRecord text fields field = (fields ++ field ∷ [], refl)
-kept_after act.EndField text fields field = (fields ++ field ∷ [], refl)
-kept_after act.Copy text fields field = (fields, refl)
-kept_after act.Skip text fields field = (fields, refl)
+unchanged_after : (a : Action) (text : List ℕ) (fields : List (List ℕ)) (field : List ℕ) → (others : List (List ℕ)) × (fields_after a (text ∷ fields) field ≡ text ∷ others)
+unchanged_after act.EndRecord text fields field = (fields ++ field ∷ [], refl)
+unchanged_after act.EndField text fields field = (fields ++ field ∷ [], refl)
+unchanged_after act.Copy text fields field = (fields, refl)
+unchanged_after act.Skip text fields field = (fields, refl)
 
 keeps_first : (s : State) (text : List ℕ) (fields : List (List ℕ)) (field bytes : List ℕ) → BeginsWith text (next_record default_config s (text ∷ fields) field bytes)
 unfolding next_record
@@ -167,11 +167,11 @@ keeps_first s text fields field [] =
     cond_both (ends_at_end s) (took (text ∷ (fields ++ field ∷ [])) st.StartRecord []) None (BeginsWith text) (λ _. refl) (λ _. tt)
 keeps_first s text fields field (byte ∷ bytes) =
     let to = step default_config s byte in
-    let kept = kept_after to.1 text fields field in
+    let unchanged = unchanged_after to.1 text fields field in
     let last = field_after to.1 byte field in
     cond_both (is_end to.1) (took (fields_after to.1 (text ∷ fields) field) to.0 bytes) (next_record default_config to.0 (fields_after to.1 (text ∷ fields) field) last bytes) (BeginsWith text)
-    (λ _. ap first_text kept.1)
-    (λ _. subst (λ (f : List (List ℕ)). BeginsWith text (next_record default_config to.0 f last bytes)) (sym kept.1) (keeps_first to.0 text kept.0 last bytes))
+    (λ _. ap first_text unchanged.1)
+    (λ _. subst (λ (f : List (List ℕ)). BeginsWith text (next_record default_config to.0 f last bytes)) (sym unchanged.1) (keeps_first to.0 text unchanged.0 last bytes))
 
 -- a field that ends is the first of its record
 ended_first : (text more : List ℕ) (byte : ℕ) → ends_field byte ≡ true → BeginsWith text (next_record default_config st.InField [] text (byte ∷ more))
@@ -213,15 +213,15 @@ first_read bytes text len begins is = ⊎_elim
     let start : BeginsRecord bytes = record { some = some; begins = begins some } in
     ⊎_elim
     (λ (inside : len < length bytes).
-    let ends : EndsField is.stands (get_or bytes len 0) = ⊎_elim (λ all. absurd (omega (arith, all, inside))) (λ ends. ends) is.ends in
+    let ends : EndsField is.place_now (get_or bytes len 0) = ⊎_elim (λ all. absurd (omega (arith, all, inside))) (λ ends. ends) is.ends in
     let byte = get_or bytes len 0 in
     let more = drop (len + 1) bytes in
     let parts : bytes ≡ take len bytes ++ byte ∷ more = sym (take-append-drop len bytes) ∙ ap (λ (b : List ℕ). take len bytes ++ b) (drop_more bytes len 0 inside) in
-    let read = ap (next_record default_config st.StartField [] []) parts ∙ is.spells [] [] (byte ∷ more) ∙ outside is.stands byte more [] text ends in
+    let read = ap (next_record default_config st.StartField [] []) parts ∙ is.spells [] [] (byte ∷ more) ∙ outside is.place_now byte more [] text ends in
     first_is bytes text start (subst (BeginsWith text) (sym read) (ended_first text more byte ends.0)))
     (λ (all : length bytes ≤ len).
     let whole : take len bytes ≡ bytes = take_all len bytes all in
-    let read = ap (next_record default_config st.StartField [] []) (sym (append-nil bytes) ∙ ap (λ (b : List ℕ). b ++ []) (sym whole)) ∙ is.spells [] [] [] ∙ at_end is.stands [] text in
+    let read = ap (next_record default_config st.StartField [] []) (sym (append-nil bytes) ∙ ap (λ (b : List ℕ). b ++ []) (sym whole)) ∙ is.spells [] [] [] ∙ at_end is.place_now [] text in
     first_is bytes text start (subst (BeginsWith text) (sym read) refl))
     (cases_lt len (length bytes)))
     (λ (none : length bytes ≤ 0). nothing bytes (omega (arith, none)) is)
@@ -229,7 +229,7 @@ first_read bytes text len begins is = ⊎_elim
       nothing : (bytes : List ℕ) → length bytes < 1 → IsField bytes text len → text_alone bytes ≡ text
       nothing [] few is =
           let zero_len : len ≡ 0 = omega (arith, is.within) in
-          let none = spells_nothing text is.stands (subst (λ (n : ℕ). Spells (take n []) text is.stands) zero_len is.spells) in
+          let none = spells_nothing text is.place_now (subst (λ (n : ℕ). Spells (take n []) text is.place_now) zero_len is.spells) in
           ap (λ (r : List (List (List ℕ))). first_text (first_fields r)) column_records-nil ∙ sym none
       nothing (byte ∷ bytes) few is = absurd (omega (arith, few))
 

@@ -16,6 +16,7 @@ pub mod ClosedLines
 pub mod LineScans
 pub mod ByMode
 pub mod ScannedBy
+pub mod Begun
 pub mod LinesExchanged
 pub mod CutLaw
 pub mod Masks
@@ -25,7 +26,7 @@ pub mod FieldFacts
 pub mod Exchanges
 pub mod OwnFacts
 pub mod OwnLens
-pub mod Wholes
+pub mod PieceRecords
 pub mod Written
 pub mod OwnRecords
 pub mod OwnLaw
@@ -35,3 +36,4 @@ pub mod SplitFacts
 pub mod LowestBit
 pub mod EndsFacts
 pub mod PlainFacts
+pub mod Truncating

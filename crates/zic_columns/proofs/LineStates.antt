@@ -11,7 +11,7 @@ use Rattle.csv.specs.declared.parser.State.{State}
 use Rattle.csv.specs.declared.parser.State.TheVariants as st
 use Rattle.csv.specs.declared.parser.Terminator.TheVariants as term
 use Rattle.zic_columns.specs.Column.{AreWholeRecords, HasNoQuote, ends_line, state_after}
-use Rattle.zic_columns.specs.Lines.{is_open, is_quoted, state_by}
+use Rattle.zic_columns.specs.Lines.{is_open, is_quoted}
 use Rattle.zic_columns.specs.Own.{own_from, own_texts}
 use Rattle.zic_columns.specs.code.LineScan.{HasNoLineEnd}
 use Rattle.zic_columns.specs.code.Machine.{EndsRecord, state_at}
@@ -32,27 +32,27 @@ goes s byte is within =
     ⊎_elim (λ yes. absurd (both_ways (ends_line byte) within (line_ends s byte is yes))) (λ no. no) (cases_Bool (is_end (step default_config s byte).1))
 
 -- a line that begins is read as a field that begins
-pub begun : (byte : ℕ) (line : List ℕ) → ends_line byte ≡ false → state_by default_config st.StartRecord (byte ∷ line) ≡ state_by default_config st.StartField (byte ∷ line)
-unfolding state_by
+pub begun : (byte : ℕ) (line : List ℕ) → ends_line byte ≡ false → state_after default_config st.StartRecord (byte ∷ line) ≡ state_after default_config st.StartField (byte ∷ line)
+unfolding state_after
 begun byte line within = rw within refl
 
 -- within a line a reader stays in a record
-pub still_in : (s : State) (line : List ℕ) → in_record s ≡ true → HasNoLineEnd line → in_record (state_by default_config s line) ≡ true
-unfolding state_by
+pub still_in : (s : State) (line : List ℕ) → in_record s ≡ true → HasNoLineEnd line → in_record (state_after default_config s line) ≡ true
+unfolding state_after
 still_in s [] is none = is
 still_in s (byte ∷ line) is none =
     still_in (step default_config s byte).0 line (stays s byte is (goes s byte is (All-head EndsNone byte line none))) (All-tail EndsNone byte line none)
 
 -- and its bytes are the record's own
 own_line : (s : State) (own line tail : List ℕ) → in_record s ≡ true → HasNoLineEnd line
-    → own_from default_config s own (line ++ tail) ≡ own_from default_config (state_by default_config s line) (own ++ line) tail
-unfolding state_by
+    → own_from default_config s own (line ++ tail) ≡ own_from default_config (state_after default_config s line) (own ++ line) tail
+unfolding state_after
 own_line s own [] tail is none = ap (λ (o : List ℕ). own_from default_config s o tail) (sym (append-nil own))
 own_line s own (byte ∷ line) tail is none =
     let here = goes s byte is (All-head EndsNone byte line none) in
     let to = (step default_config s byte).0 in
     own_more s byte own (line ++ tail) is here ∙ own_line to (own ++ byte ∷ []) line tail (stays s byte is here) (All-tail EndsNone byte line none)
-    ∙ ap (λ (o : List ℕ). own_from default_config (state_by default_config to line) o tail) (append_assoc own (byte ∷ []) line)
+    ∙ ap (λ (o : List ℕ). own_from default_config (state_after default_config to line) o tail) (append_assoc own (byte ∷ []) line)
 
 -- ---- a line that has a byte
 
@@ -70,12 +70,12 @@ closes st.InEscape byte is out ends = absurd (cc out)
 closes st.InComment byte is out ends = absurd (cc is)
 closes st.AfterCr byte is out ends = absurd (cc is)
 
-in_line : (line : List ℕ) → 0 < length line → HasNoLineEnd line → in_record (state_by default_config st.StartRecord line) ≡ true
+in_line : (line : List ℕ) → 0 < length line → HasNoLineEnd line → in_record (state_after default_config st.StartRecord line) ≡ true
 in_line [] some none = absurd (omega (arith, some))
 in_line (byte ∷ line) some none = ap in_record (begun byte line (All-head EndsNone byte line none)) ∙ still_in st.StartField (byte ∷ line) refl none
 
 own_of_line : (line tail : List ℕ) → 0 < length line → HasNoLineEnd line
-    → own_texts (line ++ tail) ≡ own_from default_config (state_by default_config st.StartRecord line) line tail
+    → own_texts (line ++ tail) ≡ own_from default_config (state_after default_config st.StartRecord line) line tail
 own_of_line [] tail some none = absurd (omega (arith, some))
 own_of_line (byte ∷ line) tail some none =
     let within = All-head EndsNone byte line none in
@@ -85,21 +85,21 @@ own_of_line (byte ∷ line) tail some none =
 -- a line without an end is a record's own bytes
 pub own_unended : (line : List ℕ) → 0 < length line → HasNoLineEnd line → own_texts line ≡ line ∷ []
 own_unended line some none =
-    ap own_texts (sym (append-nil line)) ∙ own_of_line line [] some none ∙ own_last (state_by default_config st.StartRecord line) line (in_line line some none)
+    ap own_texts (sym (append-nil line)) ∙ own_of_line line [] some none ∙ own_last (state_after default_config st.StartRecord line) line (in_line line some none)
 
-state_more : (s : State) (line : List ℕ) (end : ℕ) → state_after s (line ++ end ∷ []) ≡ (step default_config (state_after s line) end).0
+state_more : (s : State) (line : List ℕ) (end : ℕ) → state_after default_config s (line ++ end ∷ []) ≡ (step default_config (state_after default_config s line) end).0
 unfolding state_after
 state_more s [] end = refl
 state_more s (byte ∷ line) end = state_more (step default_config s byte).0 line end
 
-same_state : (s : State) (line : List ℕ) → state_after s line ≡ state_by default_config s line
-unfolding state_after state_by
+same_state : (s : State) (line : List ℕ) → state_after default_config s line ≡ state_after default_config s line
+unfolding state_after
 same_state s [] = refl
 same_state s (byte ∷ line) = same_state (step default_config s byte).0 line
 
 module _ (line : List ℕ) (end : ℕ) (some : 0 < length line) (none : HasNoLineEnd line) (closed : is_open 44 line ≡ false) (ends : ends_line end ≡ true) where
   abbrev last : State
-  last = state_by default_config st.StartRecord line
+  last = state_after default_config st.StartRecord line
 
   closing : is_end (step default_config last end).1 ≡ true
   closing = closes last end (in_line line some none) closed ends
@@ -142,8 +142,8 @@ step_out st.InEscape byte out plain = absurd (cc out)
 step_out st.InComment byte out plain = cond_both (byte == 10) (st.StartRecord, act.Skip) (st.InComment, act.Skip) IsOut (λ _. refl) (λ _. refl)
 step_out st.AfterCr byte out plain = cond_both (byte == 10) (st.StartRecord, act.Skip) (start_record default_config byte) IsOut (λ _. refl) (λ _. record_out byte plain)
 
-state_out : (s : State) (line : List ℕ) → is_quoted s ≡ false → HasNoQuote line → is_quoted (state_by default_config s line) ≡ false
-unfolding state_by
+state_out : (s : State) (line : List ℕ) → is_quoted s ≡ false → HasNoQuote line → is_quoted (state_after default_config s line) ≡ false
+unfolding state_after
 state_out s [] out plain = out
 state_out s (byte ∷ line) out plain =
     let P = λ (b : ℕ). b ≢ 34 in
@@ -189,7 +189,7 @@ pub record EndsWithLine (bytes : List ℕ) : Type 0 where
   pub parts : bytes ≡ front ++ end ∷ []
   pub ends : ends_line end ≡ true
 
-ends_from : (s : State) (byte : ℕ) (bytes : List ℕ) → ends_at_end (state_after s (byte ∷ bytes)) ≡ false → EndsWithLine (byte ∷ bytes)
+ends_from : (s : State) (byte : ℕ) (bytes : List ℕ) → ends_at_end (state_after default_config s (byte ∷ bytes)) ≡ false → EndsWithLine (byte ∷ bytes)
 unfolding state_after
 ends_from s byte [] before = record { front = []; end = byte; parts = refl; ends = step_back s byte before }
 ends_from s byte (next ∷ bytes) before =
@@ -204,21 +204,21 @@ whole_ends (byte ∷ bytes) some whole = ends_from st.StartRecord byte bytes (wh
 -- ---- the walk over a line
 
 -- a line ends between double quotes where a field that begins there does
-pub open_from_start : (line : List ℕ) → HasNoLineEnd line → is_open 44 line ≡ is_quoted (state_by default_config st.StartField line)
-unfolding state_by
+pub open_from_start : (line : List ℕ) → HasNoLineEnd line → is_open 44 line ≡ is_quoted (state_after default_config st.StartField line)
+unfolding state_after
 open_from_start [] none = refl
 open_from_start (byte ∷ line) none = rw (All-head EndsNone byte line none) refl
 
 -- after one byte more
-pub next_state : (s t : State) (line : List ℕ) (at : ℕ) → at < length line → (step default_config s (get_or line at 0)).0 ≡ t → state_by default_config s (drop at line) ≡ state_by default_config t (drop (at + 1) line)
-unfolding state_by
+pub next_state : (s t : State) (line : List ℕ) (at : ℕ) → at < length line → (step default_config s (get_or line at 0)).0 ≡ t → state_after default_config s (drop at line) ≡ state_after default_config t (drop (at + 1) line)
+unfolding state_after
 next_state s t line at lt to =
     let one : suc at ≡ at + 1 = omega arith in
-    ap (state_by default_config s) (drop-cons line at 0 lt) ∙ ap₂ (λ (u : State) (n : ℕ). state_by default_config u (drop n line)) to one
+    ap (state_after default_config s) (drop-cons line at 0 lt) ∙ ap₂ (λ (u : State) (n : ℕ). state_after default_config u (drop n line)) to one
 
-pub last_state : (s : State) (line : List ℕ) (at : ℕ) → length line ≤ at → state_by default_config s (drop at line) ≡ s
-unfolding state_by
-last_state s line at end = ap (state_by default_config s) (drop_all at line end)
+pub last_state : (s : State) (line : List ℕ) (at : ℕ) → length line ≤ at → state_after default_config s (drop at line) ≡ s
+unfolding state_after
+last_state s line at end = ap (state_after default_config s) (drop_all at line end)
 
 -- a byte that ends no line ends no record there
 pub not_ended : (p : Place) (byte : ℕ) → ends_line byte ≡ false → EndsRecord (state_at p) byte → ⊥

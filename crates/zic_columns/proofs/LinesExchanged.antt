@@ -1,4 +1,5 @@
 -- Lines as records, in a column in which the delimiter and the comma stand in each other's place.
+use Rattle.zic_plan.specs.Delimiter.{exchange}
 use Rattle.std.proofs.Common.{◌≡◌, ◌==◌, ◌||◌, ◌<◌, ℕ, Bool, true, false, All, List, [], ◌∷◌, ◌++◌, length, map, filter, refl, sym, ap, ap₂, ◌∙◌, subst, ⊎_elim, arith}
 use Rattle.std.specs.List.{onto_first, slice_split}
 use Rattle.std.specs.Prelude.{if◌then◌else◌}
@@ -10,19 +11,19 @@ use Rattle.csv.specs.Reading.{default_config, strip_bom}
 use Rattle.csv.specs.declared.parser.State.{State}
 use Rattle.csv.specs.declared.parser.State.TheVariants as st
 use Rattle.zic_plan.specs.declared.layout.Records.TheVariants as by
-use Rattle.zic_columns.specs.Column.{column_records, ends_line, has_byte, lines_of}
-use Rattle.zic_columns.specs.Exchange.{AreDelimitedRecords, CanDelimit, config_of, exchange, exchanged}
+use Rattle.zic_columns.specs.Column.{column_records, ends_line, has_byte, lines_of, state_after}
+use Rattle.zic_columns.specs.Exchange.{AreDelimitedRecords, CanDelimit, config_of, exchanged}
 use Rattle.zic_columns.specs.Laws.{RecordsByAreExchanged, RecordsByAreOne, TextsByAreExchanged}
-use Rattle.zic_columns.specs.Lines.{AreLineFields, AreLineRecords, IsLineRecord, exchanged_record, is_open, is_quoted, line_record, state_by}
-use Rattle.zic_columns.specs.Own.{CsvRecord, beside, csv_records, delimited_texts, own_texts}
-use Rattle.zic_columns.specs.Record.{first_fields, whole_of}
+use Rattle.zic_columns.specs.Lines.{AreLineFields, AreLineRecords, IsLineRecord, exchanged_record, is_open, is_quoted, line_record}
+use Rattle.zic_columns.specs.Own.{CsvRecord, paired, csv_records, delimited_texts, own_texts}
+use Rattle.zic_columns.specs.Record.{first_fields, own_record}
 use Rattle.zic_columns.specs.code.LineScan.{HasNoLineEnd}
 use Rattle.zic_columns.proofs.Exchanges.{are_exchanged, as_other, records_exchanged, step_exchanged, strip_exchanged, texts_exchanged, twice}
 use Rattle.zic_columns.proofs.LineStates.{own_unended}
 use Rattle.zic_columns.proofs.OwnRecords.{of_own_bytes}
 use Rattle.zic_columns.proofs.SomeRecords.{are_read}
 use Rattle.zic_columns.proofs.StepFacts.{records-once}
-use Rattle.zic_columns.proofs.Wholes.{beside_kept, wholes_fields}
+use Rattle.zic_columns.proofs.PieceRecords.{paired_mapped, wholes_fields}
 
 -- ---- what lines are
 
@@ -59,13 +60,13 @@ are_lines bytes = with_byte (slice_split ends_line bytes) (parts_within bytes)
 -- a CSV reader gives a line one record, also where it is open
 one_record : (line : List ℕ) → IsLine line → column_records line ≡ first_fields (column_records line) ∷ []
 one_record line is =
-    sym (wholes_fields line) ∙ ap (map (λ (w : CsvRecord). w.fields)) (of_own_bytes line ∙ ap (map whole_of) (own_unended line is.0 is.1))
+    sym (wholes_fields line) ∙ ap (map (λ (w : CsvRecord). w.fields)) (of_own_bytes line ∙ ap (map own_record) (own_unended line is.0 is.1))
 
 -- ---- exchanged
 
 module _ (d : ℕ) (can : CanDelimit d) where
-  end_kept : (byte : ℕ) → ends_line (exchange d byte) ≡ ends_line byte
-  end_kept byte = ap₂ (λ (a b : Bool). a || b) (as_other d 13 byte (omega arith) (λ e. can.return (sym e))) (as_other d 10 byte (omega arith) (λ e. can.feed (sym e)))
+  end_unchanged : (byte : ℕ) → ends_line (exchange d byte) ≡ ends_line byte
+  end_unchanged byte = ap₂ (λ (a b : Bool). a || b) (as_other d 13 byte (omega arith) (λ e. can.return (sym e))) (as_other d 10 byte (omega arith) (λ e. can.feed (sym e)))
 
   onto_exchanged : (byte : ℕ) (parts : List (List ℕ)) → onto_first (exchange d byte) (map (exchanged d) parts) ≡ map (exchanged d) (onto_first byte parts)
   onto_exchanged byte [] = refl
@@ -75,10 +76,10 @@ module _ (d : ℕ) (can : CanDelimit d) where
   split_exchanged [] = refl
   split_exchanged (byte ∷ bytes) = ⊎_elim
       (λ (yes : ends_line byte ≡ true).
-      slice_split-cons_yes ends_line (exchange d byte) (exchanged d bytes) (end_kept byte ∙ yes) ∙ ap (λ (l : List (List ℕ)). [] ∷ l) (split_exchanged bytes)
+      slice_split-cons_yes ends_line (exchange d byte) (exchanged d bytes) (end_unchanged byte ∙ yes) ∙ ap (λ (l : List (List ℕ)). [] ∷ l) (split_exchanged bytes)
       ∙ ap (map (exchanged d)) (sym (slice_split-cons_yes ends_line byte bytes yes)))
       (λ (no : ends_line byte ≡ false).
-      slice_split-cons_no ends_line (exchange d byte) (exchanged d bytes) (end_kept byte ∙ no) ∙ ap (onto_first (exchange d byte)) (split_exchanged bytes)
+      slice_split-cons_no ends_line (exchange d byte) (exchanged d bytes) (end_unchanged byte ∙ no) ∙ ap (onto_first (exchange d byte)) (split_exchanged bytes)
       ∙ onto_exchanged byte (slice_split ends_line bytes) ∙ ap (map (exchanged d)) (sym (slice_split-cons_no ends_line byte bytes no)))
       (cases_Bool (ends_line byte))
 
@@ -90,11 +91,11 @@ module _ (d : ℕ) (can : CanDelimit d) where
   lines_exchanged : (bytes : List ℕ) → lines_of (exchanged d bytes) ≡ map (exchanged d) (lines_of bytes)
   lines_exchanged bytes = ap (filter has_byte) (split_exchanged bytes) ∙ some_exchanged (slice_split ends_line bytes)
 
-  state_exchanged : (s : State) (line : List ℕ) → state_by (config_of d) s (exchanged d line) ≡ state_by default_config s line
-  unfolding state_by
+  state_exchanged : (s : State) (line : List ℕ) → state_after (config_of d) s (exchanged d line) ≡ state_after default_config s line
+  unfolding state_after
   state_exchanged s [] = refl
   state_exchanged s (byte ∷ line) =
-      ap (λ (t : State). state_by (config_of d) t (exchanged d line)) (ap (λ p. p.0) (step_exchanged d can s byte)) ∙ state_exchanged (step default_config s byte).0 line
+      ap (λ (t : State). state_after (config_of d) t (exchanged d line)) (ap (λ p. p.0) (step_exchanged d can s byte)) ∙ state_exchanged (step default_config s byte).0 line
 
   open_exchanged : (line : List ℕ) → is_open d (exchanged d line) ≡ is_open 44 line
   open_exchanged line = ap is_quoted (state_exchanged st.StartRecord line)
@@ -134,8 +135,8 @@ by_exchanged by.Csv d column can =
     let records = column_records inside in (
       map (map (exchanged d)) records,
       records_exchanged d column can,
-      sym (ap (λ (t : List (List ℕ)). beside t (map (map (exchanged d)) records)) (texts_exchanged d column can)
-          ∙ beside_kept (exchanged d) (map (exchanged d)) (own_texts inside) records),
+      sym (ap (λ (t : List (List ℕ)). paired t (map (map (exchanged d)) records)) (texts_exchanged d column can)
+          ∙ paired_mapped (exchanged d) (map (exchanged d)) (own_texts inside) records),
     )
 by_exchanged by.Lines d column can = line_records_back d can column
 
@@ -167,5 +168,5 @@ lines_once d (line ∷ lines) (x ∷ xs) (y ∷ ys) first second =
 pub by_once : RecordsByAreOne
 by_once by.Csv d bytes a b first second =
     let same = records-once (config_of d) st.StartRecord bytes first.0 second.0 first.1 second.1 in
-    first.2 ∙ ap (beside (delimited_texts d bytes)) same ∙ sym second.2
+    first.2 ∙ ap (paired (delimited_texts d bytes)) same ∙ sym second.2
 by_once by.Lines d bytes a b first second = lines_once d (lines_of bytes) a b first second

@@ -202,9 +202,9 @@ ends_masked before bytes at within follow is =
     let fits : follow < 2 ^ 64 = omega (arith, is) in
     let apart = ends_apart before block in
     let low : bit_and shifted mask % 2 ^ 64 ≡ bit_and shifted mask = mod-eq_of_lt (omega (arith, and_le_r shifted mask, small)) in
-    let kept : mask % 2 ^ 64 ≡ mask = mod-eq_of_lt small in
+    let unchanged : mask % 2 ^ 64 ≡ mask = mod-eq_of_lt small in
     let both : bit_and follow mask ≡ bit_and shifted mask =
-    ap₂ bit_and is (sym kept) ∙ sym (and_mod shifted mask 64) ∙ low in
+    ap₂ bit_and is (sym unchanged) ∙ sym (and_mod shifted mask 64) ∙ low in
     let rest : bit_and mask (2 ^ 64 - 1 - follow) ≡ mask_l (record_ends before block) =
     and_comm mask (2 ^ 64 - 1 - follow) ∙ omega (arith, and-not 64 follow mask fits small, both, apart) in
     ap count_ones rest ∙ ends_counted before block

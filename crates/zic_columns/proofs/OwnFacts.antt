@@ -6,7 +6,7 @@ use Rattle.csv.specs.Reading.{AreRecords, Reached, default_config}
 use Rattle.csv.specs.declared.parser.Config.{Config}
 use Rattle.csv.specs.declared.parser.State.{State}
 use Rattle.csv.specs.declared.parser.State.TheVariants as st
-use Rattle.zic_columns.specs.Column.{AreWholeRecords, StandsBeforeRecord, column_records, state_after}
+use Rattle.zic_columns.specs.Column.{AreWholeRecords, IsBeforeRecord, column_records, state_after}
 use Rattle.zic_columns.specs.Exchange.{config_of}
 use Rattle.zic_columns.specs.Laws.{TextsAreCounted}
 use Rattle.zic_columns.specs.Own.{own_after, own_from, own_texts}
@@ -31,7 +31,7 @@ own_before st.InComment bytes before = absurd (cc before)
 
 -- ---- where a column is cut
 
-own_cut : (s : State) (own a b : List ℕ) → (ends_at_end s ≡ false → own ≡ []) → ends_at_end (state_after s a) ≡ false
+own_cut : (s : State) (own a b : List ℕ) → (ends_at_end s ≡ false → own ≡ []) → ends_at_end (state_after default_config s a) ≡ false
     → own_from default_config s own (a ++ b) ≡ own_from default_config s own a ++ own_texts b
 unfolding own_from state_after
 own_cut s own [] b none before = rw (none before, before) (own_before s b before)
@@ -42,7 +42,7 @@ own_cut s own (byte ∷ a) b none before =
     (λ (goes : is_end to.1 ≡ false). rw goes (own_cut to.0 (own_after to.0 byte own) a b (λ no. rw no refl) before))
     (cases_Bool (is_end to.1))
 
-pub own_ahead : (a b : List ℕ) → StandsBeforeRecord a → own_texts (a ++ b) ≡ own_texts a ++ own_texts b
+pub own_ahead : (a b : List ℕ) → IsBeforeRecord a → own_texts (a ++ b) ≡ own_texts a ++ own_texts b
 own_ahead a b before = own_cut st.StartRecord [] a b (λ _. refl) before
 
 -- ---- each record has its own bytes
@@ -105,7 +105,7 @@ one_more st.AfterQuote own ends = refl
 one_more st.InEscape own ends = refl
 one_more st.InComment own ends = refl
 
-goes_on : (s : State) (own a : List ℕ) → ends_at_end (state_after s a) ≡ true
+goes_on : (s : State) (own a : List ℕ) → ends_at_end (state_after default_config s a) ≡ true
     → length (own_from default_config s own (a ++ 97 ∷ [])) ≡ length (own_from default_config s own a)
 unfolding own_from state_after
 goes_on s own [] ends = one_more s own ends
@@ -120,13 +120,13 @@ letter_is_one : length (own_texts (97 ∷ [])) ≡ 1
 unfolding own_from
 letter_is_one = refl
 
-pub whole_before : (bytes : List ℕ) → AreWholeRecords bytes → StandsBeforeRecord bytes
+pub whole_before : (bytes : List ℕ) → AreWholeRecords bytes → IsBeforeRecord bytes
 whole_before bytes whole = ⊎_elim
-    (λ (within : ends_at_end (state_after st.StartRecord bytes) ≡ true).
+    (λ (within : ends_at_end (state_after default_config st.StartRecord bytes) ≡ true).
     let longer = own_counted (bytes ++ 97 ∷ []) ∙ ap length (whole (97 ∷ [])) ∙ length-append (column_records bytes) (column_records (97 ∷ [])) in
     absurd (omega (arith, longer, goes_on st.StartRecord [] bytes within, own_counted bytes, own_counted (97 ∷ []), letter_is_one)))
     (λ before. before)
-    (cases_Bool (ends_at_end (state_after st.StartRecord bytes)))
+    (cases_Bool (ends_at_end (state_after default_config st.StartRecord bytes)))
 
 pub own_whole : (a b : List ℕ) → AreWholeRecords a → own_texts (a ++ b) ≡ own_texts a ++ own_texts b
 own_whole a b whole = own_ahead a b (whole_before a whole)

@@ -95,7 +95,7 @@ abbrev left_in : Option Read → List ℕ
 left_in None = []
 left_in (Some read) = read.2
 
-same_read : (fields all : List (List ℕ)) (t u : State) (x y : List ℕ) → took fields t x ≡ took all u y → (t ≡ u) × (x ≡ y)
+pub same_read : (fields all : List (List ℕ)) (t u : State) (x y : List ℕ) → took fields t x ≡ took all u y → (t ≡ u) × (x ≡ y)
 same_read fields all t u x y same = (ap state_in same, ap left_in same)
 
 -- a byte that ends a record ends a line
@@ -182,7 +182,7 @@ own_unended s own fields all field (byte ∷ a) t is reads =
     (cases_Bool (is_end to.1))
 
 -- a letter after the bytes of a record is read with it
-letter_last : (p : Place) (fields : List (List ℕ)) (field : List ℕ) → (all : List (List ℕ)) × (next_record default_config (state_at p) fields field (97 ∷ []) ≡ took all st.StartRecord [])
+pub letter_last : (p : Place) (fields : List (List ℕ)) (field : List ℕ) → (all : List (List ℕ)) × (next_record default_config (state_at p) fields field (97 ∷ []) ≡ took all st.StartRecord [])
 unfolding next_record
 letter_last place.Start fields field = (fields ++ (field ++ 97 ∷ []) ∷ [], refl)
 letter_last place.Plain fields field = (fields ++ (field ++ 97 ∷ []) ∷ [], refl)

@@ -11,8 +11,8 @@ use Rattle.csv.specs.declared.parser.State.{State}
 use Rattle.csv.specs.declared.parser.State.TheVariants as st
 use Rattle.zic_columns.specs.Column.{column_records, ends_line}
 use Rattle.zic_columns.specs.Ends.{BeginsWithin}
-use Rattle.zic_columns.specs.Own.{CsvRecord, beside, own_from, own_texts, csv_records}
-use Rattle.zic_columns.specs.Record.{first_fields, whole_of}
+use Rattle.zic_columns.specs.Own.{CsvRecord, paired, own_from, own_texts, csv_records}
+use Rattle.zic_columns.specs.Record.{first_fields, own_record}
 use Rattle.zic_columns.proofs.CutLaw.{in_record, stays}
 use Rattle.zic_columns.proofs.MachineFacts as Machine
 use Rattle.zic_columns.proofs.OwnFacts.{own_before, took}
@@ -148,12 +148,12 @@ IsAlone w = column_records w.own ≡ w.fields ∷ []
 
 record AreAlone (bytes : List ℕ) : Type 0 where
   pub each : All IsAlone (csv_records bytes)
-  pub same : csv_records bytes ≡ map whole_of (own_texts bytes)
+  pub same : csv_records bytes ≡ map own_record (own_texts bytes)
   pub trimmed : All IsTrimmed (own_texts bytes)
 
 wholes_first : (bytes own rest : List ℕ) (is : IsFirstOwn bytes own rest) → csv_records bytes ≡ record { own = own; fields = is.fields } ∷ csv_records rest
 wholes_first bytes own rest is =
-    ap (λ (t : List (List ℕ)). beside t (column_records bytes)) is.owns ∙ ap (beside (own ∷ own_texts rest)) is.reads
+    ap (λ (t : List (List ℕ)). paired t (column_records bytes)) is.owns ∙ ap (paired (own ∷ own_texts rest)) is.reads
 
 alone_first : (bytes own rest : List ℕ) → IsFirstOwn bytes own rest → AreAlone rest → AreAlone bytes
 alone_first bytes own rest is later =
@@ -162,24 +162,24 @@ alone_first bytes own rest is later =
     record {
       each = subst (All IsAlone) (sym all) (All-cons IsAlone first (csv_records rest) is.alone later.each);
       same = all ∙ ap (λ (w : List CsvRecord). first ∷ w) later.same
-          ∙ ap (λ (r : List (List (List ℕ))). record { own = own; fields = first_fields r } ∷ map whole_of (own_texts rest)) (sym is.alone)
-          ∙ ap (map whole_of) (sym is.owns);
+          ∙ ap (λ (r : List (List (List ℕ))). record { own = own; fields = first_fields r } ∷ map own_record (own_texts rest)) (sym is.alone)
+          ∙ ap (map own_record) (sym is.owns);
       trimmed = subst (All IsTrimmed) (sym is.owns) (All-cons IsTrimmed own (own_texts rest) is.trimmed later.trimmed);
     }
 
 alone_up_to : (n : ℕ) (bytes : List ℕ) → length bytes < n → AreAlone bytes
 alone_up_to zero bytes few = absurd (omega (arith, few))
 alone_up_to (suc n) [] few =
-    let none : csv_records [] ≡ [] = ap (λ (t : List (List ℕ)). beside t (column_records [])) own_nil in
-    record { each = subst (All IsAlone) (sym none) (All-nil IsAlone); same = none ∙ ap (map whole_of) (sym own_nil); trimmed = subst (All IsTrimmed) (sym own_nil) (All-nil IsTrimmed) }
+    let none : csv_records [] ≡ [] = ap (λ (t : List (List ℕ)). paired t (column_records [])) own_nil in
+    record { each = subst (All IsAlone) (sym none) (All-nil IsAlone); same = none ∙ ap (map own_record) (sym own_nil); trimmed = subst (All IsTrimmed) (sym own_nil) (All-nil IsTrimmed) }
 alone_up_to (suc n) (byte ∷ bytes) few = ⊎_elim
     (λ (ends : ends_line byte ≡ true).
     let later = alone_up_to n bytes (omega (arith, few)) in
     let same : csv_records (byte ∷ bytes) ≡ csv_records bytes =
-    ap (λ (t : List (List ℕ)). beside t (column_records (byte ∷ bytes))) (own_end byte bytes ends) ∙ ap (beside (own_texts bytes)) (column_records-end byte bytes ends) in
+    ap (λ (t : List (List ℕ)). paired t (column_records (byte ∷ bytes))) (own_end byte bytes ends) ∙ ap (paired (own_texts bytes)) (column_records-end byte bytes ends) in
     record {
       each = subst (All IsAlone) (sym same) later.each;
-      same = same ∙ later.same ∙ ap (map whole_of) (sym (own_end byte bytes ends));
+      same = same ∙ later.same ∙ ap (map own_record) (sym (own_end byte bytes ends));
       trimmed = subst (All IsTrimmed) (sym (own_end byte bytes ends)) later.trimmed;
     })
     (λ (within : ends_line byte ≡ false).
@@ -196,5 +196,5 @@ each_alone bytes = (are_alone bytes).each
 pub each_trimmed : (bytes : List ℕ) → All (λ own. BeginsWithin own × (length (column_records (own ++ 120 ∷ [])) ≡ 1)) (own_texts bytes)
 each_trimmed bytes = (are_alone bytes).trimmed
 
-pub of_own_bytes : (bytes : List ℕ) → csv_records bytes ≡ map whole_of (own_texts bytes)
+pub of_own_bytes : (bytes : List ℕ) → csv_records bytes ≡ map own_record (own_texts bytes)
 of_own_bytes bytes = (are_alone bytes).same

@@ -12,7 +12,7 @@ use Rattle.zic_columns.specs.code.Hand.{AreSomeRecords, CanBeCut, ClosedBy, Open
 use Rattle.zic_columns.specs.declared.line_scan.OpenLine.{OpenLine}
 use Rattle.zic_columns.proofs.ByMode.{alike_by, front_by, joined_by, owns_by}
 use Rattle.zic_columns.proofs.OwnFacts.{own_counted}
-use Rattle.zic_columns.proofs.Wholes.{wholes_counted, wholes_owns}
+use Rattle.zic_columns.proofs.PieceRecords.{wholes_counted, wholes_owns}
 
 -- ---- where bytes were gathered before
 

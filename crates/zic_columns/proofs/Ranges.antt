@@ -21,9 +21,9 @@ grown xs ys start end k n ordered within fits =
     ∙ (rw (take_at held after _ len, drop_at held after _ len, take-append-le n ys (post_of end k xs) fits, same) refl)
 
 -- a part stays where what stands after its end is written
-pub kept : (xs ys : List ℕ) (start end k : ℕ) → start ≤ end → end ≤ length xs
+pub unchanged : (xs ys : List ℕ) (start end k : ℕ) → start ≤ end → end ≤ length xs
     → slice_range (put_mid end k xs ys) start end ≡ slice_range xs start end
-kept xs ys start end k ordered within =
+unchanged xs ys start end k ordered within =
     let none : end ≡ end + 0 = omega arith in
     ap (slice_range (put_mid end k xs ys) start) none ∙ grown xs ys start end k 0 ordered within (omega arith) ∙ append-nil _
 

@@ -3,13 +3,16 @@ use Rattle.std.proofs.Common.{◌≡◌, ◌<◌, ◌≤◌, ℕ, true, false, L
 use Rattle.std.specs.Prelude.{IfSome, MatchOption}
 use Rattle.std.specs.Io.KnownBytes.{IsAtEnd}
 use Rattle.std.proofs.lemmas.List.{append-nil, drop_all, take_all}
+use Rattle.csv.specs.declared.parser.State.TheVariants as st
 use Rattle.zic_plan.specs.declared.layout.Records.{Records}
 use Rattle.zic_plan.specs.declared.layout.Records.TheVariants as by
 use Rattle.zic_columns.specs.Column.{AreWholeRecords, column_records}
 use Rattle.zic_columns.specs.Lines.{is_open, line_records, open_record, records_by}
-use Rattle.zic_columns.specs.code.Hand.{CanBeCut, ClosedBy, IsScannedBy, OpensWith, UnendedBy, mode_of, open_of_scan, whole_of_scan}
+use Rattle.zic_columns.specs.code.Hand.{AreBegun, CanBeCut, ClosedBy, IsScannedBy, OpensWith, UnendedBy, mode_of, open_of_scan, whole_of_scan}
 use Rattle.zic_columns.specs.code.LineScan.{HasNoLineEnd, IsOpenLine}
+use Rattle.zic_columns.specs.code.Machine.{BeginsRecord, ReadsTo, state_at}
 use Rattle.zic_columns.specs.declared.line_scan.OpenLine.{OpenLine}
+use Rattle.zic_columns.specs.declared.machine.Place.{Place}
 use Rattle.zic_columns.specs.declared.scan.Scan.{Scan}
 use Rattle.zic_columns.specs.declared.scan.Scan.TheVariants as scan
 use Rattle.zic_columns.proofs.ClosedLines.{closed_unended, open_unended}
@@ -48,8 +51,12 @@ opens_with bytes (scan.Lines found) line come is some =
     line_opens (drop found.whole bytes) line come opened
 
 -- neither is in hand
+are_begun : (bytes : List ℕ) (begun : Option Place) → MatchOption begun (bytes ≡ []) (λ place. BeginsRecord bytes × ReadsTo st.StartField bytes (state_at place)) → AreBegun bytes
+are_begun bytes None none = inl none
+are_begun bytes (Some place) is = inr (place, is.0, is.1)
+
 pub unended_by : (bytes : List ℕ) (s : Scan) → IsScannedBy bytes s → open_of_scan s ≡ None → UnendedBy (mode_of s) (drop (whole_of_scan s) bytes)
-unended_by bytes (scan.Csv found) is none = tt
+unended_by bytes (scan.Csv found) is none = are_begun (drop found.whole bytes) found.begun is.begun
 unended_by bytes (scan.Lines found) is none =
     let unended : MatchOption None (HasNoLineEnd (drop found.whole bytes)) (IsOpenLine (drop found.whole bytes)) = rw none at is.then in
     unended

@@ -2,7 +2,7 @@
 use Rattle.std.proofs.Common.{◌≡◌, ◌+◌, ◌-◌, ◌<◌, ℕ, List, [], ◌∷◌, ◌++◌, length, map, take, drop, get_or, sym, ap, ◌∙◌, append_assoc, arith}
 use Rattle.std.proofs.lemmas.List.{drop_at, drop_more, length-append, take-append-drop}
 use Rattle.zic_columns.specs.Own.{CsvRecord, own_texts, csv_records}
-use Rattle.zic_columns.specs.Record.{record_at, whole_of}
+use Rattle.zic_columns.specs.Record.{record_at, own_record}
 use Rattle.zic_columns.specs.code.Line.{IsAfterLineEnds}
 use Rattle.zic_columns.specs.code.Machine.{BeginsRecord}
 use Rattle.zic_columns.specs.code.Plain.{IsLineEndAt, IsPlainFrom}
@@ -27,20 +27,20 @@ rest_at piece rest at after =
 pub after_end : (piece : List ℕ) (at : ℕ) → IsLineEndAt piece at → csv_records (drop at piece) ≡ csv_records (drop (at + 1) piece)
 after_end piece at is =
     let rest = drop (at + 1) piece in
-    of_own_bytes (drop at piece) ∙ ap (λ (l : List ℕ). map whole_of (own_texts l)) (drop_more piece at 0 is.within)
-    ∙ ap (map whole_of) (own_end (get_or piece at 0) rest is.here) ∙ sym (of_own_bytes rest)
+    of_own_bytes (drop at piece) ∙ ap (λ (l : List ℕ). map own_record (own_texts l)) (drop_more piece at 0 is.within)
+    ∙ ap (map own_record) (own_end (get_or piece at 0) rest is.here) ∙ sym (of_own_bytes rest)
 
 module _ (piece : List ℕ) (at start : ℕ) (after : IsAfterLineEnds (drop at piece) (drop start piece)) where
   -- the line ends make no record
   rest_records : csv_records (drop at piece) ≡ csv_records (drop start piece)
   rest_records =
-      of_own_bytes (drop at piece) ∙ ap (λ (l : List ℕ). map whole_of (own_texts l)) after.parts
-      ∙ ap (map whole_of) (own_ends after.skipped (drop start piece) after.ends) ∙ sym (of_own_bytes (drop start piece))
+      of_own_bytes (drop at piece) ∙ ap (λ (l : List ℕ). map own_record (own_texts l)) after.parts
+      ∙ ap (map own_record) (own_ends after.skipped (drop start piece) after.ends) ∙ sym (of_own_bytes (drop start piece))
 
   pub none_next : drop start piece ≡ [] → (csv_records (drop at piece) ≡ []) × (csv_records (drop start piece) ≡ [])
   none_next none =
       let nothing : csv_records (drop start piece) ≡ [] =
-      of_own_bytes (drop start piece) ∙ ap (λ (l : List ℕ). map whole_of (own_texts l)) none ∙ ap (map whole_of) own_nil in
+      of_own_bytes (drop start piece) ∙ ap (λ (l : List ℕ). map own_record (own_texts l)) none ∙ ap (map own_record) own_nil in
       (rest_records ∙ nothing, nothing)
 
   pub begins_next : 0 < length (drop start piece) → BeginsRecord (drop start piece)
@@ -49,7 +49,7 @@ module _ (piece : List ℕ) (at start : ℕ) (after : IsAfterLineEnds (drop at p
   pub first_next : (wanted : Wanted) (given : Record) → IsRecordFrom piece start wanted given
       → csv_records (drop at piece) ≡ record_at piece given ∷ csv_records (drop given.own.«end» piece)
   first_next wanted given is =
-      rest_records ∙ of_own_bytes (drop start piece) ∙ ap (map whole_of) is.owns
+      rest_records ∙ of_own_bytes (drop start piece) ∙ ap (map own_record) is.owns
       ∙ ap (λ (w : List CsvRecord). record_at piece given ∷ w) (sym (of_own_bytes (drop given.own.«end» piece)))
 
   pub plain_next : (wanted : Wanted) (ends : FieldEnds) (given : Record) → IsPlainFrom piece start wanted ends given

@@ -7,7 +7,7 @@ use Rattle.csv.specs.Reading.{is_bom, strip_bom}
 use Rattle.zic_columns.specs.Column.{AreWholeRecords, column_records}
 use Rattle.zic_columns.specs.Lines.{open_record, records_by}
 use Rattle.zic_columns.specs.Own.{CsvRecord, csv_records}
-use Rattle.zic_columns.specs.Round.{ColumnOf, HasNoRecord, StaysWithin, Takes, TakesOf, may_take, wholes_of}
+use Rattle.zic_columns.specs.Round.{ColumnOf, HasNoRecord, StaysWithin, Takes, TakesOf, may_take, records_of_pieces}
 use Rattle.zic_columns.specs.code.Hand.{AreSomeRecords, CanBeCut, ClosedBy, OpensWith}
 use Rattle.zic_columns.specs.declared.line_scan.OpenLine.{OpenLine}
 use Rattle.zic_plan.specs.declared.layout.Records.{Records}
@@ -18,7 +18,7 @@ use Rattle.zic_columns.specs.code.Range.{pieces_at}
 use Rattle.zic_columns.specs.declared.pieces.Cut.{Cut}
 use Rattle.zic_columns.specs.declared.pieces.PieceRange.{PieceRange}
 use Rattle.zic_columns.proofs.Cuts.{pieces_cut}
-use Rattle.zic_columns.proofs.Wholes.{wholes_none}
+use Rattle.zic_columns.proofs.PieceRecords.{wholes_none}
 
 -- bytes that stay have no record taken
 pub takes_none : (mode : Records) (old new : Option (List ℕ)) → Keeps old new → Takes mode old new []
@@ -46,9 +46,9 @@ module _ (mode : Records) (held : List ℕ) (count size : ℕ) (cut : Cut) (is :
   cut_within : (cut.len ≤ count) × (cut.len ≤ length held)
   cut_within = (omega (arith, is.within, length-take count held), omega (arith, is.within, length-take count held))
 
-  cut_records : csv_records front ≡ wholes_of pieces_of
+  cut_records : csv_records front ≡ records_of_pieces pieces_of
   unfolding pieces_of
-  cut_records = ap csv_records (sym (take-take cut.len count held cut_within.0)) ∙ is.records ∙ ap wholes_of (pieces_cut held count size cut is)
+  cut_records = ap csv_records (sym (take-take cut.len count held cut_within.0)) ∙ is.records ∙ ap records_of_pieces (pieces_cut held count size cut is)
 
   -- nothing is left of what was to be cut, or whole records were cut off
   cut_whole : (drop cut.len (take count held) ≡ []) ⊎ AreWholeRecords front
@@ -82,22 +82,22 @@ module _ (mode : Records) (held : List ℕ) (count size : ℕ) (cut : Cut) (is :
       cut_whole)
       some
 
-  cut_off : (rest : List ℕ) → CanBeCut mode held (Some rest) count → records_by mode (held ++ rest) ≡ wholes_of pieces_of ++ records_by mode (drop cut.len held ++ rest)
+  cut_off : (rest : List ℕ) → CanBeCut mode held (Some rest) count → records_by mode (held ++ rest) ≡ records_of_pieces pieces_of ++ records_by mode (drop cut.len held ++ rest)
   cut_off rest can =
       ap (records_by mode) (in_two held rest cut.len) ∙ joined_by mode front (drop cut.len held ++ rest) (cut_left rest can.some) (cut_closed can.closed)
       ∙ ap (λ (r : List CsvRecord). r ++ records_by mode (drop cut.len held ++ rest)) cut_records
 
   -- pieces are cut of the first bytes in hand
   pub takes_cut : (come : Option (List ℕ)) → CanBeCut mode held come count
-      → Takes mode (prepend_known held come) (prepend_known (drop cut.len held) come) (wholes_of (pieces_at (take cut.len held) cut.ranges.items))
+      → Takes mode (prepend_known held come) (prepend_known (drop cut.len held) come) (records_of_pieces (pieces_at (take cut.len held) cut.ranges.items))
   unfolding pieces_of
   takes_cut None can = tt
   takes_cut (Some rest) can = (drop cut.len held ++ rest, refl, cut_off rest can)
 
   -- no piece has no record
-  no_pieces : length cut.ranges.items ≡ 0 → wholes_of pieces_of ≡ []
+  no_pieces : length cut.ranges.items ≡ 0 → records_of_pieces pieces_of ≡ []
   unfolding pieces_of
-  no_pieces nil = ap (λ (r : List PieceRange). wholes_of (pieces_at (take cut.len held) r)) (nil_from_length cut.ranges.items nil)
+  no_pieces nil = ap (λ (r : List PieceRange). records_of_pieces (pieces_at (take cut.len held) r)) (nil_from_length cut.ranges.items nil)
 
   -- nothing is left where there is no piece
   pub none_left : (come : Option (List ℕ)) → CanBeCut mode held come count → length cut.ranges.items ≡ 0 → HasNoRecord mode (prepend_known (drop cut.len held) come)

@@ -10,7 +10,7 @@ use Rattle.csv.specs.declared.parser.State.TheVariants as st
 use Rattle.memchr.specs.Find.{IsFirst, IsFirstByte, Nowhere, Passes, is_byte3}
 use Rattle.zic_columns.specs.Column.{HasNoQuote, column_records, ends_line}
 use Rattle.zic_columns.specs.Own.{own_texts}
-use Rattle.zic_columns.specs.Record.{IsSplit, StandsIn, bytes_at, field_text, first_fields, record_at, wanted_text}
+use Rattle.zic_columns.specs.Record.{IsSplit, IsWithinPiece, bytes_at, field_text, first_fields, record_at, wanted_text}
 use Rattle.zic_columns.specs.code.Block.{ends_field}
 use Rattle.zic_columns.specs.code.Field.{EndsField, IsField, IsFieldAt, Spells}
 use Rattle.zic_columns.specs.code.Machine.{BeginsRecord, EndsWith, IsEndOfRecord, ReadsTo, state_at}
@@ -91,7 +91,7 @@ module _ (piece : List ℕ) (at : ℕ) where
         low = is.low;
         high = is.high;
         field = (is.low, is.high);
-        stands = spelled.0;
+        place_now = spelled.0;
         spells = spelled.2;
         ends = ⊎_elim (λ all. inl all) (λ ends. inr (ends, spelled.1)) is.ends;
       }
@@ -117,7 +117,7 @@ module _ (piece : List ℕ) (at : ℕ) where
           low = omega arith;
           high = omega (arith, within);
           field = (omega arith, omega (arith, within));
-          stands = place.QuoteSeen;
+          place_now = place.QuoteSeen;
           spells = subst (λ (l : List ℕ). Spells l text place.QuoteSeen) (sym raw) (quoted_spells text (subst HasNoQuote front first.before));
           ends = ⊎_elim (λ all. inl all) (λ ends. inr (ends, tt)) ends;
         }
@@ -131,25 +131,25 @@ module _ (piece : List ℕ) (at : ℕ) where
         let within : stop ≤ length piece = omega (arith, found.within, size, quote.within) in
         let count : stop - at ≡ len = omega arith in
         let same : take len rest ≡ raw = ap (take len) is ∙ sym (ap (λ (n : ℕ). take n (drop at piece)) count) in
-        let spells : Spells raw text found.stands = subst (λ (l : List ℕ). Spells l text found.stands) same found.spells in
+        let spells : Spells raw text found.place_now = subst (λ (l : List ℕ). Spells l text found.place_now) same found.spells in
         let long = span_length piece at stop (omega arith) within in
         let begins : 0 < length raw → ends_line (get_or raw 0 0) ≡ false =
         λ some. ap ends_line (span_at piece at stop 0 (omega (arith, some, long)) ∙ ap (λ (n : ℕ). get_or piece n 0) (omega arith) ∙ quote.here) in
         let alone : IsField raw text (length raw) = record {
           within = omega arith;
-          stands = found.stands;
-          spells = subst (λ (l : List ℕ). Spells l text found.stands) (sym (take_all (length raw) raw (omega arith))) spells;
+          place_now = found.place_now;
+          spells = subst (λ (l : List ℕ). Spells l text found.place_now) (sym (take_all (length raw) raw (omega arith))) spells;
           ends = inl refl;
         } in
         record {
           low = omega arith;
           high = within;
           field = (omega arith, within);
-          stands = found.stands;
-          spells = subst (λ (t : List ℕ). Spells raw t found.stands) (sym (first_read raw text (length raw) begins alone)) spells;
+          place_now = found.place_now;
+          spells = subst (λ (t : List ℕ). Spells raw t found.place_now) (sym (first_read raw text (length raw) begins alone)) spells;
           ends = ⊎_elim
               (λ (all : len ≡ length rest). inl (omega (arith, all, size, quote.within)))
-              (λ (ends : EndsField found.stands (get_or rest len 0)). inr (ap ends_field (sym (ap (λ (l : List ℕ). get_or l len 0) is ∙ get_or-drop at piece len 0)) ∙ ends.0, ends.1))
+              (λ (ends : EndsField found.place_now (get_or rest len 0)). inr (ap ends_field (sym (ap (λ (l : List ℕ). get_or l len 0) is ∙ get_or-drop at piece len 0)) ∙ ends.0, ends.1))
               found.ends;
         }
 
@@ -166,7 +166,7 @@ module _ (piece : List ℕ) (start : ℕ) (wanted : Wanted) where
   pub walked_none : (given : Record) → start ≤ length piece → given.own.start ≡ start → given.count ≡ 0 → given.zone ≡ Plain (record { start = start; end = start })
       → given.time ≡ Plain (record { start = start; end = start }) → HasWalked piece start wanted given start
   walked_none given within own none zone time =
-      let stands : (f : Field) → f ≡ Plain (record { start = start; end = start }) → StandsIn piece f = λ f is. subst (StandsIn piece) (sym is) (omega arith, within) in
+      let place_now : (f : Field) → f ≡ Plain (record { start = start; end = start }) → IsWithinPiece piece f = λ f is. subst (IsWithinPiece piece) (sym is) (omega arith, within) in
       let text : (f : Field) → f ≡ Plain (record { start = start; end = start }) → field_text piece f ≡ [] = λ f is. ap (field_text piece) is ∙ span_none piece start in
       record {
         own = own;
@@ -176,9 +176,9 @@ module _ (piece : List ℕ) (start : ℕ) (wanted : Wanted) where
         fields = [];
         has = record {
           count = none;
-          zone_stands = stands given.zone zone;
+          zone_within = place_now given.zone zone;
           zone = text given.zone zone ∙ sym (nothing wanted.zone);
-          time_stands = stands given.time time;
+          time_within = place_now given.time time;
           time = text given.time time ∙ sym (nothing (Some wanted.time));
         };
         reads = λ more. ap (λ (l : List ℕ). next_record default_config st.StartField [] [] (l ++ more)) (span_none piece start);
@@ -195,27 +195,27 @@ module _ (piece : List ℕ) (start : ℕ) (wanted : Wanted) where
     front = span_both piece start at found.stop walked.low is.low
 
     reads_front : (more : List ℕ) → next_record default_config st.StartField [] [] (slice_range piece start found.stop ++ more)
-        ≡ next_record default_config (state_at is.stands) walked.fields (field_text piece found.field) more
+        ≡ next_record default_config (state_at is.place_now) walked.fields (field_text piece found.field) more
     reads_front more =
         ap (λ (l : List ℕ). next_record default_config st.StartField [] [] (l ++ more)) (sym front)
         ∙ ap (next_record default_config st.StartField [] []) (append_assoc (slice_range piece start at) (slice_range piece at found.stop) more)
         ∙ walked.reads (slice_range piece at found.stop ++ more) ∙ is.spells walked.fields [] more
 
-    any_front : ReadsTo st.StartField (slice_range piece start found.stop) (state_at is.stands)
+    any_front : ReadsTo st.StartField (slice_range piece start found.stop) (state_at is.place_now)
     any_front =
-        subst (λ (l : List ℕ). ReadsTo st.StartField l (state_at is.stands)) front
-        (reads_both st.StartField st.StartField (state_at is.stands) (slice_range piece start at) (slice_range piece at found.stop) walked.any
-        (spells_read (slice_range piece at found.stop) (field_text piece found.field) is.stands is.spells))
+        subst (λ (l : List ℕ). ReadsTo st.StartField l (state_at is.place_now)) front
+        (reads_both st.StartField st.StartField (state_at is.place_now) (slice_range piece start at) (slice_range piece at found.stop) walked.any
+        (spells_read (slice_range piece at found.stop) (field_text piece found.field) is.place_now is.spells))
 
     -- a comma, and another field
     pub walked_on : (next : Record) → found.stop < length piece → get_or piece found.stop 0 ≡ 44 → next.own ≡ given.own → next.count ≡ given.count + 1
         → HasFields piece wanted (walked.fields ++ field_text piece found.field ∷ []) next → HasWalked piece start wanted next (found.stop + 1)
     walked_on next inside comma own count has =
         let byte = get_or piece found.stop 0 in
-        let ends : EndsField is.stands byte = ⊎_elim (λ all. absurd (omega (arith, all, inside))) (λ ends. ends) is.ends in
+        let ends : EndsField is.place_now byte = ⊎_elim (λ all. absurd (omega (arith, all, inside))) (λ ends. ends) is.ends in
         let longer = span_push piece start found.stop (omega (arith, walked.low, is.low)) inside in
         let at_comma = λ (fields : List (List ℕ)) (field more : List ℕ).
-        outside is.stands byte more fields field ends ∙ ap (λ (b : ℕ). next_record default_config st.InField fields field (b ∷ more)) comma ∙ field-comma more fields field in
+        outside is.place_now byte more fields field ends ∙ ap (λ (b : ℕ). next_record default_config st.InField fields field (b ∷ more)) comma ∙ field-comma more fields field in
         record {
           own = ap (λ o. o.start) own ∙ walked.own;
           low = omega (arith, walked.low, is.low);
@@ -252,7 +252,7 @@ module _ (piece : List ℕ) (start : ℕ) (wanted : Wanted) where
           let all = walked.fields ++ field_text piece found.field ∷ [] in
           let N = λ (s : State) (l : List ℕ). next_record default_config s [] [] l in
           let read : N st.StartRecord own ≡ Some (all, st.StartRecord, []) =
-          ap (N st.StartRecord) (sym (append-nil own)) ∙ from_start own [] (starts_so some) ∙ reads_front [] ∙ at_end is.stands walked.fields (field_text piece found.field) in
+          ap (N st.StartRecord) (sym (append-nil own)) ∙ from_start own [] (starts_so some) ∙ reads_front [] ∙ at_end is.place_now walked.fields (field_text piece found.field) in
           only own (all ∷ []) (records-cons st.StartRecord st.StartRecord own [] all [] read records-nil)
 
       -- the end, or a line end
@@ -266,9 +266,9 @@ module _ (piece : List ℕ) (start : ℕ) (wanted : Wanted) where
             record {
               own = subst (λ o. (o.start ≤ o.end) × (o.end ≤ length piece)) (sym own_at) (low, is.high);
               count = has.count ∙ ap length (sym fields);
-              zone_stands = has.zone_stands;
+              zone_within = has.zone_within;
               zone = has.zone ∙ ap (λ (f : List (List ℕ)). wanted_text f wanted.zone) (sym fields);
-              time_stands = has.time_stands;
+              time_within = has.time_within;
               time = has.time ∙ ap (λ (f : List (List ℕ)). wanted_text f (Some wanted.time)) (sym fields);
             }
 
@@ -290,7 +290,7 @@ module _ (piece : List ℕ) (start : ℕ) (wanted : Wanted) where
             let low : start ≤ found.stop = omega (arith, walked.low, is.low) in
             let size = length-drop start piece in
             let at : start + len ≡ found.stop = omega (arith, low) in
-            let ends : EndsField is.stands byte = ⊎_elim (λ all. absurd (omega (arith, all, inside))) (λ ends. ends) is.ends in
+            let ends : EndsField is.place_now byte = ⊎_elim (λ all. absurd (omega (arith, all, inside))) (λ ends. ends) is.ends in
             let here : get_or bytes len 0 ≡ byte = get_or-drop start piece len 0 ∙ ap (λ (n : ℕ). get_or piece n 0) at in
             let some : 0 < len = not_at_once bytes len (ap ends_line here ∙ either (byte == 44) (ends_line byte) ends.0 other) begins.begins in
             let front : take (len + 1) bytes ≡ slice_range piece start found.stop ++ byte ∷ [] =
@@ -300,7 +300,7 @@ module _ (piece : List ℕ) (start : ℕ) (wanted : Wanted) where
                 some = omega arith;
                 within = omega (arith, size, inside, low);
                 ends = subst (EndsWith st.StartField) (sym front)
-                    (ends_both st.StartField (state_at is.stands) (slice_range piece start found.stop) (byte ∷ []) any_front (ends_byte (state_at is.stands) byte (ends_record is.stands byte ends other)));
+                    (ends_both st.StartField (state_at is.place_now) (slice_range piece start found.stop) (byte ∷ []) any_front (ends_byte (state_at is.place_now) byte (ends_record is.place_now byte ends other)));
               },
             )
 
@@ -310,11 +310,11 @@ module _ (piece : List ℕ) (start : ℕ) (wanted : Wanted) where
             let bytes = drop start piece in
             let size = length-drop start piece in
             let whole : slice_range piece start found.stop ≡ bytes = ap (slice_range piece start) all ∙ span_rest piece start in
-            let reads : ReadsTo st.StartField bytes (state_at is.stands) = subst (λ (l : List ℕ). ReadsTo st.StartField l (state_at is.stands)) whole any_front in
+            let reads : ReadsTo st.StartField bytes (state_at is.place_now) = subst (λ (l : List ℕ). ReadsTo st.StartField l (state_at is.place_now)) whole any_front in
             record {
               at = ap (λ o. o.start) own_at;
               split = split_out (omega (arith, begins.some, size, all));
-              owns = owns_out (length bytes) (omega (arith, size, all)) (quoted_unended bytes is.stands begins reads);
+              owns = owns_out (length bytes) (omega (arith, size, all)) (quoted_unended bytes is.place_now begins reads);
               ended = λ lt. absurd (omega (arith, lt, all, ap (λ o. o.end) own_at));
             })
             (λ (line : (found.stop < length piece) × ((get_or piece found.stop 0 == 44) ≡ false)).

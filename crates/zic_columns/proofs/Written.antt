@@ -1,20 +1,21 @@
 -- What a CSV writer makes of fields in which the delimiter and the comma stand in each other's place.
+use Rattle.zic_plan.specs.Delimiter.{exchange}
 use Rattle.std.proofs.Common.{◌≡◌, ◌==◌, ℕ, true, false, List, [], ◌∷◌, ◌++◌, map, refl, sym, ap, ◌∙◌, ⊎_elim, arith}
 use Rattle.std.specs.Prelude.{Bool, if◌then◌else◌}
 use Rattle.std.proofs.lemmas.Bool.{cases_Bool, ne_eqb}
 use Rattle.std.proofs.lemmas.List.{length-map, map-append}
 use Rattle.csv.specs.Writing.{default_writer, escaped, field_text, fields_text, is_blank, needs_byte, needs_quotes, row_body, row_text, with_delimiter}
-use Rattle.zic_columns.specs.Exchange.{CanDelimit, exchange, exchanged}
+use Rattle.zic_columns.specs.Exchange.{CanDelimit, exchanged}
 use Rattle.zic_columns.specs.Laws.{RowsAreExchanged}
 use Rattle.zic_columns.proofs.Exchanges.{as_comma, as_other}
 
 module _ (d : ℕ) (can : CanDelimit d) where
   -- a double quote and a line feed stay as they are
-  quote_kept : exchange d 34 ≡ 34
-  quote_kept = rw (ne_eqb 34 d (λ e. can.quote (sym e))) refl
+  quote_unchanged : exchange d 34 ≡ 34
+  quote_unchanged = rw (ne_eqb 34 d (λ e. can.quote (sym e))) refl
 
-  feed_kept : exchange d 10 ≡ 10
-  feed_kept = rw (ne_eqb 10 d (λ e. can.feed (sym e))) refl
+  feed_unchanged : exchange d 10 ≡ 10
+  feed_unchanged = rw (ne_eqb 10 d (λ e. can.feed (sym e))) refl
 
   needs_same : (b : ℕ) → needs_byte (with_delimiter default_writer d) (exchange d b) ≡ needs_byte default_writer b
   needs_same b =
@@ -30,7 +31,7 @@ module _ (d : ℕ) (can : CanDelimit d) where
   quotes_same (b ∷ field) = rw (needs_same b, quotes_same field) refl
 
   doubled : (b : ℕ) (front back : List ℕ) → exchanged d front ≡ back → exchanged d (34 ∷ b ∷ front) ≡ 34 ∷ exchange d b ∷ back
-  doubled b front back same = ap (λ (q : ℕ). q ∷ exchange d b ∷ exchanged d front) quote_kept ∙ ap (λ (rest : List ℕ). 34 ∷ exchange d b ∷ rest) same
+  doubled b front back same = ap (λ (q : ℕ). q ∷ exchange d b ∷ exchanged d front) quote_unchanged ∙ ap (λ (rest : List ℕ). 34 ∷ exchange d b ∷ rest) same
 
   escaped_same : (field : List ℕ) → exchanged d (escaped default_writer field) ≡ escaped (with_delimiter default_writer d) (exchanged d field)
   unfolding escaped
@@ -45,10 +46,10 @@ module _ (d : ℕ) (can : CanDelimit d) where
   quoted_same : (field : List ℕ)
       → exchanged d (34 ∷ (escaped default_writer field ++ (34 ∷ []))) ≡ 34 ∷ (escaped (with_delimiter default_writer d) (exchanged d field) ++ (34 ∷ []))
   quoted_same field =
-      ap (λ (q : ℕ). q ∷ exchanged d (escaped default_writer field ++ (34 ∷ []))) quote_kept
+      ap (λ (q : ℕ). q ∷ exchanged d (escaped default_writer field ++ (34 ∷ []))) quote_unchanged
       ∙ ap (λ (rest : List ℕ). 34 ∷ rest)
       (map-append (exchange d) (escaped default_writer field) (34 ∷ []) ∙ ap (λ (front : List ℕ). front ++ exchanged d (34 ∷ [])) (escaped_same field)
-      ∙ ap (λ (q : ℕ). escaped (with_delimiter default_writer d) (exchanged d field) ++ (q ∷ [])) quote_kept)
+      ∙ ap (λ (q : ℕ). escaped (with_delimiter default_writer d) (exchanged d field) ++ (q ∷ [])) quote_unchanged)
 
   field_same : (field : List ℕ) → exchanged d (field_text default_writer field) ≡ field_text (with_delimiter default_writer d) (exchanged d field)
   field_same field =
@@ -73,8 +74,8 @@ module _ (d : ℕ) (can : CanDelimit d) where
   blank_same (field ∷ next ∷ fields) = refl
 
   end_same : (b : Bool) → exchanged d ((if b then 34 ∷ 34 ∷ [] else []) ++ (10 ∷ [])) ≡ (if b then 34 ∷ 34 ∷ [] else []) ++ (10 ∷ [])
-  end_same true = rw (quote_kept, feed_kept) refl
-  end_same false = rw feed_kept refl
+  end_same true = rw (quote_unchanged, feed_unchanged) refl
+  end_same false = rw feed_unchanged refl
 
   row_same : (fields : List (List ℕ)) → exchanged d (row_text default_writer fields) ≡ row_text (with_delimiter default_writer d) (map (exchanged d) fields)
   row_same fields =

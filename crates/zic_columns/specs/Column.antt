@@ -1,6 +1,7 @@
 -- The records of a column, by the machine of the crate csv with its defaults: fields end at
 -- commas, and a carriage return, a line feed or both end a record. A byte order mark at the start
 -- of a column is dropped before.
+use Rattle.csv.specs.declared.parser.Config.{Config}
 use Rattle.std.specs.Prelude.{◌≡◌, ◌≢◌, ℕ, Bool, true, false, ◌||◌, ◌==◌, List, [], ◌∷◌, ◌++◌, map, filter, All}
 use Rattle.std.specs.List.{slice_split}
 use Rattle.csv.specs.Machine.{ends_at_end, step}
@@ -45,10 +46,10 @@ unfoldable pub plain_records : List ℕ → List (List (List ℕ))
 plain_records bytes = map fields_of (lines_of bytes)
 
 -- the state of a CSV reader's machine after bytes
-unfoldable pub state_after : State → List ℕ → State
-state_after s [] = s
-state_after s (byte ∷ bytes) = state_after (step default_config s byte).0 bytes
+unfoldable pub state_after : Config → State → List ℕ → State
+state_after cfg s [] = s
+state_after cfg s (byte ∷ bytes) = state_after cfg (step cfg s byte).0 bytes
 
 -- after these bytes a CSV reader stands before a record
-abbrev pub StandsBeforeRecord : List ℕ → Type 0
-StandsBeforeRecord bytes = ends_at_end (state_after st.StartRecord bytes) ≡ false
+abbrev pub IsBeforeRecord : List ℕ → Type 0
+IsBeforeRecord bytes = ends_at_end (state_after default_config st.StartRecord bytes) ≡ false

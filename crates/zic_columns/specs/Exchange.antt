@@ -1,4 +1,5 @@
 -- Columns with another byte than a comma between fields.
+use Rattle.zic_plan.specs.Delimiter.{exchange}
 use Rattle.std.specs.Prelude.{◌≢◌, ◌<◌, ◌==◌, ℕ, List, map, if◌then◌else◌}
 use Rattle.csv.specs.Reading.{AreRecords, default_config}
 use Rattle.csv.specs.declared.parser.Config.{Config}
@@ -11,10 +12,6 @@ config_of delimiter = record default_config { delimiter = delimiter }
 -- the records that a CSV reader with this delimiter gives of these bytes
 abbrev pub AreDelimitedRecords : ℕ → List ℕ → List (List (List ℕ)) → Type 0
 AreDelimitedRecords delimiter bytes records = AreRecords (config_of delimiter) st.StartRecord bytes records
-
--- the delimiter for a comma, and a comma for the delimiter
-abbrev pub exchange : ℕ → ℕ → ℕ
-exchange delimiter byte = if byte == 44 then delimiter else if byte == delimiter then 44 else byte
 
 -- bytes in which the delimiter and the comma stand in each other's place
 abbrev pub exchanged : ℕ → List ℕ → List ℕ

@@ -1,15 +1,16 @@
 -- Laws about the records of a column.
-use Rattle.std.specs.Prelude.{◌≡◌, ℕ, true, List, [], ◌∷◌, ◌++◌, All, length, map}
+use Rattle.std.specs.Prelude.{◌≡◌, ◌<◌, ℕ, true, List, [], ◌∷◌, ◌++◌, All, Some, length, map, take}
 use Rattle.csv.specs.Reading.{strip_bom}
 use Rattle.csv.specs.Writing.{default_writer, row_text, with_delimiter}
-use Rattle.zic_columns.specs.Column.{AreColumnRecords, AreWholeRecords, HasNoQuote, StandsBeforeRecord, column_records, ends_line, plain_records}
+use Rattle.zic_columns.specs.Column.{AreColumnRecords, AreWholeRecords, HasNoQuote, IsBeforeRecord, column_records, ends_line, lines_of, plain_records}
 use Rattle.zic_columns.specs.Ends.{AreBetweenEnds, BeginsWithin}
 use Rattle.zic_columns.specs.Exchange.{AreDelimitedRecords, CanDelimit, exchanged}
 use Rattle.zic_columns.specs.Lines.{AreRecordsBy, delimited_texts_by, exchanged_record, line_records, records_by, texts_by}
-use Rattle.zic_columns.specs.Own.{CsvRecord, beside, delimited_texts, own_texts, csv_records}
-use Rattle.zic_columns.specs.Record.{whole_of}
+use Rattle.zic_columns.specs.Own.{CsvRecord, paired, delimited_texts, own_texts, csv_records}
+use Rattle.zic_columns.specs.Record.{own_record}
+use Rattle.zic_columns.specs.Truncated.{truncated}
 use Rattle.zic_plan.specs.declared.layout.Records.{Records}
-use Rattle.zic_columns.specs.Round.{records_of, wholes_of}
+use Rattle.zic_columns.specs.Round.{records_of, records_of_pieces}
 
 -- a CSV reader gives bytes these records
 abbrev pub ColumnRecordsAreRead : Type 0
@@ -31,7 +32,7 @@ PlainRecordsAreRead = (bytes : List ℕ) → HasNoQuote bytes → column_records
 -- Wherever a CSV reader stands before a record, the records of the whole are those before and
 -- those after.
 abbrev pub RecordsAreCut : Type 0
-RecordsAreCut = (bytes : List ℕ) → StandsBeforeRecord bytes → AreWholeRecords bytes
+RecordsAreCut = (bytes : List ℕ) → IsBeforeRecord bytes → AreWholeRecords bytes
 
 -- The records of a column with another delimiter are those of the column in which it and the comma
 -- stand in each other's place, with the two put back in their fields.
@@ -50,7 +51,7 @@ WholeRecordsAreCut = (bytes rest : List ℕ) → AreWholeRecords bytes → csv_r
 
 -- The records of pieces with their own bytes have the fields of the records of the pieces.
 abbrev pub PiecesHaveRecords : Type 0
-PiecesHaveRecords = (pieces : List (List ℕ)) → map (λ (w : CsvRecord). w.fields) (wholes_of pieces) ≡ records_of pieces
+PiecesHaveRecords = (pieces : List (List ℕ)) → map (λ (w : CsvRecord). w.fields) (records_of_pieces pieces) ≡ records_of pieces
 
 -- The own bytes of the records of a column with another delimiter are those of the column in which it and the comma stand in each other's
 -- place, with the two put back.
@@ -63,10 +64,10 @@ abbrev pub TextsAreCounted : Type 0
 TextsAreCounted = (delimiter : ℕ) (bytes : List ℕ) (records : List (List (List ℕ))) → AreDelimitedRecords delimiter bytes records
     → length (delimited_texts delimiter bytes) ≡ length records
 
--- Where own bytes and fields are changed, each by itself, those that stood beside each other still do.
-abbrev pub BesideIsKept : Type 0
-BesideIsKept = (f : List ℕ → List ℕ) (g : List (List ℕ) → List (List ℕ)) (texts : List (List ℕ)) (records : List (List (List ℕ)))
-    → beside (map f texts) (map g records) ≡ map (λ (w : CsvRecord). record { own = f w.own; fields = g w.fields }) (beside texts records)
+-- Where own bytes and fields are changed, each by itself, their pairs are changed in the same way.
+abbrev pub PairsAreMapped : Type 0
+PairsAreMapped = (f : List ℕ → List ℕ) (g : List (List ℕ) → List (List ℕ)) (texts : List (List ℕ)) (records : List (List (List ℕ)))
+    → paired (map f texts) (map g records) ≡ map (λ (w : CsvRecord). record { own = f w.own; fields = g w.fields }) (paired texts records)
 
 -- What a CSV writer makes of some fields has the delimiter for each comma that another CSV writer makes of the fields in which the two
 -- stand in each other's place.
@@ -85,7 +86,7 @@ OwnBytesAreTrimmed = (bytes : List ℕ) → All (λ own. BeginsWithin own × (le
 
 -- So the records of a column are those of their own bytes, each by itself.
 abbrev pub RecordsAreOfOwnBytes : Type 0
-RecordsAreOfOwnBytes = (bytes : List ℕ) → csv_records bytes ≡ map whole_of (own_texts bytes)
+RecordsAreOfOwnBytes = (bytes : List ℕ) → csv_records bytes ≡ map own_record (own_texts bytes)
 
 -- A column is the own bytes of its records, in order, and line ends; nothing else.
 abbrev pub ColumnIsOwnBytes : Type 0
@@ -99,6 +100,10 @@ LinesWithoutQuotesAreCsv = (bytes : List ℕ) → HasNoQuote bytes → line_reco
 abbrev pub LinesAreCut : Type 0
 LinesAreCut = (lines rest : List ℕ) (end : ℕ) → ends_line end ≡ true
     → line_records ((lines ++ end ∷ []) ++ rest) ≡ line_records (lines ++ end ∷ []) ++ line_records rest
+
+-- Where lines are truncated to this number of bytes, one or more, the lines are the first bytes of each, up to this number.
+abbrev pub LinesAreTruncated : Type 0
+LinesAreTruncated = (most : ℕ) (bytes : List ℕ) → 0 < most → lines_of (truncated (Some most) bytes) ≡ map (take most) (lines_of bytes)
 
 -- Wherever records end, bytes have one list of records with a delimiter.
 abbrev pub RecordsByAreOne : Type 0

@@ -4,6 +4,7 @@ pub mod Round
 pub mod Exchange
 pub mod Own
 pub mod Lines
+pub mod Truncated
 pub mod Ends
 pub mod Laws
 pub mod code

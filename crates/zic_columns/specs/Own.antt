@@ -43,12 +43,12 @@ pub record CsvRecord : Type 0 where
   pub own : List ℕ
   pub fields : List (List ℕ)
 
--- own bytes, each beside the fields of its record
-abbrev pub beside : List (List ℕ) → List (List (List ℕ)) → List CsvRecord
-beside [] records = []
-beside (own ∷ texts) [] = []
-beside (own ∷ texts) (fields ∷ records) = record { own = own; fields = fields } ∷ beside texts records
+-- own bytes, each paired with the fields of its record
+abbrev pub paired : List (List ℕ) → List (List (List ℕ)) → List CsvRecord
+paired [] records = []
+paired (own ∷ texts) [] = []
+paired (own ∷ texts) (fields ∷ records) = record { own = own; fields = fields } ∷ paired texts records
 
 -- the records of a column, each with its own bytes
 abbrev pub csv_records : List ℕ → List CsvRecord
-csv_records bytes = beside (own_texts bytes) (column_records bytes)
+csv_records bytes = paired (own_texts bytes) (column_records bytes)

@@ -14,8 +14,8 @@ first_fields [] = []
 first_fields (fields ∷ records) = fields
 
 -- the record of some own bytes: its fields are those that a CSV reader gives of these bytes alone
-abbrev pub whole_of : List ℕ → CsvRecord
-whole_of own = record { own = own; fields = first_fields (column_records own) }
+abbrev pub own_record : List ℕ → CsvRecord
+own_record own = record { own = own; fields = first_fields (column_records own) }
 
 -- the span is one of the piece
 abbrev pub IsWithin : List ℕ → Span → Type 0
@@ -26,9 +26,9 @@ abbrev pub bytes_at : List ℕ → Span → List ℕ
 bytes_at piece span = slice_range piece span.start span.end
 
 -- the field stands within the piece
-abbrev pub StandsIn : List ℕ → Field → Type 0
-StandsIn piece (Plain span) = IsWithin piece span
-StandsIn piece (Quoted span) = IsWithin piece span
+abbrev pub IsWithinPiece : List ℕ → Field → Type 0
+IsWithinPiece piece (Plain span) = IsWithin piece span
+IsWithinPiece piece (Quoted span) = IsWithin piece span
 
 -- the text of the first field that a CSV reader gives of these bytes alone, and no bytes where there is none
 abbrev pub text_alone : List ℕ → List ℕ
@@ -46,15 +46,15 @@ wanted_text fields (Some index) = slice_index_or fields index []
 
 -- the record that stands in a piece
 abbrev pub record_at : List ℕ → Record → CsvRecord
-record_at piece given = whole_of (bytes_at piece given.own)
+record_at piece given = own_record (bytes_at piece given.own)
 
--- what is told of a record of a piece
+-- the parts of a record of a piece
 pub record IsSplit (piece : List ℕ) (wanted : Wanted) (given : Record) : Type 0 where
   pub own : IsWithin piece given.own
   pub count : given.count ≡ length (record_at piece given).fields
-  pub zone_stands : StandsIn piece given.zone
+  pub zone_within : IsWithinPiece piece given.zone
   pub zone : field_text piece given.zone ≡ wanted_text (record_at piece given).fields wanted.zone
-  pub time_stands : StandsIn piece given.time
+  pub time_within : IsWithinPiece piece given.time
   pub time : field_text piece given.time ≡ wanted_text (record_at piece given).fields (Some wanted.time)
 
 -- a piece that is split: its bytes, the fields that rows need, and the records to come

@@ -1,5 +1,5 @@
 -- A column, taken in rounds of pieces.
-use Rattle.std.specs.Prelude.{◌≡◌, ℕ, ◌+◌, List, [], ◌∷◌, ◌++◌, length, drop, Option, None, Some, IfSome}
+use Rattle.std.specs.Prelude.{◌≡◌, ℕ, ◌+◌, nat_le, Bool, true, false, List, [], ◌∷◌, ◌++◌, length, drop, Option, None, Some, IfSome}
 use Rattle.std.specs.Int.{IsInRange}
 use Rattle.std.specs.List.{flat_map}
 use Rattle.std.specs.Io.KnownBytes.{Consumes, prepend_known}
@@ -35,7 +35,7 @@ abbrev pub may_take : Option ℕ → ℕ → ℕ
 may_take None left = left + 1
 may_take (Some byte) left = left
 
--- Some bytes were taken of a reader, where its bytes are known, and so many fewer may be taken after than before.
+-- Some bytes were taken of a reader, where its bytes are known, and as many fewer may be taken after than before.
 abbrev pub TakesOf : Option (List ℕ) → Option (List ℕ) → ℕ → ℕ → Type 0
 TakesOf old new before after = (bytes : List ℕ) × Consumes old new bytes × (length bytes + after ≡ before)
 
@@ -48,13 +48,28 @@ abbrev pub records_of : List (List ℕ) → List (List (List ℕ))
 records_of pieces = flat_map column_records pieces
 
 -- the same, each with its own bytes
-abbrev pub wholes_of : List (List ℕ) → List CsvRecord
-wholes_of pieces = flat_map csv_records pieces
+abbrev pub records_of_pieces : List (List ℕ) → List CsvRecord
+records_of_pieces pieces = flat_map csv_records pieces
 
--- the records that were taken: those of the pieces of a round, or that of an open line
+-- a record may have this number of bytes of its own, where there is a greatest number of them
+abbrev pub may_have : Option ℕ → ℕ → Bool
+may_have None len = true
+may_have (Some most) len = nat_le len most
+
+-- there is a record, and the first has more bytes of its own than it may have
+abbrev pub BeginsTooLong : Option ℕ → List CsvRecord → Type 0
+BeginsTooLong most [] = ⊥
+BeginsTooLong most (first ∷ others) = may_have most (length first.own) ≡ false
+
+-- Where the bytes that are left are known, the next record has more bytes of its own than it may have.
+abbrev pub IsNextTooLong : Option ℕ → Records → Option (List ℕ) → Type 0
+IsNextTooLong most by known = IfSome known (λ bytes. BeginsTooLong most (records_by by bytes))
+
+-- the records that were taken: those of the pieces of a round, or that of an open line; one that is too long is left
 abbrev pub taken_records : Taken → List (List ℕ) → List CsvRecord
-taken_records taken.Round pieces = wholes_of pieces
+taken_records taken.Round pieces = records_of_pieces pieces
 taken_records (taken.OpenLine line) pieces = open_record line.items ∷ []
+taken_records taken.TooLong pieces = []
 taken_records taken.End pieces = []
 
 -- Where the bytes that are left of a column are known, these records come first, and then those of the bytes that are left then.

@@ -12,8 +12,8 @@ use std::io::{self, Read};
 /// The number of bytes that there is room for at first.
 const FIRST_ROOM: usize = 64 * 1024;
 
-/// Returns the length that a buffer grows to: four times its length, but not above `wanted`, or an
-/// eighth more if it has that many bytes. It is at least `FIRST_ROOM`.
+/// Returns the new length of a full buffer: four times its length, up to `wanted`, and beyond that an
+/// eighth more. It is at least `FIRST_ROOM`.
 fn longer_len(len: usize, wanted: usize) -> usize
     requires { len < 2 ^ 63 }
     ensures more { len < result }

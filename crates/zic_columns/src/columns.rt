@@ -1,11 +1,11 @@
 //! A column that is read in rounds.
 
-ghost use Rattle.std.specs.Prelude.{◌≡◌, ◌↔◌, ◌⊎◌, ◌+◌, ◌<◌, ◌≤◌, ◌++◌, [], List, ℕ, None, Some, length, take, drop, IfOk, IfSome};
+ghost use Rattle.std.specs.Prelude.{◌≡◌, ◌↔◌, ◌⊎◌, ◌+◌, ◌<◌, ◌≤◌, ◌++◌, [], List, ℕ, true, None, Some, length, take, drop, IfOk, IfSome};
 ghost use Rattle.std.specs.Io.KnownBytes.{IsAtEnd, Keeps};
 ghost use Rattle.csv.specs.Reading.{strip_bom};
 ghost use Rattle.zic_columns.specs.Lines.{texts_by};
 ghost use Rattle.zic_columns.specs.Own.{first_text};
-ghost use Rattle.zic_columns.specs.Round.{ArePiecesOf, HasNoRecord, PassesRecord, StaysWithin, Takes, TakesOf, may_take, taken_records, unread};
+ghost use Rattle.zic_columns.specs.Round.{ArePiecesOf, HasNoRecord, IsNextTooLong, PassesRecord, StaysWithin, Takes, TakesOf, may_have, may_take, taken_records, unread};
 ghost use Rattle.zic_columns.specs.declared.pieces.TheConstants.{MAX_ROUND_PIECES};
 ghost use Rattle.zic_columns.specs.code.Range.{AreWithin, pieces_at};
 ghost use Rattle.zic_columns.specs.code.Mark.{ShowsMark};
@@ -15,6 +15,7 @@ use crate::buffer::Window;
 use crate::first::{first_record, split_records};
 use crate::limit::Bounded;
 use crate::line_scan::{OpenLine, is_open};
+use crate::longest::may_have;
 use crate::mark::{shows_mark, without_mark};
 use crate::own::first_own_bytes;
 use crate::pieces::{PieceRange, cut_pieces};
@@ -53,6 +54,8 @@ pub enum Taken {
     /// A line that is open, by itself: its own bytes. Only a column in which each line is a record has
     /// such lines.
     OpenLine(Vec<u8>),
+    /// Nothing: the next record has more bytes of its own than it may have.
+    TooLong,
     /// Nothing: the column has no more records.
     End,
 }
@@ -64,6 +67,8 @@ enum AtHand {
     Records(usize),
     /// An open line.
     Line(OpenLine),
+    /// Bytes of a record that has more than it may have.
+    TooLong,
 }
 
 /// A column that is read in rounds. Clauses see it as where its records end, the round that was taken last, the bytes in
@@ -140,17 +145,25 @@ impl<R: Read + Drop> Column<R> {
 
 impl<R: Read> Column<R> {
     /// Takes the next round, in pieces of `size` records each, the last of which may have fewer, or an
-    /// open line, with an empty round. At the end of the column takes nothing.
+    /// open line, with an empty round. At the end of the column takes nothing, nor where more than
+    /// `longest` bytes are in hand of a record that goes on, where there is such a number.
     ///
-    /// A round has all whole records in hand up to the first open line. Reads only while neither a
-    /// whole record nor an open line is in hand. A read asks for up to `wanted` bytes: at first for
-    /// 64 KiB, and for more where reads give all that was asked for, or a record is longer.
+    /// A round has all whole records in hand up to the first open line, also those that are longer.
+    /// Reads only while neither a whole record nor an open line is in hand, and no more than `longest`
+    /// bytes. A read asks for up to `wanted` bytes: at first for 64 KiB, and for more where reads give
+    /// all that was requested, or a record is longer.
     ///
     /// # Errors
     ///
     /// Fails where the reader fails or gives more bytes than the column may have, or memory is
     /// refused.
-    pub fn next_round(&mut self, alloc: Global, wanted: usize, size: usize) -> Result<Taken, Unread>
+    pub fn next_round(
+        &mut self,
+        alloc: Global,
+        wanted: usize,
+        size: usize,
+        longest: Option<u64>,
+    ) -> Result<Taken, Unread>
         requires { 0 < size }
         ensures by { self.new.by ≡ self.old.by }
         ensures takes { IfOk result (λ taken. Takes self.old.by (unread R.remaining self.old)
@@ -158,16 +171,22 @@ impl<R: Read> Column<R> {
         ensures some { IfOk result (λ taken. taken ≡ Taken.Round ↔ (0 < length self.new.round)) }
         ensures end { IfOk result
             (λ taken. taken ≡ Taken.End → HasNoRecord self.old.by (unread R.remaining self.new)) }
+        ensures long { IfOk result (λ taken. taken ≡ Taken.TooLong
+            → IsNextTooLong longest self.old.by (unread R.remaining self.new)) }
         ensures few { IfOk result (λ _. length self.new.round ≤ MAX_ROUND_PIECES) }
         ensures cut { IfOk result (λ _. ArePiecesOf size self.new.round) }
         ensures limit { StaysWithin R.remaining self.old self.new }
     {
-        match self.gather(alloc, wanted)? {
+        match self.gather(alloc, wanted, longest)? {
             AtHand::Records(count) => self.take_round(alloc, count, size),
             AtHand::Line(line) => {
                 let own = Vec::from_slice(alloc, &self.window.held()[..line.own])?;
                 self.pass(line.len, Vec::new(alloc));
                 Ok(Taken::OpenLine(own))
+            }
+            AtHand::TooLong => {
+                self.pass(0, Vec::new(alloc));
+                Ok(Taken::TooLong)
             }
         }
     }
@@ -175,29 +194,31 @@ impl<R: Read> Column<R> {
     /// Passes over the first record that no round had, if there is one, and leaves an empty round.
     /// Returns the record's own bytes, or no bytes where there is no record.
     ///
-    /// Reads only while neither a whole record nor an open line is in hand, as
-    /// [`Column::next_round`] does.
+    /// Reads as [`Column::next_round`] does.
     ///
     /// # Errors
     ///
-    /// Fails where the reader fails or gives more bytes than the column may have, or memory is
-    /// refused.
-    pub fn pass_record(&mut self, alloc: Global, wanted: usize) -> Result<Vec<u8>, Unread>
+    /// Fails where the reader fails or gives more bytes than the column may have, memory is refused,
+    /// or the record has more than `longest` bytes of its own, where there is such a number.
+    pub fn pass_record(
+        &mut self,
+        alloc: Global,
+        wanted: usize,
+        longest: Option<u64>,
+    ) -> Result<Vec<u8>, Unread>
         ensures by { self.new.by ≡ self.old.by }
         ensures passes { IfOk result (λ _. PassesRecord R.remaining self.old self.new) }
         ensures own { IfOk result (λ own. IfSome (unread R.remaining self.old)
             (λ bytes. own.items ≡ first_text (texts_by self.old.by bytes))) }
         ensures none { IfOk result (λ _. self.new.round ≡ []) }
+        ensures short { IfOk result (λ own. may_have longest (length own.items) ≡ true) }
         ensures limit { StaysWithin R.remaining self.old self.new }
     {
-        match self.gather(alloc, wanted)? {
-            AtHand::Records(count) => self.pass_first(alloc, count),
-            AtHand::Line(line) => {
-                let own = Vec::from_slice(alloc, &self.window.held()[..line.own])?;
-                self.pass(line.len, Vec::new(alloc));
-                Ok(own)
-            }
+        let own = self.pass_next(alloc, wanted, longest)?;
+        if may_have(longest, own.len()) {
+            return Ok(own);
         }
+        Err(Unread)
     }
 
     /// Returns the round that was taken last.
@@ -240,6 +261,7 @@ impl<R: Read> Column<R> {
         ensures some { IfOk result (λ taken. taken ≡ Taken.Round ↔ (0 < length self.new.round)) }
         ensures end { IfOk result
             (λ taken. taken ≡ Taken.End → HasNoRecord self.old.by (unread R.remaining self.new)) }
+        ensures short { IfOk result (λ taken. taken ≡ Taken.TooLong → ⊥) }
         ensures few { IfOk result (λ _. length self.new.round ≤ MAX_ROUND_PIECES) }
         ensures cut { IfOk result (λ _. ArePiecesOf size self.new.round) }
         ensures limit { StaysWithin R.remaining self.old self.new }
@@ -251,6 +273,33 @@ impl<R: Read> Column<R> {
             return Ok(Taken::End);
         }
         Ok(Taken::Round)
+    }
+
+    /// Passes over the first record that no round had, however many bytes it has, as
+    /// [`Column::pass_record`] does. Fails also where more than `longest` bytes are in hand of a record
+    /// that goes on.
+    fn pass_next(
+        &mut self,
+        alloc: Global,
+        wanted: usize,
+        longest: Option<u64>,
+    ) -> Result<Vec<u8>, Unread>
+        ensures by { self.new.by ≡ self.old.by }
+        ensures passes { IfOk result (λ _. PassesRecord R.remaining self.old self.new) }
+        ensures own { IfOk result (λ own. IfSome (unread R.remaining self.old)
+            (λ bytes. own.items ≡ first_text (texts_by self.old.by bytes))) }
+        ensures none { IfOk result (λ _. self.new.round ≡ []) }
+        ensures limit { StaysWithin R.remaining self.old self.new }
+    {
+        match self.gather(alloc, wanted, longest)? {
+            AtHand::Records(count) => self.pass_first(alloc, count),
+            AtHand::Line(line) => {
+                let own = Vec::from_slice(alloc, &self.window.held()[..line.own])?;
+                self.pass(line.len, Vec::new(alloc));
+                Ok(own)
+            }
+            AtHand::TooLong => Err(Unread),
+        }
     }
 
     /// Passes over the first record of the first `count` bytes in hand, if they have one. Returns the
@@ -271,36 +320,43 @@ impl<R: Read> Column<R> {
         Ok(own)
     }
 
-    /// Reads on until whole records or an open line are in hand, or the column ends. Returns what is in
-    /// hand first.
-    fn gather(&mut self, alloc: Global, wanted: usize) -> Result<AtHand, Unread>
+    /// Reads on until whole records or an open line are in hand, or more bytes than a record may have,
+    /// or the column ends. Returns what is in hand first.
+    fn gather(
+        &mut self,
+        alloc: Global,
+        wanted: usize,
+        longest: Option<u64>,
+    ) -> Result<AtHand, Unread>
         ensures by { self.new.by ≡ self.old.by }
         ensures takes { IfOk result (λ _. Takes self.old.by
             (unread R.remaining self.old) (unread R.remaining self.new) []) }
         ensures hand { IfOk result
-            (IsAtHand self.new.by self.new.held (to_come R.remaining self.new)) }
+            (IsAtHand longest self.new.by self.new.held (to_come R.remaining self.new)) }
         ensures limit { StaysWithin R.remaining self.old self.new }
     {
         for _ in 0..u64::MAX {
-            if let Some(hand) = self.at_hand(alloc) {
+            if let Some(hand) = self.at_hand(alloc, longest) {
                 return Ok(hand);
             }
             if self.read_on(wanted)? == 0 {
-                return Ok(self.last_at_hand());
+                return Ok(self.last_at_hand(longest));
             }
         }
         Err(Unread)
     }
 
-    /// Returns the whole records in hand, or the open line, or `None` where there is neither: then
-    /// drops the lines in hand, which are without a byte.
-    fn at_hand(&mut self, alloc: Global) -> Option<AtHand>
+    /// Returns the whole records in hand, or the open line, or that there are more bytes than a record
+    /// may have, or `None` where there are no more: then drops the lines in hand, which are without a
+    /// byte.
+    fn at_hand(&mut self, alloc: Global, longest: Option<u64>) -> Option<AtHand>
         ensures by { self.new.by ≡ self.old.by }
         ensures takes { Takes self.old.by
             (unread R.remaining self.old) (unread R.remaining self.new) [] }
         ensures hand { IfSome result
-            (IsAtHand self.new.by self.new.held (to_come R.remaining self.new)) }
+            (IsAtHand longest self.new.by self.new.held (to_come R.remaining self.new)) }
         ensures none { result ≡ None → UnendedBy self.new.by self.new.held }
+        ensures short { result ≡ None → may_have longest (length self.new.held) ≡ true }
         ensures limit { StaysWithin R.remaining self.old self.new }
     {
         let whole = self.scan.whole();
@@ -309,17 +365,20 @@ impl<R: Read> Column<R> {
         }
         let opened = self.scan.opened();
         self.pass(whole, Vec::new(alloc));
-        match opened {
-            Some(line) => Some(AtHand::Line(line)),
-            None => None,
+        if let Some(line) = opened {
+            return Some(AtHand::Line(line));
         }
+        if may_have(longest, self.window.held().len()) {
+            return None;
+        }
+        Some(AtHand::TooLong)
     }
 
     /// Returns what is in hand at the end of the column, where no line has its end.
-    fn last_at_hand(&self) -> AtHand
+    fn last_at_hand(&self, longest: Option<u64>) -> AtHand
         requires end { IsAtEnd (to_come R.remaining self.now) }
         requires unended { UnendedBy self.now.by self.now.held }
-        ensures { IsAtHand self.now.by self.now.held (to_come R.remaining self.now) result }
+        ensures { IsAtHand longest self.now.by self.now.held (to_come R.remaining self.now) result }
     {
         let held = self.window.held();
         let len = held.len();

@@ -54,8 +54,8 @@ impl Cursor {
         self.at < piece.len() && !ends_line(piece[self.at])
     }
 
-    /// Splits the next record, where it begins here and is a zone and a time in this order, as they are
-    /// or between double quotes. `None` says nothing, and leaves the cursor as it was.
+    /// Splits the next record if it begins here and is just a zone and a time, bare or between double
+    /// quotes. `None` leaves the cursor where it is, for [`Cursor::next_record`].
     #[inline(always)]
     pub(crate) fn next_pair(&mut self, piece: &[u8], wanted: Wanted) -> Option<PlainRecord>
         requires { ShowsEnds piece.now self.old.at self.old.ends }

@@ -1,7 +1,8 @@
 //! Another delimiter than the comma: the two in each other's place.
 
+ghost use Rattle.zic_plan.specs.Delimiter.{exchange};
 ghost use Rattle.std.specs.Prelude.{◌≡◌, map};
-ghost use Rattle.zic_columns.specs.Exchange.{exchange, exchanged};
+ghost use Rattle.zic_columns.specs.Exchange.{exchanged};
 
 use std::io::{self, Read};
 

@@ -14,7 +14,7 @@ const BLOCK: usize = 64;
 /// The commas and line ends that come next in a piece, as far as they are known.
 #[derive(Clone, Copy, Drop)]
 pub(crate) struct FieldEnds {
-    /// Bit k is set where one is still to come k bytes after the start of the last block.
+    /// Bit k is set if byte k of the last block is one that wasn't passed yet.
     mask: u64,
     /// The index after that block.
     seen: usize,

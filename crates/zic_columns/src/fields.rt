@@ -1,7 +1,7 @@
 //! Records of a piece: where their bytes stand, and the fields that rows need.
 
 ghost use Rattle.std.specs.Prelude.{◌≡◌, ◌++◌, OnOk};
-ghost use Rattle.zic_columns.specs.Record.{IsWithin, StandsIn, bytes_at, field_text, text_alone};
+ghost use Rattle.zic_columns.specs.Record.{IsWithin, IsWithinPiece, bytes_at, field_text, text_alone};
 
 use crate::line::after_line_ends;
 use crate::machine::{Place, field_byte};
@@ -28,7 +28,7 @@ pub enum Field {
 pub struct Wanted {
     /// The field that names a zone, or `None` where every row is in one zone.
     pub zone: Option<usize>,
-    /// The field that tells a time.
+    /// The field of the time.
     pub time: usize,
 }
 
@@ -41,7 +41,7 @@ pub struct Record {
     pub count: usize,
     /// The field that names a zone: no bytes where none is wanted, or the record has too few fields.
     pub zone: Field,
-    /// The field that tells a time: no bytes where the record has too few fields.
+    /// The field of the time: no bytes where the record has too few fields.
     pub time: Field,
 }
 
@@ -61,7 +61,7 @@ impl Span {
 ///
 /// Fails where memory is refused.
 pub fn push_field(text: &mut Vec<u8>, piece: &[u8], field: Field) -> Result<(), AllocError>
-    requires { StandsIn piece.now field }
+    requires { IsWithinPiece piece.now field }
     ensures { OnOk result (text.new.items ≡ text.old.items ++ field_text piece.now field) }
 {
     match field {
@@ -78,16 +78,16 @@ pub fn push_field(text: &mut Vec<u8>, piece: &[u8], field: Field) -> Result<(), 
 fn push_quoted(text: &mut Vec<u8>, bytes: &[u8]) -> Result<(), AllocError>
     ensures { OnOk result (text.new.items ≡ text.old.items ++ text_alone bytes.now) }
 {
-    let mut stands = Place::Start;
+    let mut place_now = Place::Start;
     let rest = after_line_ends(bytes);
     for byte in rest {
-        let Some(read) = field_byte(stands, *byte) else {
+        let Some(read) = field_byte(place_now, *byte) else {
             return Ok(());
         };
         if read.is_text {
             text.push(*byte)?;
         }
-        stands = read.next;
+        place_now = read.next;
     }
     Ok(())
 }

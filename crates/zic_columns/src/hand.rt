@@ -10,7 +10,7 @@ use crate::quote::first_quote;
 use crate::walk::whole_record_end;
 use memchr::memrchr2;
 
-/// The number of bytes that are whole records, and the place of a CSV reader in the record of the
+/// The number of bytes that are whole records, and the state of a CSV reader in the record of the
 /// others, if there are any.
 #[derive(Clone, Copy, Drop)]
 pub(crate) struct CsvScan {

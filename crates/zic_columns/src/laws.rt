@@ -3,9 +3,10 @@
 ghost use Rattle.zic_columns.specs.Laws.{ColumnRecordsAreRead, PlainRecordsAreRead, RecordsAreCut};
 ghost use Rattle.zic_columns.specs.Laws.{DelimitedRecordsAreOne, RecordsAreExchanged, RecordsAreOne};
 ghost use Rattle.zic_columns.specs.Laws.{RowsAreExchanged};
-ghost use Rattle.zic_columns.specs.Laws.{BesideIsKept, OwnTextsAreOfRecords, PiecesHaveRecords};
+ghost use Rattle.zic_columns.specs.Laws.{PairsAreMapped, OwnTextsAreOfRecords, PiecesHaveRecords};
 ghost use Rattle.zic_columns.specs.Laws.{ColumnIsOwnBytes, OwnBytesAreRecords, OwnBytesAreTrimmed, RecordsAreOfOwnBytes};
-ghost use Rattle.zic_columns.specs.Laws.{LinesAreCut, LinesWithoutQuotesAreCsv, RecordsByAreExchanged};
+ghost use Rattle.zic_columns.specs.Laws.{LinesAreCut, LinesAreTruncated, LinesWithoutQuotesAreCsv};
+ghost use Rattle.zic_columns.specs.Laws.{RecordsByAreExchanged};
 ghost use Rattle.zic_columns.specs.Laws.{RecordsByAreOne, TextsByAreExchanged, TextsByAreOfRecords};
 ghost use Rattle.zic_columns.specs.Laws.{TextsAreCounted, TextsAreExchanged, WholeRecordsAreCut};
 
@@ -67,9 +68,9 @@ pub fn texts_are_counted()
     ensures { TextsAreCounted }
 {}
 
-/// States that own bytes and fields that are changed still stand beside each other.
-pub fn beside_is_kept()
-    ensures { BesideIsKept }
+/// States that own bytes and fields that are changed are paired as before.
+pub fn pairs_are_mapped()
+    ensures { PairsAreMapped }
 {}
 
 /// States that what a CSV writer makes of fields is exchanged as its fields are.
@@ -106,6 +107,11 @@ pub fn lines_without_quotes_are_csv()
 /// States that a column in which each line is a record can be cut after any line end.
 pub fn lines_are_cut()
     ensures { LinesAreCut }
+{}
+
+/// States that truncated lines are the first bytes of each line.
+pub fn lines_are_truncated()
+    ensures { LinesAreTruncated }
 {}
 
 /// States that bytes have one list of records with a delimiter, wherever records end.

@@ -6,7 +6,7 @@
 //! column can be cut wherever a CSV reader stands before a record. A column may also be read line by
 //! line: then a record ends at its line's end, also between double quotes, and a line whose double
 //! quotes are open there is a record without fields. The functions of `laws` do nothing: their
-//! contracts state what holds of records. The tests stand in `program_tests`.
+//! contracts state what holds of records.
 #![tactic(auto)]
 
 mod blocks;
@@ -22,6 +22,7 @@ pub mod laws;
 mod limit;
 mod line;
 mod line_scan;
+mod longest;
 mod machine;
 mod mark;
 mod own;
@@ -31,12 +32,15 @@ mod quote;
 mod rounds;
 mod scan;
 mod splits;
+mod truncate;
 mod walk;
 
 pub use columns::{Column, Taken, Unread};
 pub use delimiter::{Exchanged, exchange};
 pub use fields::{Field, Record, Span, Wanted, push_field};
+pub use longest::may_have;
 pub use mark::without_mark;
 pub use pieces::MAX_ROUND_PIECES;
 pub use rounds::Round;
 pub use splits::{BATCH, Splitter};
+pub use truncate::Truncated;

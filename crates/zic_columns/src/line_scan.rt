@@ -39,14 +39,14 @@ pub(crate) fn is_open(line: &[u8]) -> bool
     requires { HasNoLineEnd line.now }
     ensures { result ≡ is_open 44 line.now }
 {
-    let mut stands = Place::Start;
+    let mut place_now = Place::Start;
     for byte in line {
-        match place_after(stands, *byte) {
-            Some(next) => stands = next,
+        match place_after(place_now, *byte) {
+            Some(next) => place_now = next,
             None => unreachable!(),
         }
     }
-    matches!(stands, Place::Quoted)
+    matches!(place_now, Place::Quoted)
 }
 
 /// Finds the end of the first line.

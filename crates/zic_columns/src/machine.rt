@@ -6,7 +6,7 @@ ghost use Rattle.zic_columns.specs.code.Machine.{EndsRecord, GoesOn, IsEndOfReco
 
 use crate::line::ends_line;
 
-/// A place of a CSV reader in a record.
+/// The state of a CSV reader in a record.
 #[derive(Clone, Copy, Drop)]
 pub(crate) enum Place {
     /// At the start of a field.
@@ -65,10 +65,10 @@ pub(crate) fn field_byte(place: Place, byte: u8) -> Option<FieldByte>
 pub(crate) fn field_len(bytes: &[u8]) -> usize
     ensures { (text : List ℕ) × IsField bytes.now text result }
 {
-    let mut stands = Place::Start;
+    let mut place_now = Place::Start;
     for (index, byte) in bytes.iter().enumerate() {
-        match field_byte(stands, *byte) {
-            Some(read) => stands = read.next,
+        match field_byte(place_now, *byte) {
+            Some(read) => place_now = read.next,
             None => return index,
         }
     }
@@ -96,12 +96,12 @@ pub(crate) fn record_end(place: Place, bytes: &[u8]) -> Result<usize, Place>
     ensures { MatchResult result (IsEndOfRecord (state_at place) bytes.now)
         (λ next. ReadsTo (state_at place) bytes.now (state_at next)) }
 {
-    let mut stands = place;
+    let mut place_now = place;
     for (index, byte) in bytes.iter().enumerate() {
-        match place_after(stands, *byte) {
-            Some(next) => stands = next,
+        match place_after(place_now, *byte) {
+            Some(next) => place_now = next,
             None => return Ok(index + 1),
         }
     }
-    Err(stands)
+    Err(place_now)
 }

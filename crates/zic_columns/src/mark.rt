@@ -19,8 +19,8 @@ pub fn without_mark(bytes: &[u8]) -> &[u8]
     }
 }
 
-/// Returns whether the first bytes of a column show whether it begins with a byte order mark: only
-/// a proper beginning of the mark doesn't.
+/// Returns whether the first bytes of a column decide whether it begins with a byte order mark: only a
+/// proper prefix of the mark doesn't.
 pub(crate) fn shows_mark(bytes: &[u8]) -> bool
     ensures { IsTrue result ↔ ShowsMark bytes.now }
 {

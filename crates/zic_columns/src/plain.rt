@@ -50,7 +50,7 @@ fn record_of(start: usize, end: usize, fields: PlainFields) -> Record
     }
 }
 
-/// Returns the record that begins at an index, of which these fields were read up to another.
+/// Returns a partly read record: it begins at `start`, and these fields were read up to `at`.
 #[inline(always)]
 fn begun_at(start: usize, fields: PlainFields, at: usize) -> Begun
     ensures { result ≡ record { given = record_of start start fields; at = at } }
@@ -83,16 +83,16 @@ fn indices_of(wanted: Wanted) -> Sought
     }
 }
 
-/// Returns the field of this number where that is the index sought, or else the one that was kept.
+/// Returns `field` if its number is the one sought, else `unchanged`.
 #[inline(always)]
-fn pick(index: usize, number: usize, field: Span, kept: Span) -> Span
+fn pick(index: usize, number: usize, field: Span, unchanged: Span) -> Span
     ensures taken { index ≡ number → result ≡ field }
-    ensures kept { index ≢ number → result ≡ kept }
+    ensures unchanged { index ≢ number → result ≡ unchanged }
 {
-    if index == number { field } else { kept }
+    if index == number { field } else { unchanged }
 }
 
-/// Returns the fields with one more, which they keep where rows need it.
+/// Adds a field, and keeps it if rows need it.
 #[inline(always)]
 fn with_span(fields: PlainFields, span: Span, indices: Sought) -> PlainFields
     requires { fields.count + 1 < 2 ^ 64 }
@@ -134,7 +134,8 @@ pub(crate) fn split_plain(
 }
 
 /// Splits the record that begins at an index, where it is a zone and a time in this order, neither of
-/// which begins with a double quote. `None` says nothing, and leaves the field ends as they were.
+/// which begins with a double quote. `None` doesn't mean that there is no record, and leaves the field
+/// ends as they were.
 #[inline(always)]
 pub(crate) fn split_pair(
     piece: &[u8],
@@ -175,7 +176,7 @@ pub(crate) fn split_pair(
 }
 
 /// Splits the record that begins at an index, where it is a zone and a time in this order, each of them
-/// between two double quotes, with a line end after it. `None` says nothing.
+/// between two double quotes, with a line end after it. `None` doesn't mean that there is no record.
 #[inline(always)]
 pub(crate) fn split_quoted_pair(piece: &[u8], start: usize, wanted: Wanted) -> Option<PlainRecord>
     requires begins { BeginsRecord (drop start piece.now) }

@@ -89,7 +89,7 @@ impl<'a> Splitter<'a> {
     {
         let mut count = 0;
         while count < BATCH {
-            // Stored by its parts: a copy of a record that was just made would wait for its stores.
+            // Stored field by field: a copy of a record that was just made would wait for its stores.
             if let Some(plain) = cursor.next_pair(piece, wanted) {
                 records[count] = plain.record();
             } else if let Some(given) = cursor.next_record(piece, wanted) {

@@ -2,7 +2,7 @@
 
 ghost use Rattle.std.specs.Prelude.{◌≡◌, ◌+◌, ◌^◌, ◌<◌, ◌≤◌, ◌==◌, ◌∷◌, ◌++◌, ℕ, List, [], drop, length, Some, IfSome, MatchResult};
 ghost use Rattle.memchr.specs.Find.{IsFirst, Passes};
-ghost use Rattle.zic_columns.specs.Record.{StandsIn, field_text};
+ghost use Rattle.zic_columns.specs.Record.{IsWithinPiece, field_text};
 ghost use Rattle.zic_columns.specs.code.Field.{IsFieldAt};
 ghost use Rattle.zic_columns.specs.code.Machine.{BeginsRecord, IsEndOfRecord, ReadsTo, state_at};
 ghost use Rattle.zic_columns.specs.code.Own.{IsOwnLen};
@@ -131,14 +131,14 @@ fn next_field(piece: &[u8], at: usize) -> FoundField
     FoundField { field, stop }
 }
 
-/// Returns the record with one more field, which it keeps where rows need it.
+/// Adds a field to a record, and keeps it if rows need it.
 #[inline(always)]
 fn with_field(given: Record, field: Field, wanted: Wanted) -> Record
     requires { given.count + 1 < 2 ^ 64 }
     ensures own { result.own ≡ given.own }
     ensures count { result.count ≡ given.count + 1 }
     ensures has { (piece : List ℕ) (fields : List (List ℕ)) → HasFields piece wanted fields given
-        → StandsIn piece field
+        → IsWithinPiece piece field
         → HasFields piece wanted (fields ++ field_text piece field ∷ []) result }
 {
     let zone = match wanted.zone {

@@ -1,1 +1,2 @@
 pub mod Instant
+pub mod Release

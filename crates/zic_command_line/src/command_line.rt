@@ -1,10 +1,13 @@
 //! The words that the program is given.
 
 use crate::commands::commands;
+use crate::fields::{FieldNames, FieldWords};
 use crate::instant::{parse_instant_word, parse_local_word};
 use crate::layout::layout;
 use crate::no_request::NoRequest;
+use crate::release::is_release;
 use clap::error::ErrorKind;
+use clap::parser::ValueSource;
 use clap::{ArgMatches, Error};
 use std::alloc::{AllocError, Global};
 use std::rt::Env;
@@ -27,9 +30,45 @@ pub enum Links {
     Symbolic,
 }
 
+/// The release of the tz database that a folder is said to be of.
+#[derive(Debug, Drop)]
+pub enum Release {
+    /// The one of this name.
+    Named(String),
+    /// The one that the first line of a source names.
+    FromSource,
+}
+
+/// What is listed of the zones of two sources, or of two folders.
+#[derive(Debug, Drop)]
+pub enum Differences {
+    /// The spans within these years at which they differ.
+    Within(Years),
+    /// From when on they differ, and from when on they agree for ever.
+    Summary {
+        /// The instant that is now, if it isn't the clock's.
+        now: Option<i64>,
+    },
+}
+
+/// What a folder of files is made of, and how.
+#[derive(Debug, Drop)]
+pub struct Building {
+    pub folder: String,
+    pub sources: Vec<String>,
+    pub plan: Plan,
+    pub links: Links,
+    /// Whether the files are on the disk when the command ends.
+    pub sync: bool,
+    /// The release that the folder is said to be of, if one is said.
+    pub release: Option<Release>,
+    /// The folder whose tables are copied, if there is one.
+    pub tables: Option<String>,
+}
+
 /// What the words ask for.
 #[derive(Debug, Drop)]
-pub struct Asked {
+pub struct CommandLine {
     pub request: Request,
     /// Whether a failure is explained.
     pub explain: bool,
@@ -44,27 +83,26 @@ pub enum Request {
         plan: Plan,
     },
     /// Compile sources and write their files into a folder.
-    Build {
-        folder: String,
-        sources: Vec<String>,
-        plan: Plan,
-        links: Links,
-        /// Whether the files are on the disk when the command ends.
-        sync: bool,
-    },
+    Build(Building),
     /// Compile sources and look whether a folder has their files.
     Verify {
         folder: String,
         sources: Vec<String>,
         plan: Plan,
+        /// Whether other files of the folder count.
+        strict: bool,
     },
-    /// Compile two sources, and list when their files answer differently.
+    /// List when the files of two sources answer differently, or those of two folders.
     Diff {
-        /// The old source and the new one.
+        /// The old source and the new one, or the folders.
         sources: Vec<String>,
+        /// Whether they are folders of TZif files.
+        trees: bool,
         plan: Plan,
-        years: Years,
+        differences: Differences,
         compared: Compared,
+        /// Whether the releases of both are printed.
+        shows_release: bool,
     },
     /// Convert a column by the files of a source, which is compiled, or of a folder.
     Convert(Conversion),
@@ -102,17 +140,23 @@ pub enum Zones {
     Tree(String),
 }
 
-/// What a column is converted by, and what is told of its rows.
+/// What a column is converted by, and what is printed about its rows.
 #[derive(Debug, Drop)]
 pub struct Conversion {
     pub zones: Zones,
     pub plan: Plan,
     /// How the column is read, and what its rows are.
     pub layout: Layout,
+    /// The names of the fields that are read, where the header says which these are.
+    pub names: FieldNames,
     /// The path of the file for the faults of rows, if there is one.
     pub faults: Option<String>,
-    /// Whether the number of rows so far is told.
+    /// The path of the file for the records of these rows, if they are put aside.
+    pub rejects: Option<String>,
+    /// Whether the number of rows so far is printed.
     pub progress: bool,
+    /// Whether the release of the zones is printed.
+    pub shows_release: bool,
 }
 
 /// Returns what the words of the process ask for.
@@ -120,7 +164,7 @@ pub struct Conversion {
 /// # Errors
 ///
 /// The text of usage or of help, or memory ran out.
-pub fn requested<R: Env + AllocGlobal>(rt: &R) -> Result<Asked, NoRequest> {
+pub fn requested<R: Env + AllocGlobal>(rt: &R) -> Result<CommandLine, NoRequest> {
     let alloc = rt.alloc();
     let given = match env::args(rt) {
         Ok(given) => given,
@@ -139,22 +183,53 @@ pub fn requested<R: Env + AllocGlobal>(rt: &R) -> Result<Asked, NoRequest> {
 /// # Errors
 ///
 /// The text of usage or of help, or memory ran out.
-pub fn parse(alloc: Global, words: &[String]) -> Result<Asked, NoRequest> {
+pub fn parse(alloc: Global, words: &[String]) -> Result<CommandLine, NoRequest> {
     let matches = match commands(alloc)?.try_get_matches_from(words) {
         Ok(matches) => matches,
-        Err(e) => return Ok(Asked {
+        Err(e) => return Ok(CommandLine {
             request: unmatched(alloc, words, &e)?,
             explain: false,
         }),
     };
-    let explain = match matches.subcommand() {
-        Some((_, m)) => m.get_flag("explain"),
-        None => false,
+    let (name, explain) = match matches.subcommand() {
+        Some((name, m)) => (name, m.get_flag("explain")),
+        None => ("", false),
     };
-    Ok(Asked {
-        request: command(alloc, &matches)?,
-        explain,
-    })
+    match command(alloc, &matches) {
+        Ok(request) => Ok(CommandLine { request, explain }),
+        Err(NoRequest::Usage(text)) => Err(NoRequest::Usage(with_help(alloc, text, name)?)),
+        Err(NoRequest::Memory) => Err(NoRequest::Memory),
+    }
+}
+
+/// The commands, by their names.
+const COMMANDS: [&str; 8] = [
+    "check", "build", "verify", "diff", "convert", "show", "dump", "explain",
+];
+
+/// Returns the first word, if it is the name of a command, or an empty text.
+fn command_name(words: &[String]) -> &'static str {
+    let Some(word) = words.get(1) else {
+        return "";
+    };
+    for name in &COMMANDS {
+        if *name == word.as_str() {
+            return *name;
+        }
+    }
+    ""
+}
+
+/// Returns a text of usage that ends with a hint at the help of the command of this name, in place of one
+/// at the help.
+pub(crate) fn with_help(alloc: Global, text: String, name: &str) -> Result<String, AllocError> {
+    let space = if name.is_empty() { "" } else { " " };
+    for hint in &["try '--help'.\n", "try 'pzic --help'.\n"] {
+        if let Some(start) = text.as_str().strip_suffix(*hint) {
+            return format!(in alloc; "{start}try 'pzic {name}{space}--help'.\n");
+        }
+    }
+    Ok(text)
 }
 
 /// Returns what the command asks for.
@@ -185,13 +260,14 @@ fn unmatched(alloc: Global, words: &[String], e: &Error) -> Result<Request, NoRe
 
 /// Returns the refusal of words that are no command. Its text shows them without control characters.
 fn misused(alloc: Global, words: &[String]) -> Result<NoRequest, AllocError> {
+    let name = command_name(words);
     let words = shown_words(alloc, words)?;
     let Err(e) = commands(alloc)?.try_get_matches_from(&words) else {
         return Ok(usage(alloc, "a word has control characters"));
     };
     match e.kind() {
         ErrorKind::OutOfMemory => Ok(NoRequest::Memory),
-        _ => Ok(NoRequest::Usage(e.to_string(alloc)?)),
+        _ => Ok(NoRequest::Usage(with_help(alloc, e.to_string(alloc)?, name)?)),
     }
 }
 
@@ -215,13 +291,30 @@ fn build(alloc: Global, matches: &ArgMatches<'_>) -> Result<Request, NoRequest> 
     let sources = sources(alloc, matches)?;
     let plan = plan(alloc, matches)?;
     let links = links_of(alloc, matches)?;
-    Ok(Request::Build {
+    Ok(Request::Build(Building {
         folder,
         sources,
         plan,
         links,
         sync: matches.get_flag("sync"),
-    })
+        release: release_of(alloc, matches)?,
+        tables: optional(alloc, matches, "tables")?,
+    }))
+}
+
+/// Returns the release that a folder is said to be of.
+fn release_of(alloc: Global, matches: &ArgMatches<'_>) -> Result<Option<Release>, NoRequest> {
+    match matches.get_str("release") {
+        None => Ok(None),
+        Some("from-source") => Ok(Some(Release::FromSource)),
+        Some(name) if is_release(name.as_bytes()) => {
+            Ok(Some(Release::Named(String::from_str(alloc, name)?)))
+        }
+        Some(_) => Err(usage(
+            alloc,
+            "--release is from-source or a name of 1 to 64 visible ASCII characters",
+        )),
+    }
 }
 
 fn verify(alloc: Global, matches: &ArgMatches<'_>) -> Result<Request, NoRequest> {
@@ -229,12 +322,14 @@ fn verify(alloc: Global, matches: &ArgMatches<'_>) -> Result<Request, NoRequest>
         folder: word(alloc, matches, "DIR")?,
         sources: sources(alloc, matches)?,
         plan: plan(alloc, matches)?,
+        strict: matches.get_flag("strict"),
     })
 }
 
 fn diff(alloc: Global, matches: &ArgMatches<'_>) -> Result<Request, NoRequest> {
     let (old, new) = (word(alloc, matches, "OLD")?, word(alloc, matches, "NEW")?);
-    if old.as_str() == STANDARD_INPUT && new.as_str() == STANDARD_INPUT {
+    let trees = matches.get_flag("trees");
+    if !trees && old.as_str() == STANDARD_INPUT && new.as_str() == STANDARD_INPUT {
         return Err(usage(alloc, "-, standard input, can be only one of OLD and NEW"));
     }
     let mut sources = Vec::new(alloc);
@@ -242,10 +337,43 @@ fn diff(alloc: Global, matches: &ArgMatches<'_>) -> Result<Request, NoRequest> {
     sources.push(new)?;
     Ok(Request::Diff {
         sources,
+        trees,
         plan: plan(alloc, matches)?,
-        years: years(alloc, matches)?,
+        differences: differences_of(alloc, matches)?,
         compared: compared(alloc, matches)?,
+        shows_release: matches.get_flag("show-release"),
     })
+}
+
+/// Returns what is listed of two sources, or of two folders.
+fn differences_of(alloc: Global, matches: &ArgMatches<'_>) -> Result<Differences, NoRequest> {
+    let now = now(alloc, matches)?;
+    if !matches.get_flag("summary") {
+        return match now {
+            None => Ok(Differences::Within(years(alloc, matches)?)),
+            Some(_) => Err(usage(alloc, "--now is for --summary")),
+        };
+    }
+    if is_given(matches, "from") || is_given(matches, "to") {
+        return Err(usage(alloc, "--summary is of all years, without --from and --to"));
+    }
+    Ok(Differences::Summary { now })
+}
+
+/// Returns the instant that is now, if it is given.
+fn now(alloc: Global, matches: &ArgMatches<'_>) -> Result<Option<i64>, NoRequest> {
+    let Some(word) = matches.get_str("now") else {
+        return Ok(None);
+    };
+    match parse_instant_word(word) {
+        Some(instant) => Ok(Some(instant)),
+        None => Err(no_seconds(alloc, word, "--now <SECONDS>")),
+    }
+}
+
+/// Returns whether the words have an option.
+fn is_given(matches: &ArgMatches<'_>, id: &str) -> bool {
+    matches!(matches.value_source(id), Some(ValueSource::CommandLine))
 }
 
 /// Returns what is compared of answers.
@@ -292,13 +420,17 @@ fn links_of(alloc: Global, matches: &ArgMatches<'_>) -> Result<Links, NoRequest>
 fn convert(alloc: Global, matches: &ArgMatches<'_>) -> Result<Request, NoRequest> {
     let zones = zones_of(alloc, matches)?;
     let plan = column_plan(alloc, matches)?;
-    let layout = layout(alloc, matches)?;
+    let fields = FieldWords::of(alloc, matches)?;
+    let layout = layout(alloc, matches, &fields)?;
     Ok(Request::Convert(Conversion {
         zones,
         plan,
         layout,
+        names: fields.names(),
         faults: optional(alloc, matches, "faults")?,
+        rejects: optional(alloc, matches, "rejects")?,
         progress: matches.get_flag("progress"),
+        shows_release: matches.get_flag("show-release"),
     }))
 }
 
@@ -325,13 +457,18 @@ fn show(alloc: Global, matches: &ArgMatches<'_>) -> Result<Request, NoRequest> {
     };
     if matches.get_flag("local") {
         let Some(local) = parse_local_word(word) else {
-            return Err(bad_instant(alloc, word, "not a local time as 2007-03-11T01:59:59"));
+            return Err(bad_value(
+                alloc,
+                word,
+                "<INSTANT>",
+                "not a local time as 2007-03-11T01:59:59",
+            ));
         };
         return Ok(Request::ShowLocal { file, local });
     }
     match parse_instant_word(word) {
         Some(instant) => Ok(Request::Show { file, instant }),
-        None => Err(no_seconds(alloc, word)),
+        None => Err(no_seconds(alloc, word, "<INSTANT>")),
     }
 }
 
@@ -417,39 +554,57 @@ fn optional(
 }
 
 /// Returns the refusal of words that can't be what they are, with a text that says why.
-pub fn usage(alloc: Global, text: &str) -> NoRequest {
+pub(crate) fn usage(alloc: Global, text: &str) -> NoRequest {
     match format!(in alloc; "error: {text}\n\nFor more information, try 'pzic --help'.\n") {
         Ok(text) => NoRequest::Usage(text),
         Err(_) => NoRequest::Memory,
     }
 }
 
-/// Returns the refusal of a word that is no number of seconds.
-fn no_seconds(alloc: Global, word: &str) -> NoRequest {
+/// Returns the refusal of words of the command of this name, with a text that says why and a hint at the
+/// command's help.
+pub fn usage_of(alloc: Global, name: &str, text: &str) -> NoRequest {
+    match usage(alloc, text) {
+        NoRequest::Usage(text) => match with_help(alloc, text, name) {
+            Ok(text) => NoRequest::Usage(text),
+            Err(_) => NoRequest::Memory,
+        },
+        NoRequest::Memory => NoRequest::Memory,
+    }
+}
+
+/// Returns the refusal of a word that is no number of seconds, at the place for one.
+fn no_seconds(alloc: Global, word: &str, place: &str) -> NoRequest {
     let (first, last) = (i64::MIN, i64::MAX);
     match format!(in alloc; "not a whole number of seconds from {first} to {last}") {
-        Ok(why) => bad_instant(alloc, word, why.as_str()),
+        Ok(why) => bad_value(alloc, word, place, why.as_str()),
         Err(_) => NoRequest::Memory,
     }
 }
 
-/// Returns the refusal of a word that is no instant, or no local time.
-fn bad_instant(alloc: Global, word: &str, why: &str) -> NoRequest {
+/// Returns the refusal of a word that can't stand at its place.
+pub(crate) fn bad_value(alloc: Global, word: &str, place: &str, why: &str) -> NoRequest {
     let Ok(word) = shown_word(alloc, word) else {
         return NoRequest::Memory;
     };
-    match format!(in alloc; "invalid value '{word}' for '<INSTANT>': {why}") {
+    match format!(in alloc; "invalid value '{word}' for '{place}': {why}") {
         Ok(text) => usage(alloc, text.as_str()),
         Err(_) => NoRequest::Memory,
     }
 }
 
 /// Returns the refusal of a word that is the name of no error.
-fn no_error(alloc: Global, name: &str, nearest: &str) -> NoRequest {
+fn no_error(alloc: Global, name: &str, nearest: Option<&str>) -> NoRequest {
     let Ok(name) = shown_word(alloc, name) else {
         return NoRequest::Memory;
     };
-    match format!(in alloc; "no error has the name '{name}'; the nearest is '{nearest}'") {
+    let text = match nearest {
+        Some(nearest) => {
+            format!(in alloc; "no error has the name '{name}'; the nearest is '{nearest}'")
+        }
+        None => format!(in alloc; "no error has the name '{name}'; 'pzic explain' lists all"),
+    };
+    match text {
         Ok(text) => usage(alloc, text.as_str()),
         Err(_) => NoRequest::Memory,
     }

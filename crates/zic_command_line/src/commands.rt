@@ -1,4 +1,4 @@
-//! The commands with their words and options, as help tells of them.
+//! The commands with their words and options, as help lists them.
 
 use clap::builder::ValueParser;
 use clap::{Arg, ArgAction, Command, value_parser};
@@ -29,11 +29,11 @@ const TIME_WORDS: [&str; 3] = ["count", "rfc3339", "local"];
 /// The words for what is taken for local times in gaps and in folds.
 const CHOICE_WORDS: [&str; 4] = ["reject", "earlier", "later", "compatible"];
 
+/// The words for how a row has its local time and its UT offset.
+const STYLE_WORDS: [&str; 2] = ["fields", "iso"];
+
 /// The words for what a record is.
 const RECORD_WORDS: [&str; 2] = ["csv", "lines"];
-
-/// The greatest number that a field can have in an option.
-const MOST_FIELDS: i64 = 65_536;
 
 /// What a command takes.
 enum Form {
@@ -53,12 +53,14 @@ enum Form {
     Ignore,
     /// An option that is the name of a zone.
     Zone,
-    /// An option that is the number of a field, from 1.
+    /// An option that is the number of a field, from 1, or its name.
     Field,
     /// An option that is the path of a file.
     Path,
     /// An option that is the path of a folder.
     Folder,
+    /// An option that is the name of a release.
+    Release,
     /// An option that says what stands between fields, a comma by default.
     Delimiter,
     /// An option that is one of `UNIT_WORDS`, the first by default.
@@ -67,8 +69,14 @@ enum Form {
     Time,
     /// An option that is one of `CHOICE_WORDS`.
     Choice,
+    /// An option that is one of `STYLE_WORDS`, the first by default.
+    Style,
     /// An option that is one of `RECORD_WORDS`, the first by default.
     Records,
+    /// An option that is a number of bytes, from 1.
+    Bytes,
+    /// An option that is an instant.
+    Instant,
 }
 
 /// A number in a range.
@@ -138,7 +146,7 @@ static CHECK: [Word; 4] = [
     EXPLAIN,
 ];
 
-static BUILD: [Word; 7] = [
+static BUILD: [Word; 9] = [
     Word {
         name: "DIR",
         help: "The folder for the files; it is made if need be",
@@ -159,12 +167,22 @@ static BUILD: [Word; 7] = [
         help: "Returns once all is on the disk",
         form: Form::Flag,
     },
+    Word {
+        name: "release",
+        help: "Writes NAME to +VERSION; from-source: that of a source",
+        form: Form::Release,
+    },
+    Word {
+        name: "tables",
+        help: "Copies tables of a release from here, as zone1970.tab",
+        form: Form::Folder,
+    },
     WORKERS,
     ZONE_PIECE,
     EXPLAIN,
 ];
 
-static VERIFY: [Word; 5] = [
+static VERIFY: [Word; 6] = [
     Word {
         name: "DIR",
         help: "The folder that is to have the files",
@@ -175,12 +193,17 @@ static VERIFY: [Word; 5] = [
         help: "Files of Rule, Zone and Link lines; one may be -",
         form: Form::Several,
     },
+    Word {
+        name: "strict",
+        help: "Lists other files of DIR too",
+        form: Form::Flag,
+    },
     WORKERS,
     ZONE_PIECE,
     EXPLAIN,
 ];
 
-static DIFF: [Word; 8] = [
+static DIFF: [Word; 12] = [
     Word {
         name: "OLD",
         help: "A file of Rule, Zone and Link lines, or -",
@@ -190,6 +213,11 @@ static DIFF: [Word; 8] = [
         name: "NEW",
         help: "Another one, or - for standard input",
         form: Form::Required,
+    },
+    Word {
+        name: "trees",
+        help: "OLD and NEW are folders of TZif files",
+        form: Form::Flag,
     },
     Word {
         name: "from",
@@ -216,12 +244,27 @@ static DIFF: [Word; 8] = [
         help: "What isn't compared: daylight, abbreviation, or both",
         form: Form::Ignore,
     },
+    Word {
+        name: "summary",
+        help: "A line a zone: until when it differs, or forever",
+        form: Form::Flag,
+    },
+    Word {
+        name: "now",
+        help: "What is past for --summary [default: the clock]",
+        form: Form::Instant,
+    },
+    Word {
+        name: "show-release",
+        help: "Tells on standard error which releases they are of",
+        form: Form::Flag,
+    },
     WORKERS,
     ZONE_PIECE,
     EXPLAIN,
 ];
 
-static CONVERT: [Word; 22] = [
+static CONVERT: [Word; 26] = [
     Word {
         name: "SOURCE",
         help: "A file of Rule, Zone and Link lines",
@@ -265,6 +308,11 @@ static CONVERT: [Word; 22] = [
         }),
     },
     Word {
+        name: "max-record",
+        help: "The most bytes of a record, up to 4294967296",
+        form: Form::Bytes,
+    },
+    Word {
         name: "header",
         help: "Takes the first record for a header, and writes one",
         form: Form::Flag,
@@ -281,7 +329,7 @@ static CONVERT: [Word; 22] = [
     },
     Word {
         name: "zone-field",
-        help: "The field of the zone, from 1 [default: 1]",
+        help: "The field of the zone: from 1, or its name [default: 1]",
         form: Form::Field,
     },
     Word {
@@ -310,6 +358,11 @@ static CONVERT: [Word; 22] = [
         form: Form::Choice,
     },
     Word {
+        name: "style",
+        help: "Form of local time: fields or iso",
+        form: Form::Style,
+    },
+    Word {
         name: "records",
         help: "What a record is: csv or lines",
         form: Form::Records,
@@ -330,8 +383,18 @@ static CONVERT: [Word; 22] = [
         form: Form::Path,
     },
     Word {
+        name: "rejects",
+        help: "Where --keep-going puts the records of these rows",
+        form: Form::Path,
+    },
+    Word {
         name: "progress",
         help: "Tells on standard error how many rows are written",
+        form: Form::Flag,
+    },
+    Word {
+        name: "show-release",
+        help: "Tells on standard error which release zones are of",
         form: Form::Flag,
     },
     EXPLAIN,
@@ -366,7 +429,7 @@ static DUMP: [Word; 4] = [
     },
     Word {
         name: "to",
-        help: "Up to the start of which year, 2 to 9999",
+        help: "To the start of which year, 2 to 9999",
         form: Form::Number(Number {
             label: "YEAR",
             default: "2500",
@@ -397,12 +460,12 @@ static COMMANDS: [Described; 8] = [
     Described {
         name: "verify",
         about: "Compiles sources and lists the files that DIR lacks or has otherwise",
-        after: "Each line is missing NAME or differs NAME; with none the status is 0.\n\nExample:\n  pzic verify ~/zoneinfo /usr/share/zoneinfo/tzdata.zi acme.zi",
+        after: "Each line is missing NAME, differs NAME or, with --strict, extra NAME; with\nnone the status is 0.\n\nExample:\n  pzic verify ~/zoneinfo /usr/share/zoneinfo/tzdata.zi acme.zi",
     },
     Described {
         name: "diff",
-        about: "Compiles two sources and lists when their zones differ",
-        after: "Each line is ZONE,FROM,UNTIL and the offset, daylight flag and abbreviation\nof OLD and then of NEW.\n\nExample:\n  pzic diff old/tzdata.zi /usr/share/zoneinfo/tzdata.zi",
+        about: "Lists when the zones of two sources differ, or of two trees",
+        after: "Each line is ZONE,FROM,UNTIL and the offset, daylight flag and abbreviation\nof OLD and then of NEW; of --summary ZONE,FROM,UNTIL and past, future, forever,\nremoved or added.\n\nExample:\n  pzic diff old/tzdata.zi /usr/share/zoneinfo/tzdata.zi\n  pzic diff --summary --trees ~/zoneinfo /usr/share/zoneinfo",
     },
     Described {
         name: "convert",
@@ -507,15 +570,19 @@ fn option<'a>(argument: Arg<'a>, form: &'a Form) -> Arg<'a> {
         Form::Unit => choice(argument.value_name("UNIT"), &UNIT_WORDS).default_value("s"),
         Form::Time => choice(argument.value_name("FORM"), &TIME_WORDS).default_value("count"),
         Form::Choice => choice(argument.value_name("C"), &CHOICE_WORDS),
+        Form::Style => choice(argument.value_name("STYLE"), &STYLE_WORDS).default_value("fields"),
         Form::Records => choice(argument.value_name("KIND"), &RECORD_WORDS).default_value("csv"),
         Form::Ignore => choice(argument.value_name("WHAT"), &IGNORE_WORDS),
+        Form::Instant => argument.value_name("SECONDS").allow_negative_numbers(true),
         Form::Zone => argument.value_name("NAME"),
         Form::Path => argument.value_name("FILE"),
         Form::Folder => argument.value_name("DIR"),
+        Form::Release => argument.value_name("NAME"),
         Form::Delimiter => argument.value_name("C").default_value(","),
-        Form::Field => argument
+        Form::Field => argument.value_name("F"),
+        Form::Bytes => argument
             .value_name("N")
-            .value_parser(value_parser!(u64).range(1..=MOST_FIELDS)),
+            .value_parser(value_parser!(u64).range(1..=MAX_BYTES as i64)),
         _ => argument.action(ArgAction::SetTrue),
     }
 }

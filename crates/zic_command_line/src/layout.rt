@@ -1,12 +1,13 @@
 //! How a column is read, by the options for that.
 
 use crate::command_line::usage;
+use crate::fields::{FieldWord, FieldWords};
 use crate::no_request::NoRequest;
 use clap::ArgMatches;
 use std::alloc::Global;
 use zic_plan::{
-    AtFault, Delimiter, Disambiguation, FieldCount, Header, Layout, Records, RowStart, TimeFrom,
-    Unit, ZoneFrom,
+    AtFault, Delimiter, Disambiguation, FieldCount, Header, Layout, Records, RowStart, Style,
+    TimeFrom, Unit, ZoneFrom,
 };
 
 /// Returns how a column is read.
@@ -14,35 +15,32 @@ use zic_plan::{
 /// # Errors
 ///
 /// The text of usage where options don't go together or one can't be what it is, or memory ran out.
-pub(crate) fn layout(alloc: Global, matches: &ArgMatches<'_>) -> Result<Layout, NoRequest> {
-    let zone_field = matches.get_one::<u64>("zone-field");
-    let time_field = matches.get_one::<u64>("time-field");
+pub(crate) fn layout(
+    alloc: Global,
+    matches: &ArgMatches<'_>,
+    fields: &FieldWords,
+) -> Result<Layout, NoRequest> {
     let delimiter = delimiter(alloc, matches)?;
     let unit = unit(alloc, matches)?;
     let from = time_from(alloc, matches)?;
+    let style = style(alloc, matches)?;
     let records = records(alloc, matches)?;
     let header = header(alloc, matches)?;
-    let (zone, time) = match matches.get_str("zone") {
-        Some(_) if zone_field.is_some() => {
-            return Err(usage(alloc, "--zone-field has no meaning with --zone"));
-        }
-        Some(name) => {
-            let zone = ZoneFrom::Name(String::from_str(alloc, name)?);
-            (zone, time_field.unwrap_or(1))
-        }
-        None => {
-            let (zone, time) = (zone_field.unwrap_or(1), time_field.unwrap_or(2));
-            if zone == time {
-                return Err(usage(alloc, "--zone-field and --time-field are one field"));
-            }
-            (ZoneFrom::Field(index(zone)), time)
-        }
-    };
-    let time = index(time);
+    let (zone, time) = zone_and_time(alloc, matches, fields)?;
     let start = row_start(matches);
     let at_fault = at_fault(alloc, matches)?;
-    let may_have_more = zone_field.is_some() || time_field.is_some() || start == RowStart::Record;
+    let may_have_more = fields.are_given() || start == RowStart::Record;
     let count = field_count(&zone, time, may_have_more);
+    if fields.have_names() {
+        if header == Header::Absent {
+            return Err(usage(
+                alloc,
+                "--zone-field and --time-field take names only with --header or --skip-header",
+            ));
+        }
+    } else {
+        expect_two(alloc, &zone, time)?;
+    }
     Ok(Layout {
         zone,
         time,
@@ -52,14 +50,72 @@ pub(crate) fn layout(alloc: Global, matches: &ArgMatches<'_>) -> Result<Layout, 
         delimiter,
         records,
         header,
+        max_record: matches.get_one::<u64>("max-record"),
         start,
+        style,
         at_fault,
     })
 }
 
-/// Returns the index of the field of this number.
-fn index(number: u64) -> usize {
+/// Returns where a row's zone comes from, and the index of the field of its time. A field with a name
+/// has the index of one without a number.
+fn zone_and_time(
+    alloc: Global,
+    matches: &ArgMatches<'_>,
+    fields: &FieldWords,
+) -> Result<(ZoneFrom, usize), NoRequest> {
+    match matches.get_str("zone") {
+        Some(_) if fields.zone.is_some() => {
+            Err(usage(alloc, "--zone-field has no meaning with --zone"))
+        }
+        Some(name) => {
+            let zone = ZoneFrom::Name(String::from_str(alloc, name)?);
+            Ok((zone, index(&fields.time, 1)))
+        }
+        None => Ok((
+            ZoneFrom::Field(index(&fields.zone, 1)),
+            index(&fields.time, 2),
+        )),
+    }
+}
+
+/// Returns the index of the field that an option means by its number, and else that of the field of this
+/// number.
+fn index(word: &Option<FieldWord>, default: u64) -> usize {
+    let number = match word {
+        Some(FieldWord::Number(number)) => *number,
+        Some(FieldWord::Name(_)) | None => default,
+    };
     number.saturating_sub(1) as usize
+}
+
+/// Refuses one field for the zone and the time.
+fn expect_two(alloc: Global, zone: &ZoneFrom, time: usize) -> Result<(), NoRequest> {
+    match zone {
+        ZoneFrom::Field(index) if *index == time => {
+            Err(usage(alloc, "--zone-field and --time-field are one field"))
+        }
+        _ => Ok(()),
+    }
+}
+
+/// Returns the layout with other fields of the zone and the time.
+///
+/// # Errors
+///
+/// The text of usage where both are one field, or memory ran out.
+pub(crate) fn with_fields(
+    alloc: Global,
+    layout: Layout,
+    zone: ZoneFrom,
+    time: usize,
+) -> Result<Layout, NoRequest> {
+    expect_two(alloc, &zone, time)?;
+    let mut layout = layout;
+    layout.count = field_count(&zone, time, true);
+    layout.zone = zone;
+    layout.time = time;
+    Ok(layout)
 }
 
 /// Returns whether the first record is a header, and whether one is written.
@@ -83,12 +139,14 @@ fn row_start(matches: &ArgMatches<'_>) -> RowStart {
 
 /// Returns what a row with a fault does.
 fn at_fault(alloc: Global, matches: &ArgMatches<'_>) -> Result<AtFault, NoRequest> {
-    if matches.get_flag("keep-going") {
-        Ok(AtFault::GoOn)
-    } else if matches.get_str("faults").is_some() {
-        Err(usage(alloc, "--faults has no meaning without --keep-going"))
-    } else {
-        Ok(AtFault::End)
+    let faults = matches.get_str("faults").is_some();
+    let rejects = matches.get_str("rejects").is_some();
+    match (matches.get_flag("keep-going"), faults, rejects) {
+        (true, _, true) => Ok(AtFault::Reject),
+        (true, _, false) => Ok(AtFault::GoOn),
+        (false, true, _) => Err(usage(alloc, "--faults has no meaning without --keep-going")),
+        (false, _, true) => Err(usage(alloc, "--rejects has no meaning without --keep-going")),
+        (false, false, false) => Ok(AtFault::End),
     }
 }
 
@@ -156,6 +214,15 @@ fn disambiguation(alloc: Global, choice: Option<&str>) -> Result<Disambiguation,
         "later" => Ok(Disambiguation::Later),
         "compatible" => Ok(Disambiguation::Compatible),
         _ => Err(usage(alloc, "--ambiguous is reject, earlier, later or compatible")),
+    }
+}
+
+/// Returns how a row has its local time and its UT offset.
+fn style(alloc: Global, matches: &ArgMatches<'_>) -> Result<Style, NoRequest> {
+    match matches.get_str("style") {
+        Some("fields") => Ok(Style::Fields),
+        Some("iso") => Ok(Style::Iso),
+        _ => Err(usage(alloc, "--style is fields or iso")),
     }
 }
 

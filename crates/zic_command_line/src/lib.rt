@@ -1,12 +1,19 @@
-//! The calls that the words of the command line ask for. The tests stand in `program_tests`.
+//! The calls that the words of the command line ask for.
 #![tactic(auto)]
 
 mod command_line;
 mod commands;
+mod fields;
 mod instant;
 mod layout;
 mod no_request;
+mod release;
 
-pub use command_line::{Asked, Conversion, Links, Request, Zones, parse, requested, usage};
+pub use command_line::{
+    Building, CommandLine, Conversion, Differences, Links, Release, Request, Zones, parse,
+    requested, usage_of,
+};
+pub use fields::FieldNames;
 pub use instant::parse_instant_word;
 pub use no_request::NoRequest;
+pub use release::is_release;

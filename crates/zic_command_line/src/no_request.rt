@@ -8,7 +8,7 @@ use std::alloc::{AllocError, AllocFailed};
 /// Why the words of the command line ask for nothing.
 #[derive(Debug, Drop)]
 pub enum NoRequest {
-    /// They ask for no command, or for help: the text that is told in place of it.
+    /// They ask for no command, or for help: the text that is printed in place of it.
     Usage(String),
     /// Memory ran out.
     Memory,

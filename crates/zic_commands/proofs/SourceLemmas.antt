@@ -39,12 +39,7 @@ module _ (files : List File) (sound : AreSoundFiles files) where
 
     pub by_files : (failure : Failure) → IsFailureOfConvert plan layout run (zones_of Stays Stays StaysFor Only zones zones') failure → IsFailureByFiles plan layout run files failure
     by_files failure (inl none) = inl (none.untouched, without_zone layout.zone failure none.of_zones)
-    by_files failure (inr (inl names)) = inr (inl (record {
-      has_zone = names.has_zone files (only zones' (names.grown ∙ are));
-      is = names.is;
-      ends = record { is = refl; unread = names.ends.unread; unasked = refl; unnoted = names.ends.unnoted; part = names.ends.part; starts = names.ends.starts; wrote = names.ends.wrote };
-      failed = names.failed;
-    }))
+    by_files failure (inr (inl names)) = inr (inl (names.has_zone files (only zones' (names.grown ∙ are)), names.fails))
     by_files failure (inr (inr rows)) =
         let by = rows.ends.by files (only rows.ends.then (rows.ends.grown ∙ are)) in
         inr (inr (record { has_zone = by.0; stop = rows.stop; is = rows.is; cause = rows.cause; ends = by.1 }))

@@ -1,12 +1,10 @@
 -- The output of `convert` by texts, and why it gives up.
 use Rattle.std.specs.Prelude.{◌≡◌, ◌⊎◌, ℕ, List}
 use Rattle.zic_base.specs.declared.run_stop.RunStop.{RunStop}
-use Rattle.zic_base.specs.declared.run_stop.RunStop.TheVariants as stop
 use Rattle.zic_compile.specs.Build.{AreFilesOfTexts}
 use Rattle.zic_convert.specs.Convert.{IsCauseOf}
-use Rattle.zic_convert.specs.Run.{EndsAtNames, EndsBy, Run}
-use Rattle.zic_counted.specs.Counts.{HasFailedSince}
-use Rattle.zic_file_commands.specs.Converting.{Converts, HasZone, IsFailureOfZone, IsUntouched}
+use Rattle.zic_convert.specs.Run.{EndsBy, Run}
+use Rattle.zic_file_commands.specs.Converting.{Converts, FailsAtNames, HasZone, IsFailureOfZone, IsUntouched}
 use Rattle.zic_files.specs.File.{File}
 use Rattle.zic_io.specs.Failing.{run_failure}
 use Rattle.zic_io.specs.declared.failure.Failure.{Failure}
@@ -29,19 +27,12 @@ pub record IsFailureOfRowsBy {R W : Type 0} (plan : Limits) (layout : Layout) (r
   pub cause : IsCauseOf plan.max_bytes run.reader run.reader' run.writer run.writer' stop
   pub ends : EndsBy layout plan.max_rows stop run files
 
--- the files have the zone for all rows, if there is to be one, and the writer failed at the line of names
-pub record IsFailureOfNamesBy {R W : Type 0} (layout : Layout) (run : Run R W) (files : List File) (failure : Failure) : Type 0 where
-  pub has_zone : HasZone files layout.zone
-  pub is : failure ≡ failures.CannotWriteRows
-  pub ends : EndsAtNames layout stop.WriteFailed run files files
-  pub failed : HasFailedSince run.writer' run.writer.failures
-
 -- why these files don't convert a column by a layout: memory ran out or they lack the zone for all rows, and nothing is touched, or the
 -- line of names can't be written, or the conversion ends early
 abbrev pub IsFailureByFiles : {R W : Type 0} → Limits → Layout → Run R W → List File → Failure → Type 0
 IsFailureByFiles plan layout run files failure =
     (IsUntouched run × ((failure ≡ failures.Memory) ⊎ IsFailureOfZone files layout.zone failure))
-    ⊎ IsFailureOfNamesBy layout run files failure
+    ⊎ (HasZone files layout.zone × FailsAtNames layout run failure)
     ⊎ IsFailureOfRowsBy plan layout run files failure
 
 -- the texts have files, and these don't convert the column

@@ -9,23 +9,23 @@ ghost use Rattle.zic_source.specs.Texts.{texts_of};
 use std::io::{Read, Write};
 use std::sync::Wait;
 use std::thread::Threads;
-use zic_base::FaultLog;
 use zic_convert::Conversion;
 use zic_counted::Counted;
 use zic_io::Failure;
 use zic_pieces::Gate;
+use zic_plan::RowLog;
 use zic_source_commands::files_of;
 use zic_zones::SourceZones;
 
-/// Compiles the texts, and converts a column by a layout and their files, which are looked up by this
-/// key. Returns the number of rows, without the header. The answer doesn't depend on the key: a random
-/// one keeps names that were chosen to collide from being slow.
+/// Compiles the texts, and converts a column by a layout and their files. Returns the number of rows,
+/// without the header. The key seeds the hash of names, so that names can't be chosen to collide; rows
+/// don't depend on it.
 ///
 /// # Errors
 ///
 /// Why the texts have no files, in which case nothing is read of the column, or as
 /// [`convert`](crate::convert) by these files.
-pub fn convert_source<T: Threads + Wait + Sync, G: Gate + Sync, R: Read, W: Write, L: FaultLog>(
+pub fn convert_source<T: Threads + Wait + Sync, G: Gate + Sync, R: Read, W: Write, L: RowLog>(
     conversion: &Conversion<'_, T, G>,
     texts: &[Vec<u8>],
     key: u64,

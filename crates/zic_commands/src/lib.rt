@@ -1,7 +1,7 @@
 //! The commands of the program, over texts, bytes, readers, writers and zones that the caller gives:
 //! those that compile texts, of `zic_source_commands`, those that read compiled files, of
 //! `zic_file_commands`, and the one that does both: it converts a column by the files of texts.
-//! `zic_io` reads the texts and files that words name. The tests stand in `program_tests`.
+//! `zic_io` reads the texts and files that words name.
 #![tactic(auto)]
 
 mod convert_command;

@@ -1,69 +1,84 @@
 -- The lines of the files so far.
-use Rattle.std.proofs.Common.{◌≢◌, Bool, true, All, ℤ, Option, Some, None, Any, ◌≡◌, ℕ, ◌+◌, ◌<◌, inl, inr, List, [], ◌∷◌, ◌++◌, length, take, refl, sym, ap, subst, ◌∙◌, arith, append_assoc, append-nil}
+use Rattle.std.proofs.Common.{◌≢◌, true, All, Option, Some, None, Any, ◌≡◌, ℕ, ◌+◌, ◌-◌, ◌<◌, ◌≤◌, inl, inr, List, [], ◌∷◌, ◌++◌, length, take, drop, slice_range, refl, sym, ap, subst, ◌∙◌, arith, append-nil}
 use Rattle.std.specs.Prelude.{Contains, IfSome, IsSomeAnd, is_some, slice_get}
 use Rattle.std.specs.List.{AllZip, flat_map}
 use Rattle.std.proofs.lemmas.Grind.{flat_map-append}
-use Rattle.std.proofs.lemmas.List.{take_more, take_all}
-use Rattle.std.proofs.lemmas.Option.{slice_get_cases}
-use Rattle.zic_base.proofs.Elements.{contains_got}
+use Rattle.std.proofs.Math.Seq.{take-add}
+use Rattle.std.proofs.lemmas.List.{drop-drop, drop_more, take_all}
+use Rattle.std.proofs.lemmas.Option.{get_or_from_slice_get, slice_get_within}
+use Rattle.zic_base.proofs.Elements.{contains_got, got}
 use Rattle.zic_base.proofs.Options.{if_at, some_of}
-use Rattle.zic_base.specs.State.{Shown}
-use Rattle.zic_compare.specs.Answers.{seen}
-use Rattle.zic_compare.specs.Files.{AreLinesOfBoth, AreLinesOfNew, AreLinesOfOld}
-use Rattle.zic_compare.specs.Text.{line}
-use Rattle.zic_compare.specs.declared.compared.Comparison.{Comparison}
+use Rattle.zic_compare.specs.Files.{AreLinesOfBoth, AreLinesOfNew, AreLinesOfOld, IsDiff, IsLineOfNew, IsLineOfOld, names_of}
+use Rattle.zic_compare.specs.Lines.{AreLinesOfAll}
+use Rattle.zic_compare.specs.Text.{with_names}
+use Rattle.zic_compare.specs.declared.listed.Listed.{Listed}
 use Rattle.zic_compare.proofs.SameLemmas.{same_bytes}
 use Rattle.zic_files.specs.File.{File}
-use Rattle.zic_tzif.specs.Answer.{Answers}
 use Rattle.zic_tzif.specs.Content.{Content}
 use Rattle.zic_tzif.specs.Laws.{FilesSayOne}
 use Rattle.zic_tzif.specs.Reading.{IsFile}
 
 -- one pair more
-zip_more : {X Y : Type 0} (Q : X → Y → Type 0) (xs : List X) (ys : List Y) (x : X) (y : Y) → AllZip Q xs ys → Q x y → AllZip Q (xs ++ x ∷ []) (ys ++ y ∷ [])
+pub zip_more : {X Y : Type 0} (Q : X → Y → Type 0) (xs : List X) (ys : List Y) (x : X) (y : Y) → AllZip Q xs ys → Q x y → AllZip Q (xs ++ x ∷ []) (ys ++ y ∷ [])
 zip_more Q [] [] x y each last = (last, tt)
 zip_more Q [] (b ∷ ys) x y each last = absurd each
 zip_more Q (a ∷ xs) [] x y each last = absurd each
 zip_more Q (a ∷ xs) (b ∷ ys) x y each last = (each.0, zip_more Q xs ys x y each.1 last)
 
 -- one text more
-joined_more : (texts : List (List ℕ)) (text : List ℕ) → flat_map (λ (l : List ℕ). l) (texts ++ text ∷ []) ≡ flat_map (λ (l : List ℕ). l) texts ++ text
+pub joined_more : (texts : List (List ℕ)) (text : List ℕ) → flat_map (λ (l : List ℕ). l) (texts ++ text ∷ []) ≡ flat_map (λ (l : List ℕ). l) texts ++ text
 joined_more texts text =
     flat_map-append (λ (l : List ℕ). l) texts (text ∷ []) ∙ ap (λ (l : List ℕ). flat_map (λ (l : List ℕ). l) texts ++ l) (append-nil text)
 
--- the texts of these files, after what was there before
-pub record AreSoFar (Q : File → List ℕ → Type 0) (files : List File) (base lines : List ℕ) : Type 0 where
-  pub more : List (List ℕ)
-  pub each : AllZip Q files more
-  pub are_lines : lines ≡ base ++ flat_map (λ (l : List ℕ). l) more
+-- a part of the files, and one more
+part_more : (files : List File) (first i : ℕ) (file : File) → first ≤ i → slice_get files i ≡ Some file → slice_range files first (i + 1) ≡ slice_range files first i ++ file ∷ []
+part_more files first i file low at =
+    let within : i < length files = slice_get_within files i file at in
+    let sum : i + 1 - first ≡ (i - first) + 1 = omega arith in
+    let back : first + (i - first) ≡ i = omega arith in
+    let next : drop (i - first) (drop first files) ≡ file ∷ drop (i + 1) files =
+    drop-drop (i - first) first files ∙ ap (λ (n : ℕ). drop n files) back ∙ drop_more files i file within
+    ∙ ap (λ (f : File). f ∷ drop (i + 1) files) (get_or_from_slice_get files i file file at) in
+    ap (λ (n : ℕ). take n (drop first files)) sum ∙ take-add (i - first) 1 (drop first files)
+    ∙ ap (λ (l : List File). take (i - first) (drop first files) ++ take 1 l) next
 
-pub none_so_far : (Q : File → List ℕ → Type 0) (base : List ℕ) → AreSoFar Q [] base base
-none_so_far Q base = record { more = []; each = tt; are_lines = sym (append-nil base) }
+-- no file has no lines
+pub lines_of_none : (Q : File → List ℕ → Type 0) (files : List File) (first : ℕ) → AreLinesOfAll Q (slice_range files first first) []
+lines_of_none Q files first =
+    let none : first - first ≡ 0 = omega arith in
+    subst (λ (n : ℕ). AreLinesOfAll Q (take n (drop first files)) []) (sym none) (record { of_each = []; each = tt; joined = refl })
 
-pub file_more : (Q : File → List ℕ → Type 0) (files : List File) (i : ℕ) (base lines next : List ℕ) → i < length files → AreSoFar Q (take i files) base lines
-    → IfSome (slice_get files i) (λ file. (more : List ℕ) × Q file more × (next ≡ lines ++ more)) → AreSoFar Q (take (i + 1) files) base next
-file_more Q files i base lines next lt before more =
-    elim (slice_get_cases files i).1 [
-      | inl some ↦
-          let file = some.0 in
-          let told : (text : List ℕ) × Q file text × (next ≡ lines ++ text) = rw some.2 at more in
-          let taken : take (i + 1) files ≡ take i files ++ file ∷ [] = rw some.3 at (take_more files i file lt) in
-          let whole : AreSoFar Q (take i files ++ file ∷ []) base next = record {
-            more = before.more ++ told.0 ∷ [];
-            each = zip_more Q (take i files) before.more file told.0 before.each told.1;
-            are_lines = told.2 ∙ ap (λ (l : List ℕ). l ++ told.0) before.are_lines ∙ append_assoc base (flat_map (λ (l : List ℕ). l) before.more) told.0
-                ∙ ap (λ (l : List ℕ). base ++ l) (sym (joined_more before.more told.0));
-          } in
-          subst (λ (fs : List File). AreSoFar Q fs base next) (sym taken) whole
-      | inr past ↦ absurd (omega (arith, lt, past.0))
-    ]
+-- the lines of one file more
+pub lines_more : (Q : File → List ℕ → Type 0) (files : List File) (first i : ℕ) (lines next : List ℕ) → first ≤ i → i < length files
+    → AreLinesOfAll Q (slice_range files first i) lines → IfSome (slice_get files i) (λ file. (more : List ℕ) × Q file more × (next ≡ lines ++ more))
+    → AreLinesOfAll Q (slice_range files first (i + 1)) next
+lines_more Q files first i lines next low lt before more =
+    let (file, at) = got files i lt in
+    let (text, is, pushed) = if_at (slice_get files i) (λ (f : File). (more : List ℕ) × Q f more × (next ≡ lines ++ more)) file more at in
+    let part = slice_range files first i in
+    let whole : AreLinesOfAll Q (part ++ file ∷ []) next = record {
+      of_each = before.of_each ++ text ∷ [];
+      each = zip_more Q part before.of_each file text before.each is;
+      joined = pushed ∙ ap (λ (l : List ℕ). l ++ text) before.joined ∙ sym (joined_more before.of_each text);
+    } in
+    subst (λ (fs : List File). AreLinesOfAll Q fs next) (sym (part_more files first i file low at)) whole
 
-pub all_so_far : (Q : File → List ℕ → Type 0) (files : List File) (i : ℕ) (base lines : List ℕ) → i ≡ length files → AreSoFar Q (take i files) base lines
-    → (more : List (List ℕ)) × AllZip Q files more × (lines ≡ base ++ flat_map (λ (l : List ℕ). l) more)
-all_so_far Q files i base lines is so_far =
-    let whole = take_all i files (omega (arith, is)) in
-    let all = subst (λ (fs : List File). AreSoFar Q fs base lines) whole so_far in
-    (all.more, all.each, all.are_lines)
+-- those of all files, taken as one part
+pub lines_of_whole : (Q : File → List ℕ → Type 0) (files : List File) (lines : List ℕ) → AreLinesOfAll Q (slice_range files 0 (length files)) lines → AreLinesOfAll Q files lines
+lines_of_whole Q files lines are =
+    let all : length files ≤ length files - 0 = omega arith in
+    subst (λ (fs : List File). AreLinesOfAll Q fs lines) (take_all (length files - 0) files all) are
+
+-- the text of both
+pub diff_of_both : (how : Listed) (old new : List File) (of_old of_new text : List ℕ) → AreLinesOfAll (AreLinesOfOld how new) old of_old → AreLinesOfAll (AreLinesOfNew how old) new of_new
+    → text ≡ with_names (names_of how) (of_old ++ of_new) → IsDiff how old new text
+diff_of_both how old new of_old of_new text are_old are_new is = record {
+  of_old = are_old.of_each;
+  each_old = are_old.each;
+  of_new = are_new.of_each;
+  each_new = are_new.each;
+  is_text = is ∙ ap (with_names (names_of how)) (ap (λ (l : List ℕ). l ++ of_new) are_old.joined ∙ ap (λ (l : List ℕ). flat_map (λ (x : List ℕ). x) are_old.of_each ++ l) are_new.joined);
+}
 
 of_option : (o : Option File) (P : File → Type 0) → ((file : File) → o ≡ Some file → P file) → IfSome o P
 of_option None P holds = tt
@@ -92,7 +107,7 @@ other_of files i name found =
     (file, at, contains_got files i file at, named)
 
 -- a new file whose name an old one has
-pub has_name : (how : Comparison) (old new : List File) (i : ℕ) (name lines : List ℕ) (found : Option ℕ) → IfSome (slice_get new i) (λ file. name ≡ file.name)
+pub has_name : (how : Listed) (old new : List File) (i : ℕ) (name lines : List ℕ) (found : Option ℕ) → IfSome (slice_get new i) (λ file. name ≡ file.name)
     → IfSome found (λ k. IsSomeAnd (slice_get old k) (λ file. file.name ≡ name)) → is_some found ≡ true
     → IfSome (slice_get new i) (λ file. (more : List ℕ) × AreLinesOfNew how old file more × (lines ≡ lines ++ more))
 has_name how old new i name lines None named found some = absurd cc
@@ -103,51 +118,35 @@ has_name how old new i name lines (Some k) named found some =
     ([], inl (subst (λ (n : List ℕ). Any (λ (f : File). f.name ≡ n) old) same (any_of old k name found), refl), same_text lines))
 
 -- and one whose name none has
-pub lone_new : (how : Comparison) (old new : List File) (i : ℕ) (name lines next : List ℕ) (content : Content) (answer told : Option Shown) → IfSome (slice_get new i) (λ file. name ≡ file.name)
-    → IfSome (slice_get new i) (λ file. content ≡ file.image.content) → All (λ (file : File). file.name ≢ name) old → Answers content how.bounds.first answer → told ≡ seen how.compared answer
-    → next ≡ lines ++ line how.compared name [] [] None told
+pub lone_new : (how : Listed) (old new : List File) (i : ℕ) (name lines next : List ℕ) (content : Content) → IfSome (slice_get new i) (λ file. name ≡ file.name)
+    → IfSome (slice_get new i) (λ file. content ≡ file.image.content) → All (λ (file : File). file.name ≢ name) old
+    → (more : List ℕ) × IsLineOfNew how name content more × (next ≡ lines ++ more)
     → IfSome (slice_get new i) (λ file. (more : List ℕ) × AreLinesOfNew how old file more × (next ≡ lines ++ more))
-lone_new how old new i name lines next content answer told named of none answers is pushed =
+lone_new how old new i name lines next content named of none (more, is, pushed) =
     file_at new i (λ file. (more : List ℕ) × AreLinesOfNew how old file more × (next ≡ lines ++ more))
     (λ file at.
     let same = if_at (slice_get new i) (λ (f : File). name ≡ f.name) file named at in
-    let content_is = if_at (slice_get new i) (λ (f : File). content ≡ f.image.content) file of at in (
-      line how.compared name [] [] None told,
-      inr (
-        subst (λ (n : List ℕ). All (λ (f : File). f.name ≢ n) old) same none,
-        record {
-          told = told;
-          is_told = (answer, subst (λ (c : Content). Answers c how.bounds.first answer) content_is answers, is);
-          is_line = ap (λ (n : List ℕ). line how.compared n [] [] None told) same;
-        },
-      ),
-      pushed,
-    ))
+    let content_is = if_at (slice_get new i) (λ (f : File). content ≡ f.image.content) file of at in
+    let by_name = subst (λ (n : List ℕ). IsLineOfNew how n content more) same is in
+    let absent = subst (λ (n : List ℕ). All (λ (f : File). f.name ≢ n) old) same none in
+    (more, inr (absent, subst (λ (c : Content). IsLineOfNew how file.name c more) content_is by_name), pushed))
 
 -- an old file whose name no new one has
-pub lone_old : (how : Comparison) (old new : List File) (i : ℕ) (name lines next : List ℕ) (content : Content) (answer told : Option Shown) → IfSome (slice_get old i) (λ file. name ≡ file.name)
-    → IfSome (slice_get old i) (λ file. content ≡ file.image.content) → All (λ (file : File). file.name ≢ name) new → Answers content how.bounds.first answer → told ≡ seen how.compared answer
-    → next ≡ lines ++ line how.compared name [] [] told None
+pub lone_old : (how : Listed) (old new : List File) (i : ℕ) (name lines next : List ℕ) (content : Content) → IfSome (slice_get old i) (λ file. name ≡ file.name)
+    → IfSome (slice_get old i) (λ file. content ≡ file.image.content) → All (λ (file : File). file.name ≢ name) new
+    → (more : List ℕ) × IsLineOfOld how name content more × (next ≡ lines ++ more)
     → IfSome (slice_get old i) (λ file. (more : List ℕ) × AreLinesOfOld how new file more × (next ≡ lines ++ more))
-lone_old how old new i name lines next content answer told named of none answers is pushed =
+lone_old how old new i name lines next content named of none (more, is, pushed) =
     file_at old i (λ file. (more : List ℕ) × AreLinesOfOld how new file more × (next ≡ lines ++ more))
     (λ file at.
     let same = if_at (slice_get old i) (λ (f : File). name ≡ f.name) file named at in
-    let content_is = if_at (slice_get old i) (λ (f : File). content ≡ f.image.content) file of at in (
-      line how.compared name [] [] told None,
-      inr (
-        subst (λ (n : List ℕ). All (λ (f : File). f.name ≢ n) new) same none,
-        record {
-          told = told;
-          is_told = (answer, subst (λ (c : Content). Answers c how.bounds.first answer) content_is answers, is);
-          is_line = ap (λ (n : List ℕ). line how.compared n [] [] told None) same;
-        },
-      ),
-      pushed,
-    ))
+    let content_is = if_at (slice_get old i) (λ (f : File). content ≡ f.image.content) file of at in
+    let by_name = subst (λ (n : List ℕ). IsLineOfOld how n content more) same is in
+    let absent = subst (λ (n : List ℕ). All (λ (f : File). f.name ≢ n) new) same none in
+    (more, inr (absent, subst (λ (c : Content). IsLineOfOld how file.name c more) content_is by_name), pushed))
 
 -- an old file and the new one of its name
-pub both_files : (how : Comparison) (old new : List File) (i k : ℕ) (name lines next more : List ℕ) (one other : Content) → IfSome (slice_get old i) (λ file. name ≡ file.name)
+pub both_files : (how : Listed) (old new : List File) (i k : ℕ) (name lines next more : List ℕ) (one other : Content) → IfSome (slice_get old i) (λ file. name ≡ file.name)
     → IfSome (slice_get old i) (λ file. one ≡ file.image.content) → IsSomeAnd (slice_get new k) (λ file. file.name ≡ name)
     → IfSome (slice_get new k) (λ file. other ≡ file.image.content) → AreLinesOfBoth how name one other more → next ≡ lines ++ more
     → IfSome (slice_get old i) (λ file. (more : List ℕ) × AreLinesOfOld how new file more × (next ≡ lines ++ more))
@@ -163,7 +162,7 @@ both_files how old new i k name lines next more one other named of found of_othe
     (more, inl (match, among, match_named ∙ same, subst (λ (c : Content). AreLinesOfBoth how file.name file.image.content c more) other_is by_old), pushed))
 
 -- of files with the same bytes
-pub same_files : FilesSayOne → (how : Comparison) (old new : List File) (i k : ℕ) (name a b lines : List ℕ) → IfSome (slice_get old i) (λ file. name ≡ file.name)
+pub same_files : FilesSayOne → (how : Listed) (old new : List File) (i k : ℕ) (name a b lines : List ℕ) → IfSome (slice_get old i) (λ file. name ≡ file.name)
     → IfSome (slice_get old i) (λ file. a ≡ file.image.octets) → IfSome (slice_get old i) (λ file. IsFile file.image.octets file.image.content)
     → IsSomeAnd (slice_get new k) (λ file. file.name ≡ name) → IfSome (slice_get new k) (λ file. b ≡ file.image.octets)
     → IfSome (slice_get new k) (λ file. IsFile file.image.octets file.image.content) → a ≡ b

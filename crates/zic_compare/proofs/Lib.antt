@@ -3,3 +3,5 @@ pub mod SameLemmas
 pub mod FilesLemmas
 pub mod VerifyLemmas
 pub mod LineLemmas
+pub mod ReadingLemmas
+pub mod SummaryLemmas

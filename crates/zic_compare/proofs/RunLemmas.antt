@@ -1,5 +1,5 @@
 -- The differences of two files, span after span.
-use Rattle.std.proofs.Common.{◌≡◌, ◌≢◌, ◌⊎◌, ℕ, ◌<◌, ℤ, pos, ◌+ℤ◌, ◌-ℤ◌, ◌<ℤ◌, ◌≤ℤ◌, inl, inr, List, [], ◌∷◌, ◌++◌, length, Option, All, AllPairs, Any, refl, sym, ap, subst, ◌∙◌, arith, length-append, unsigned_abs}
+use Rattle.std.proofs.Common.{◌≡◌, ◌≢◌, ◌<◌, ℤ, pos, ◌+ℤ◌, ◌-ℤ◌, ◌<ℤ◌, ◌≤ℤ◌, inl, inr, List, [], ◌∷◌, ◌++◌, Option, Any, refl, sym, ap, subst, ◌∙◌, arith, length-append, unsigned_abs}
 use Rattle.std.specs.Int.{int_max}
 use Rattle.std.proofs.lemmas.Int.{ints, clamps, by_lt_z}
 use Rattle.std.proofs.lemmas.List.{get_or_append_left}
@@ -15,7 +15,6 @@ use Rattle.zic_posix.specs.Instants.{Includes}
 use Rattle.zic_posix.specs.declared.instants.Instants.{Instants}
 use Rattle.zic_tzif.specs.Answer.{answered}
 use Rattle.zic_tzif.specs.Content.{Content}
-use Rattle.zic_tzif.specs.declared.zone.Answer.{Answer}
 use Rattle.zic_tzif.proofs.AnswerLemmas.{one_answer}
 
 any_left : (P : Difference → Type 0) (xs ys : List Difference) → Any P xs → Any P (xs ++ ys)

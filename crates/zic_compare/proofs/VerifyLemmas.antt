@@ -1,5 +1,5 @@
 -- The lines of files that a tree doesn't have as they are.
-use Rattle.std.proofs.Common.{◌≡◌, ◌≢◌, ℕ, ◌+◌, ◌<◌, Bool, true, false, inl, inr, List, [], ◌∷◌, ◌++◌, length, map, take, Option, Some, None, refl, sym, ap, subst, ◌∙◌, arith, append_assoc, append-nil, length-append}
+use Rattle.std.proofs.Common.{◌≡◌, ℕ, ◌+◌, ◌<◌, Bool, true, false, inl, inr, List, [], ◌∷◌, ◌++◌, length, map, take, Option, Some, None, refl, sym, ap, subst, ◌∙◌, arith, append_assoc, append-nil, length-append}
 use Rattle.std.specs.Prelude.{IfSome, bytes_eq, codes, if◌then◌else◌, slice_get}
 use Rattle.std.proofs.lemmas.List.{map-append, take_all, take_more}
 use Rattle.std.proofs.lemmas.Option.{slice_get_cases}
@@ -14,7 +14,7 @@ gains_none None = tt
 gains_none (Some replies) = sym (append-nil replies)
 
 -- and what it gained twice in turn it gained together
-gains_both : (old mid new : Option (List Reply)) (first second : List Reply) → Gains old mid first → Gains mid new second → Gains old new (first ++ second)
+pub gains_both : (old mid new : Option (List Reply)) (first second : List Reply) → Gains old mid first → Gains mid new second → Gains old new (first ++ second)
 gains_both None mid new first second p q = tt
 gains_both (Some a) None new first second p q = absurd p
 gains_both (Some a) (Some b) None first second p q = absurd q
@@ -50,17 +50,17 @@ finding_more files i old mid new lines more lt before next =
     elim (slice_get_cases files i).1 [
       | inl some ↦
           let file = some.0 in
-          let told : (octets : Option (List ℕ)) × Gains mid new (record { name = file.name; octets = octets } ∷ []) × (more ≡ lines ++ finding file octets) = rw some.2 at next in
-          let reply : Reply = record { name = file.name; octets = told.0 } in
+          let facts : (octets : Option (List ℕ)) × Gains mid new (record { name = file.name; octets = octets } ∷ []) × (more ≡ lines ++ finding file octets) = rw some.2 at next in
+          let reply : Reply = record { name = file.name; octets = facts.0 } in
           let is : take (i + 1) files ≡ take i files ++ file ∷ [] = rw some.3 at (take_more files i file lt) in
           let whole : AreFindings (take i files ++ file ∷ []) old new more = record {
             replies = before.replies ++ reply ∷ [];
-            asked = record {
-              names = map-append (λ (r : Reply). r.name) before.replies (reply ∷ []) ∙ ap (λ (l : List (List ℕ)). l ++ file.name ∷ []) before.asked.names
+            requested = record {
+              names = map-append (λ (r : Reply). r.name) before.replies (reply ∷ []) ∙ ap (λ (l : List (List ℕ)). l ++ file.name ∷ []) before.requested.names
                   ∙ sym (map-append (λ (f : File). f.name) (take i files) (file ∷ []));
-              gained = gains_both old mid new before.replies (reply ∷ []) before.asked.gained told.1;
+              gained = gains_both old mid new before.replies (reply ∷ []) before.requested.gained facts.1;
             };
-            are_lines = told.2 ∙ ap (λ (l : List ℕ). l ++ finding file told.0) before.are_lines ∙ sym (findings_push (take i files) before.replies file reply before.asked.names);
+            are_lines = facts.2 ∙ ap (λ (l : List ℕ). l ++ finding file facts.0) before.are_lines ∙ sym (findings_push (take i files) before.replies file reply before.requested.names);
           } in
           subst (λ (fs : List File). AreFindings fs old new more) (sym is) whole
       | inr past ↦ absurd (omega (arith, lt, past.0))
@@ -110,10 +110,10 @@ all_found (f ∷ files) (r ∷ replies) same none =
 -- no line is told: the tree has all files
 pub has_files : (files : List File) (old new : Option (List Reply)) (lines : List ℕ) → AreFindings files old new lines → lines ≡ [] → HasFiles files old new
 has_files files old new lines are none =
-    let all = all_found files are.replies are.asked.names (sym none ∙ are.are_lines) in
+    let all = all_found files are.replies are.requested.names (sym none ∙ are.are_lines) in
     record {
-      names = ap names_of_replies (sym all) ∙ are.asked.names;
-      gained = subst (Gains old new) all are.asked.gained;
+      names = ap names_of_replies (sym all) ∙ are.requested.names;
+      gained = subst (Gains old new) all are.requested.gained;
     }
 
 -- all files were asked for

@@ -25,7 +25,7 @@ seen compared (Some state) = Some (record {
 
 -- what the file answers at the instant is seen as this
 abbrev pub IsSeenAt : Compared → Content → ℤ → Option Shown → Type 0
-IsSeenAt compared content t told = (answer : Option Shown) × Answers content t answer × (told ≡ seen compared answer)
+IsSeenAt compared content t state = (answer : Option Shown) × Answers content t answer × (state ≡ seen compared answer)
 
 -- at the instant the old file's answer is seen as the one, and the new file's as the other
 pub record AreSeenAt (pair : Pair) (t : ℤ) (old new : Option Shown) : Type 0 where

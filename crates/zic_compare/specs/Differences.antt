@@ -1,6 +1,5 @@
--- The spans of instants at which two files answer differently: own choice.
-use Rattle.std.specs.Prelude.{◌≡◌, ◌≢◌, ◌⊎◌, ℤ, pos, ◌+ℤ◌, ◌-ℤ◌, ◌<ℤ◌, ◌≤ℤ◌, List, Option, All, AllPairs, Any}
-use Rattle.zic_base.specs.State.{Shown}
+-- The spans of instants at which each of two files gives one answer, and the two differ: own choice.
+use Rattle.std.specs.Prelude.{◌≡◌, ◌≢◌, ◌⊎◌, ℤ, pos, ◌+ℤ◌, ◌-ℤ◌, ◌<ℤ◌, ◌≤ℤ◌, List, All, AllPairs, Any}
 use Rattle.zic_compare.specs.Answers.{Pair, AreSeenAt, DifferAt}
 use Rattle.zic_compare.specs.declared.difference.Difference.{Difference}
 use Rattle.zic_posix.specs.Instants.{Includes}

@@ -1,7 +1,11 @@
 pub mod Answers
 pub mod Differences
 pub mod Files
+pub mod Lines
 pub mod Laws
+pub mod Reading
+pub mod Summary
+pub mod SummaryText
 pub mod Text
 pub mod Verifying
 pub mod code

@@ -1,5 +1,5 @@
 -- The lines of `diff`: own choice, with the fields of an answer as rows have them.
-use Rattle.std.specs.Prelude.{ℕ, ℤ, pos, ◌+ℤ◌, codes, if◌then◌else◌, List, [], ◌∷◌, ◌++◌, Option, Some, None}
+use Rattle.std.specs.Prelude.{ℕ, pos, ◌+ℤ◌, codes, if◌then◌else◌, List, [], ◌∷◌, ◌++◌, Option, Some, None}
 use Rattle.std.specs.Fmt.{signed_decimal}
 use Rattle.std.specs.Ordering.{int_eq}
 use Rattle.zic_base.specs.Digits.{offset_text}
@@ -9,13 +9,14 @@ use Rattle.zic_compare.specs.declared.compared.Comparison.{Comparison}
 use Rattle.zic_compare.specs.declared.difference.Difference.{Difference}
 use Rattle.zic_tzif.specs.Answer.{answered}
 
--- the names of the fields, before all lines if there are any
+-- the names of the fields
 abbrev pub names_line : List ℕ
 names_line = codes "zone,from,until,old_offset,old_daylight,old_abbreviation,new_offset,new_daylight,new_abbreviation\n"
 
-abbrev pub with_names : List ℕ → List ℕ
-with_names [] = []
-with_names (byte ∷ lines) = names_line ++ byte ∷ lines
+-- lines with those names before them, if there are any
+abbrev pub with_names : List ℕ → List ℕ → List ℕ
+with_names names [] = []
+with_names names (byte ∷ lines) = names ++ byte ∷ lines
 
 -- a daylight flag, which is empty where it isn't compared
 abbrev pub flag_field : Compared → Shown → List ℕ

@@ -1,4 +1,4 @@
-//! The spans at which two files answer differently, found span by span.
+//! The spans at which each of two files gives one answer, and the two differ, found span by span.
 
 ghost use Rattle.std.specs.Prelude.{◌≡◌, ◌≤ℤ◌, ◌↔◌, IsTrue, IfOk, OnOk, ℤ};
 ghost use Rattle.zic_compare.specs.Answers.{pair};
@@ -20,8 +20,8 @@ pub struct Difference<'a> {
     pub new: Answer<'a>,
 }
 
-/// Returns the longest spans within the bounds at which two files answer differently, in order. What
-/// isn't compared is blank in the answers of a span: the daylight flag is 0, the abbreviation empty.
+/// Returns the longest spans within the bounds at which each of two files gives one answer, and the
+/// two differ, in order. What isn't compared is blank in the answers of a span: the daylight flag is 0, the abbreviation empty.
 pub fn differences<'a>(
     alloc: Global,
     old: &'a Zone,

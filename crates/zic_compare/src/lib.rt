@@ -1,16 +1,23 @@
-//! Compares TZif files: the spans of instants at which two files answer differently, the lines that tell
-//! them for all names of two lists of files, and whether a tree has the files of a list. The program's
-//! calls of `tests/program` test it.
+//! Compares TZif files: the spans of instants at which each of two files gives one answer, and the two
+//! differ, from when on they agree for ever, the lines that say this for all names of two lists of
+//! files, and whether a tree has the files of a list.
 #![tactic(auto)]
 
 mod compared;
 mod difference;
 mod files;
 pub mod laws;
+mod listed;
+mod reading;
+mod summary;
+mod summary_text;
 mod text;
 mod verifying;
 
 pub use compared::{Compared, Comparison};
 pub use difference::{Difference, differences};
-pub use files::diff;
-pub use verifying::verify;
+pub use files::{diff, lines_of_new, lines_of_old, with_names};
+pub use listed::{Listed, Survey};
+pub use reading::read_tree;
+pub use summary::{Summary, summarize};
+pub use verifying::{extra, verify};

@@ -5,7 +5,7 @@ ghost use Rattle.std.specs.List.{flat_map};
 ghost use Rattle.zic_base.specs.State.{shown};
 ghost use Rattle.zic_compare.specs.Answers.{IsSeenAt, pair};
 ghost use Rattle.zic_compare.specs.Differences.{AreDifferences};
-ghost use Rattle.zic_compare.specs.Files.{AreLinesOfBoth};
+ghost use Rattle.zic_compare.specs.Files.{AreSpanLines};
 ghost use Rattle.zic_compare.specs.Text.{answer_fields, flag_field, from_field, line, span_line, until_field};
 ghost use Rattle.zic_compare.specs.code.Short.{AreShort, IsShort};
 ghost use Rattle.zic_tzif.specs.Answer.{answered};
@@ -17,7 +17,8 @@ use std::alloc::{AllocError, Global};
 use zic_base::{State, offset_text};
 use zic_tzif::{Answer, Zone};
 
-/// Adds a line for each span at which the two files of a name answer differently.
+/// Adds a line for each span at which each of the two files of a name gives one answer, and the two
+/// differ.
 pub(crate) fn push_differences(
     alloc: Global,
     lines: &mut Vec<u8>,
@@ -29,7 +30,7 @@ pub(crate) fn push_differences(
     requires order { how.now.bounds.first ≤ℤ how.now.bounds.last }
     requires old { AreShort old.now }
     requires new { AreShort new.now }
-    ensures { OnOk result ((more : List ℕ) × AreLinesOfBoth how.now name.now old.now new.now more
+    ensures { OnOk result ((more : List ℕ) × AreSpanLines how.now name.now old.now new.now more
         × (lines.new.items ≡ lines.old.items ++ more)) }
 {
     let found = differences(alloc, old, new, how.compared, how.bounds)?;

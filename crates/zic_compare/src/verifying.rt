@@ -1,7 +1,7 @@
 //! Whether a tree has files.
 
-ghost use Rattle.std.specs.Prelude.{◌≡◌, ◌<◌, ◌∷◌, ◌++◌, [], List, ℕ, Option, length, slice_get, IfOk, IfSome, OnOk};
-ghost use Rattle.zic_compare.specs.Verifying.{finding, finding_line, AreFindings, HasFiles};
+ghost use Rattle.std.specs.Prelude.{◌≡◌, ◌<◌, ◌∷◌, ◌++◌, [], List, ℕ, Option, length, map, slice_get, string_bytes, IfOk, IfSome, OnOk};
+ghost use Rattle.zic_compare.specs.Verifying.{finding, finding_line, AreExtras, AreFindings, HasFiles, IsExtraLine};
 ghost use Rattle.zic_files.specs.Tree.{Gains};
 
 use std::alloc::{AllocError, Global};
@@ -60,6 +60,29 @@ fn name_of(alloc: Global, files: &Files, file: usize) -> Result<Name, AllocError
         Some(name) => name,
         None => unreachable!(),
     }
+}
+
+/// Returns a line `extra NAME` for each of the names of a tree that no file has, in their order.
+pub fn extra(alloc: Global, files: &Files, names: &[String]) -> Result<Vec<u8>, AllocError>
+    ensures { IfOk result
+        (λ lines. AreExtras files.now (map string_bytes names.now) lines.items) }
+{
+    let mut lines = Vec::new(alloc);
+    for i in 0..names.len() {
+        push_extra(&mut lines, files, names[i].as_bytes())?;
+    }
+    Ok(lines)
+}
+
+/// Adds the line of a name, if no file has it.
+fn push_extra(lines: &mut Vec<u8>, files: &Files, name: &[u8]) -> Result<(), AllocError>
+    ensures { OnOk result ((more : List ℕ) × IsExtraLine files.now name.now more
+        × (lines.new.items ≡ lines.old.items ++ more)) }
+{
+    if files.find(name).is_some() {
+        return Ok(());
+    }
+    push_line(lines, b"extra ", name)
 }
 
 /// Adds a word, a name and a newline.

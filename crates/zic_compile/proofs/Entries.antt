@@ -8,7 +8,7 @@ use Rattle.zic_base.specs.declared.place.Place.{Place}
 use Rattle.zic_base.proofs.Options.{some_of, if_at}
 use Rattle.zic_lines.specs.declared.link.Link.{Link}
 use Rattle.zic_source.specs.Links.{EndsAt}
-use Rattle.zic_source.specs.Sound.{StandInOrder}
+use Rattle.zic_source.specs.Sound.{AreInOrder}
 use Rattle.zic_source.specs.Source.{SourceLines, ZoneLines, zone_at}
 use Rattle.zic_files.specs.declared.entry.Entry.{Entry}
 use Rattle.zic_compile.specs.code.Entries.{AreEntriesOf, IsEntryAt, IsEntryOfZone, IsEntryOfLink, IsZoneNext, IsLinkNext}
@@ -39,7 +39,7 @@ one_at_each source [] (e ∷ entries) place entry each is = absurd each
 one_at_each source (p ∷ places) [] place entry each is = absurd each
 one_at_each source (p ∷ places) (e ∷ entries) place entry each is = (each.0, one_at_each source places entries place entry each.1 is)
 
-module _ (source : SourceLines) (zone link : ℕ) (entries : List Entry) (entry : Entry) (in_order : StandInOrder source) (so_far : AreEntriesSoFar source zone link entries) where
+module _ (source : SourceLines) (zone link : ℕ) (entries : List Entry) (entry : Entry) (in_order : AreInOrder source) (so_far : AreEntriesSoFar source zone link entries) where
   -- one zone more
   pub zone_more : IsZoneNext source zone link → IsEntryOfZone source zone entry → AreEntriesSoFar source (zone + 1) link (entries ++ entry ∷ [])
   zone_more next is =

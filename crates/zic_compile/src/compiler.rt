@@ -40,7 +40,7 @@ pub(crate) fn files_of(
     ensures ok { IfOk result (AreFilesOf source.now) }
     ensures memory { IfErr result (λ _. 0 < length source.now.zones) }
 {
-    // `zones` also tells that the source is sound.
+    // `zones` also states that the source is sound.
     prove!(images.len() == source.zones());
     let entries = entries_of(alloc, source)?;
     let files = Files::new(alloc, images, entries)?;

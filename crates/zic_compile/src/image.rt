@@ -32,7 +32,7 @@ pub fn image_of(alloc: Global, source: &ListedSource<'_>, zone: usize) -> Result
     ensures memory { OnOutOfMemory fault_of result (ImageNeedsMemory (zone_of source.now zone)) }
 {
     let lines = source.source();
-    // `zones` also tells that the source is sound.
+    // `zones` also states that the source is sound.
     prove!(zone < lines.zones());
     let place = lines.line(zone, 0).place;
     let states = timeline(alloc, source, zone)?;

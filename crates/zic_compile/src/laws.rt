@@ -22,7 +22,7 @@ pub fn a_zone_has_one_fault()
     ensures { OneFaultOfZone }
 {}
 
-/// States that the files of a sound source are sound: their names differ, and each tells local time
+/// States that the files of a sound source are sound: their names differ, and each gives local time
 /// at every instant, within the limits.
 pub fn files_are_sound()
     ensures { FilesAreSound }

@@ -1,5 +1,5 @@
 //! The files of a source: one for each Zone and each Link line, in the order of the texts and
-//! their lines. The tests stand in `program_tests`.
+//! their lines.
 #![tactic(auto)]
 
 mod builder;

@@ -52,7 +52,7 @@ impl<'a> ZonePieces<'a> {
         ensures sound { ArePieces result }
         ensures few { count_of result ≤ 4294967296 }
     {
-        // `zones` also tells that there are few.
+        // `zones` also states that there are few.
         prove!(listed.source().zones() <= MAX_NAMES);
         ZonePieces { listed, size }
     }

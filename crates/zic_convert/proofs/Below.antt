@@ -12,8 +12,9 @@ use Rattle.zic_plan.specs.declared.layout.Header.{Header}
 use Rattle.zic_plan.specs.declared.layout.Layout.{Layout}
 use Rattle.zic_plan.specs.declared.layout.RowStart.{RowStart}
 use Rattle.zic_plan.specs.declared.layout.RowStart.TheVariants as starts
+use Rattle.zic_plan.specs.declared.layout.Style.{Style}
 use Rattle.zic_plan.specs.declared.layout.TimeFrom.{TimeFrom}
-use Rattle.zic_base.specs.declared.row_fault.RowFault.{RowFault}
+use Rattle.zic_plan.specs.Noted.{RowNote}
 use Rattle.zic_base.specs.declared.run_stop.RunStop.{RunStop}
 use Rattle.zic_base.specs.declared.run_stop.RunStop.TheVariants as stop
 use Rattle.zic_convert.specs.Column.{AreRowRecords, header_of, header_text, names_line, names_of, own_line}
@@ -23,7 +24,7 @@ use Rattle.zic_convert.specs.code.Progress.{ConvertsColumn, EndsInColumn, output
 use Rattle.zic_convert.proofs.Bytes.{starts_later}
 use Rattle.zic_convert.proofs.Options.{for_some, if_some}
 
-module _ (layout : Layout) (files : List File) (most : ℕ) (row_records : List CsvRecord) (head : List ℕ) (old mid new : Option (List ℕ)) (log last : Option (List RowFault)) (begun : Appends old mid head) where
+module _ (layout : Layout) (files : List File) (most : ℕ) (row_records : List CsvRecord) (head : List ℕ) (old mid new : Option (List ℕ)) (log last : Option (List RowNote)) (begun : Appends old mid head) where
   pub rows_below : (n : ℕ) → WritesRows layout files most [] row_records n (output mid new log last) → WritesRows layout files most head row_records n (output old new log last)
   rows_below n w = (record { texts = w.0.texts; converts = w.0.converts; count = w.0.count; wrote = appends-more old mid new head (concat w.0.texts) begun w.0.wrote }, w.1)
 
@@ -65,13 +66,13 @@ module _ (layout : Layout) (files : List File) (most : ℕ) (row_records : List 
   ends_below stop.NoThread w = lines_below stop.NoThread w
 
 -- one of the two lines of a header has no byte
-one_line : (start : RowStart) (time : TimeFrom) (header : Header) (d : ℕ) (line own : List ℕ) → (names_of start header line ≡ []) ⊎ (header_of start time d own ≡ [])
-one_line starts.Fields time header d line own = inr refl
-one_line starts.Record time header d line own = inl refl
+one_line : (start : RowStart) (style : Style) (time : TimeFrom) (header : Header) (d : ℕ) (line own : List ℕ) → (names_of start header line ≡ []) ⊎ (header_of start style time d own ≡ [])
+one_line starts.Fields style time header d line own = inr refl
+one_line starts.Record style time header d line own = inl refl
 
 -- ---- below the line of names
 
-module _ (layout : Layout) (files : List File) (most : ℕ) (column : List ℕ) (row_records : List CsvRecord) (old mid new : Option (List ℕ)) (log last : Option (List RowFault))
+module _ (layout : Layout) (files : List File) (most : ℕ) (column : List ℕ) (row_records : List CsvRecord) (old mid new : Option (List ℕ)) (log last : Option (List RowNote))
     (begun : Appends old mid (names_line layout)) where
   longer : (texts : List (List ℕ)) → Appends mid new (own_line layout column ++ concat texts) → Appends old new (header_text layout column ++ concat texts)
   longer texts wrote =
@@ -105,7 +106,7 @@ module _ (layout : Layout) (files : List File) (most : ℕ) (column : List ℕ) 
 
     lines_after_names : EndsAfterLines layout files most (own_line layout column) row_records why (output mid new log last)
         → EndsAfterLines layout files most (header_text layout column) row_records why (output old new log last)
-    lines_after_names w = elim (one_line layout.start layout.from layout.header layout.delimiter _ _) [
+    lines_after_names w = elim (one_line layout.start layout.style layout.from layout.header layout.delimiter _ _) [
       | inl none ↦ no_names (names_line layout) (own_line layout column) begun none w
       | inr none ↦ no_own (names_line layout) (own_line layout column) begun none w
     ]
@@ -132,7 +133,7 @@ module _ (layout : Layout) (files : List File) (most : ℕ) (column : List ℕ) 
 
 -- ---- a column below the line of names
 
-module _ (layout : Layout) (most : ℕ) (known : Option (List ℕ)) (files : List File) (old mid new : Option (List ℕ)) (log last : Option (List RowFault)) (begun : Appends old mid (names_line layout)) where
+module _ (layout : Layout) (most : ℕ) (known : Option (List ℕ)) (files : List File) (old mid new : Option (List ℕ)) (log last : Option (List RowNote)) (begun : Appends old mid (names_line layout)) where
   pub column_after_names : (n : ℕ) → ConvertsColumn layout most known n (output mid new log last) files
       → IfSome known (λ column. (row_records : List CsvRecord) × AreRowRecords layout column row_records × WritesRows layout files most (header_text layout column) row_records n (output old new log last))
   column_after_names n all = if_some known _ (λ column e.

@@ -16,7 +16,7 @@ starts_with part rest = take-append_seam part rest
 pub split_start : (text part : List ℕ) → StartsWith text part → part ++ drop (length part) text ≡ text
 split_start text part starts = ap (λ p. p ++ drop (length part) text) (sym starts) ∙ take-append-drop (length part) text
 
--- a start of a text that follows another, with some more behind
+-- a start of a text that follows another, with some more after
 pub starts_later : (before text part more : List ℕ) → StartsWith text part → StartsWith ((before ++ text) ++ more) (before ++ part)
 starts_later before text part more starts =
     let rest = drop (length part) text in

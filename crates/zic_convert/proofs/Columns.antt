@@ -16,6 +16,7 @@ use Rattle.zic_tzif.specs.States.{IsStateOfNumber}
 use Rattle.zic_zones.specs.Zones.{ShowsThroughout, number_of, zone_in}
 use Rattle.zic_zones.specs.declared.row_zones.RowSpan.{RowSpan}
 use Rattle.zic_convert.specs.code.Batch.{IsFile, IsStateFor, blank, count_at, wanted_by, zone_at}
+use Rattle.zic_convert.specs.declared.lookup.FoundState.TheVariants as found
 use Rattle.zic_convert.specs.declared.piece.Piece.{Piece}
 
 -- a column that is filled one place further
@@ -33,16 +34,16 @@ one_of P xs count i d few lt all =
     subst P (get_or-take count xs i d lt) (all i d within)
 
 -- and of what a column is by another
-pub one_told : {A B : Type 0} (f : A → B) (a : List A) (b : List B) (count i : ℕ) (d : A) (e : B) → count ≤ length a → i < count → take count b ≡ map f (take count a)
+pub one_is : {A B : Type 0} (f : A → B) (a : List A) (b : List B) (count i : ℕ) (d : A) (e : B) → count ≤ length a → i < count → take count b ≡ map f (take count a)
     → slice_index_or b i e ≡ f (slice_index_or a i d)
-one_told {A} {B} f a b count i d e few lt are =
+one_is {A} {B} f a b count i d e few lt are =
     let within : i < length (take count a) = omega (arith, length-take-le count a few, lt) in
     sym (get_or-take count b i e lt) ∙ ap (λ (l : List B). slice_index_or l i e) are ∙ get_or-map f (take count a) i d e within ∙ ap f (get_or-take count a i d lt)
 
 -- what is told of each element of a column, with one more
-pub told_more : {A : Type 0} (d : A) (Q : ℕ → A → Type 0) (i : ℕ) (xs : List A) (v : A) → i < length xs → ((j : ℕ) → j < i → Q j (slice_index_or xs j d)) → Q i v
+pub more_is : {A : Type 0} (d : A) (Q : ℕ → A → Type 0) (i : ℕ) (xs : List A) (v : A) → i < length xs → ((j : ℕ) → j < i → Q j (slice_index_or xs j d)) → Q i v
     → (j : ℕ) → j < i + 1 → Q j (slice_index_or (set xs i v) j d)
-told_more {A} d Q i xs v within are is j lt = elim (cases_Bool (j == i)) [
+more_is {A} d Q i xs v within are is j lt = elim (cases_Bool (j == i)) [
   | inl same ↦
       subst (λ (k : ℕ). Q k (slice_index_or (set xs i v) k d)) (sym (eqb-true j i same))
       (subst (Q i) (sym (get_or-set_same xs i v d within)) is)
@@ -70,9 +71,9 @@ all_files piece records zones are k d lt =
     rw at (number_within piece.zones.now (zone_in piece.layout.now.zone (record_at piece.bytes.now (slice_index_or records k blank)).fields))
 
 -- the state of a span is that of each of its instants
-pub state_told : (piece : Piece) (n : ℕ) (c : ℤ) (second : ℤ) (span : RowSpan) → second ≡ second_of piece.layout.now.unit c → Includes span.instants second
-    → ShowsThroughout piece.zones.now n span.instants span.number → IsStateFor piece (Some n) (Some c) span.number
-state_told piece n c second span is within shows may = by_file (slice_get piece.zones.now n) shows where
+pub state_is : (piece : Piece) (n : ℕ) (c : ℤ) (second : ℤ) (span : RowSpan) → second ≡ second_of piece.layout.now.unit c → Includes span.instants second
+    → ShowsThroughout piece.zones.now n span.instants span.number → IsStateFor piece (Some n) (Some c) (found.Number span.number)
+state_is piece n c second span is within shows may = by_file (slice_get piece.zones.now n) shows where
   by_file : (o : Option File) → IfSome o (λ f. (state : Shown) × IsStateOfNumber f.image.content span.number state × AnswersThroughout f.image.content span.instants (Some state))
       → IfSome o (λ f. (state : Shown) × IsStateOfNumber f.image.content span.number state × Answers f.image.content (second_of piece.layout.now.unit c) (Some state))
   by_file None shows = tt

@@ -1,36 +1,52 @@
 -- What records come to, put together.
-use Rattle.std.proofs.Common.{◌≡◌, ◌≤◌, ◌+◌, ℕ, suc, List, [], ◌∷◌, ◌++◌, length, Option, Some, None, inl, inr, refl, sym, ap, ap₂, append_assoc, subst, ◌∙◌, arith}
+use Rattle.std.proofs.Common.{◌≡◌, ◌≤◌, ◌+◌, ℕ, suc, false, List, [], ◌∷◌, ◌++◌, length, Option, Some, None, inl, inr, refl, sym, ap, ap₂, append_assoc, subst, ◌∙◌, arith}
 use Rattle.std.specs.Prelude.{nat_le}
 use Rattle.std.specs.List.{concat}
 use Rattle.std.proofs.lemmas.Bool.{cases_Bool}
 use Rattle.std.proofs.lemmas.List.Folds.{concat-append}
 use Rattle.std.proofs.lemmas.List.{append-nil, length-append}
 use Rattle.zic_columns.specs.Own.{CsvRecord}
+use Rattle.zic_columns.specs.Round.{may_have}
 use Rattle.zic_files.specs.File.{File}
 use Rattle.zic_plan.specs.declared.layout.AtFault.{AtFault}
 use Rattle.zic_plan.specs.declared.layout.AtFault.TheVariants as at_fault
 use Rattle.zic_plan.specs.declared.layout.Layout.{Layout}
-use Rattle.zic_base.specs.declared.row_fault.RowFault.{RowFault}
+use Rattle.zic_plan.specs.declared.layout.Records.{Records}
+use Rattle.zic_plan.specs.declared.layout.Records.TheVariants as by
+use Rattle.zic_plan.specs.Noted.{RowNote}
 use Rattle.zic_base.specs.declared.row_fault.RowKind.{RowKind}
 use Rattle.zic_base.specs.declared.row_fault.RowKind.TheVariants as kinds
 use Rattle.zic_convert.specs.LayoutRows.{RecordsConvertBy, IsRowBy, ending, ends_by, fault_by, faults_by, noted}
 use Rattle.zic_convert.specs.code.Pieces.{followed_by}
+use Rattle.zic_convert.specs.code.Progress.{end_limit}
 use Rattle.zic_convert.specs.code.Row.{AreRowsOf, RowsOf}
 
 -- a record that is one too many ends each run
-pub too_many_ends : (at : AtFault) → ending at (Some kinds.TooManyRows) ≡ Some kinds.TooManyRows
-too_many_ends at_fault.End = refl
-too_many_ends at_fault.GoOn = refl
+pub too_many_ends : (at : AtFault) (mode : Records) → ending at mode (Some kinds.TooManyRows) ≡ Some kinds.TooManyRows
+too_many_ends at_fault.End mode = refl
+too_many_ends at_fault.GoOn by.Csv = refl
+too_many_ends at_fault.GoOn by.Lines = refl
+too_many_ends at_fault.Reject by.Csv = refl
+too_many_ends at_fault.Reject by.Lines = refl
+
+-- a record of more bytes than one may have where it ends the run
+pub too_long_ends : (at : AtFault) (mode : Records) (most : Option ℕ) (len : ℕ) → may_have (end_limit at mode most) len ≡ false
+    → (may_have most len ≡ false) × (ending at mode (Some kinds.RowTooLong) ≡ Some kinds.RowTooLong)
+too_long_ends at_fault.End mode most len long = (long, refl)
+too_long_ends at_fault.GoOn by.Csv most len long = (long, refl)
+too_long_ends at_fault.GoOn by.Lines most len long = absurd (cc long)
+too_long_ends at_fault.Reject by.Csv most len long = (long, refl)
+too_long_ends at_fault.Reject by.Lines most len long = absurd (cc long)
 
 module _ (layout : Layout) (files : List File) (most : ℕ) where
   -- a row that doesn't end the run is one of so many
-  pub within : (number : ℕ) (fields : List (List ℕ)) → ends_by layout files most number fields ≡ None → number ≤ most
-  within number fields e =
+  pub within : (number : ℕ) (row_record : CsvRecord) → ends_by layout files most number row_record ≡ None → number ≤ most
+  within number row_record e =
       elim (cases_Bool (nat_le number most)) [
         | inl is ↦ grind (arith, is)
         | inr beyond ↦
-            let ends : ending layout.at_fault (Some kinds.TooManyRows) ≡ None = rw beyond at e in
-            absurd (cc (sym (too_many_ends layout.at_fault) ∙ ends))
+            let ends : ending layout.at_fault layout.records (Some kinds.TooManyRows) ≡ None = rw beyond at e in
+            absurd (cc (sym (too_many_ends layout.at_fault layout.records) ∙ ends))
       ]
 
   -- rows without a fault, and the rows of the records after theirs
@@ -71,7 +87,7 @@ module _ (layout : Layout) (files : List File) (most : ℕ) where
   all_within number xs [] come h = omega (arith, h)
   all_within number [] (t ∷ ts) come h = absurd cc
   all_within number (x ∷ xs) (t ∷ ts) come h =
-      let here = within number x.fields come.0 in
+      let here = within number x come.0 in
       let rest = all_within (number + 1) xs ts come.2 (omega (arith, here)) in
       omega (arith, rest)
 
@@ -84,9 +100,9 @@ module _ (layout : Layout) (files : List File) (most : ℕ) where
   faults_after number (x ∷ xs) ys [] come = absurd cc
   faults_after number (x ∷ xs) ys (t ∷ ts) come =
       let at : number + 1 + length xs ≡ number + suc (length xs) = omega arith in
-      let here = noted number (fault_by layout files most number x.fields) in
+      let here = noted layout.at_fault number x.own (fault_by layout files most number x) in
       let first = faults_by layout files most (number + 1) xs in
-      rw come.0 (ap (λ (l : List RowFault). here ++ l) (faults_after (number + 1) xs ys ts come.2 ∙ ap (λ (n : ℕ). first ++ faults_by layout files most n ys) at)
+      rw come.0 (ap (λ (l : List RowNote). here ++ l) (faults_after (number + 1) xs ys ts come.2 ∙ ap (λ (n : ℕ). first ++ faults_by layout files most n ys) at)
       ∙ sym (append_assoc here first (faults_by layout files most (number + suc (length xs)) ys)))
 
   -- records after one that ends the run have none
@@ -95,7 +111,7 @@ module _ (layout : Layout) (files : List File) (most : ℕ) where
   faults_more number [] ys ts kind come = absurd cc
   faults_more number (x ∷ xs) ys [] kind come = rw (sym come.0) refl
   faults_more number (x ∷ xs) ys (t ∷ ts) kind come =
-      rw come.0 (ap (λ (l : List RowFault). noted number (fault_by layout files most number x.fields) ++ l) (faults_more (number + 1) xs ys ts kind come.2))
+      rw come.0 (ap (λ (l : List RowNote). noted layout.at_fault number x.own (fault_by layout files most number x) ++ l) (faults_more (number + 1) xs ys ts kind come.2))
 
   -- no records
   pub no_rows : (number : ℕ) → AreRowsOf layout files most number [] (record { text = []; count = 0; fault = None; faults = [] })
@@ -123,11 +139,11 @@ module _ (layout : Layout) (files : List File) (most : ℕ) where
             (subst (λ (n : ℕ). RecordsConvertBy layout files most (number + n) ys after.texts others.fault) (sym long) after.come);
         text = rw (are.text, after.text) (sym (concat-append are.texts after.texts));
         count = omega (arith, are.count, after.count, length-append are.texts after.texts);
-        faults = ap₂ (λ (a b : List RowFault). a ++ b) are.faults after.faults ∙ sym (faults_after number xs ys are.texts come);
+        faults = ap₂ (λ (a b : List RowNote). a ++ b) are.faults after.faults ∙ sym (faults_after number xs ys are.texts come);
       }
 
   -- the faults of rows, and of one record more
-  module _ (number : ℕ) (xs : List CsvRecord) (text : List ℕ) (count : ℕ) (faults : List RowFault)
+  module _ (number : ℕ) (xs : List CsvRecord) (text : List ℕ) (count : ℕ) (faults : List RowNote)
       (are : AreRowsOf layout files most number xs (record { text = text; count = count; fault = None; faults = faults })) (row_record : CsvRecord) where
     many : number + length xs ≡ number + count
     many = ap (λ (n : ℕ). number + n) (sym (are.count ∙ all_texts number xs are.texts are.come))
@@ -135,30 +151,30 @@ module _ (layout : Layout) (files : List File) (most : ℕ) where
     faults_on : (more : List CsvRecord) → faults_by layout files most number (xs ++ row_record ∷ more) ≡ faults ++ faults_by layout files most (number + count) (row_record ∷ more)
     faults_on more =
         faults_after number xs (row_record ∷ more) are.texts are.come
-        ∙ ap₂ (λ (l : List RowFault) (n : ℕ). l ++ faults_by layout files most n (row_record ∷ more)) (sym are.faults) many
+        ∙ ap₂ (λ (l : List RowNote) (n : ℕ). l ++ faults_by layout files most n (row_record ∷ more)) (sym are.faults) many
 
     -- rows, and the row of one record more
-    pub one_more : (last : List ℕ) → ends_by layout files most (number + count) row_record.fields ≡ None → IsRowBy layout files most (number + count) row_record last
+    pub one_more : (last : List ℕ) → ends_by layout files most (number + count) row_record ≡ None → IsRowBy layout files most (number + count) row_record last
         → AreRowsOf layout files most number (xs ++ row_record ∷ [])
-        (record { text = text ++ last; count = count + 1; fault = None; faults = faults ++ noted (number + count) (fault_by layout files most (number + count) row_record.fields) })
+        (record { text = text ++ last; count = count + 1; fault = None; faults = faults ++ noted layout.at_fault (number + count) row_record.own (fault_by layout files most (number + count) row_record) })
     one_more last none is =
-        let at = subst (λ (n : ℕ). ends_by layout files most (number + n) row_record.fields ≡ None) are.count none in
+        let at = subst (λ (n : ℕ). ends_by layout files most (number + n) row_record ≡ None) are.count none in
         let row = subst (λ (n : ℕ). IsRowBy layout files most (number + n) row_record last) are.count is in
-        let here = noted (number + count) (fault_by layout files most (number + count) row_record.fields) in
+        let here = noted layout.at_fault (number + count) row_record.own (fault_by layout files most (number + count) row_record) in
         let one : faults_by layout files most (number + count) (row_record ∷ []) ≡ here = rw none (append-nil here) in
         record {
           texts = are.texts ++ last ∷ [];
           come = come_after number xs (row_record ∷ []) are.texts (last ∷ []) None are.come (at, row, (refl, refl));
           text = ap (λ (l : List ℕ). l ++ last) are.text ∙ sym (concat-append are.texts (last ∷ []) ∙ ap (λ (l : List ℕ). concat are.texts ++ l) (append-nil last));
           count = omega (arith, are.count, length-append are.texts (last ∷ []));
-          faults = sym (faults_on [] ∙ ap (λ (l : List RowFault). faults ++ l) one);
+          faults = sym (faults_on [] ∙ ap (λ (l : List RowNote). faults ++ l) one);
         }
 
     -- rows, and a record that ends the run, after which more may come
-    pub one_fault : (more : List CsvRecord) (kind : RowKind) → ends_by layout files most (number + count) row_record.fields ≡ Some kind
+    pub one_fault : (more : List CsvRecord) (kind : RowKind) → ends_by layout files most (number + count) row_record ≡ Some kind
         → AreRowsOf layout files most number (xs ++ row_record ∷ more) (record { text = text; count = count; fault = Some kind; faults = faults })
     one_fault more kind is =
-        let at = subst (λ (n : ℕ). ends_by layout files most (number + n) row_record.fields ≡ Some kind) are.count is in
+        let at = subst (λ (n : ℕ). ends_by layout files most (number + n) row_record ≡ Some kind) are.count is in
         let come = come_after number xs (row_record ∷ more) are.texts [] (Some kind) are.come (sym at, refl) in
         let none : faults_by layout files most (number + count) (row_record ∷ more) ≡ [] = rw is refl in
         record {
@@ -166,5 +182,5 @@ module _ (layout : Layout) (files : List File) (most : ℕ) where
           come = subst (λ (l : List (List ℕ)). RecordsConvertBy layout files most number (xs ++ row_record ∷ more) l (Some kind)) (append-nil are.texts) come;
           text = are.text;
           count = are.count;
-          faults = sym (faults_on more ∙ ap (λ (l : List RowFault). faults ++ l) none ∙ append-nil faults);
+          faults = sym (faults_on more ∙ ap (λ (l : List RowNote). faults ++ l) none ∙ append-nil faults);
         }

@@ -10,17 +10,17 @@ use Rattle.csv.specs.Reading.{strip_bom}
 use Rattle.zic_words.specs.Dash.{is_dash}
 use Rattle.zic_words.specs.Name.{is_name, is_name_byte, is_name_part}
 use Rattle.zic_words.specs.declared.name.TheConstants.{LONGEST_NAME}
-use Rattle.zic_columns.specs.Exchange.{CanDelimit, exchange, exchanged}
+use Rattle.zic_columns.specs.Exchange.{CanDelimit, exchanged}
 use Rattle.zic_columns.specs.Laws.{RecordsByAreExchanged, TextsByAreExchanged}
 use Rattle.zic_columns.specs.Lines.{texts_by}
 use Rattle.zic_columns.specs.Own.{first_text}
-use Rattle.zic_plan.specs.Delimiter.{is_csv_byte, is_delimiter, is_row_byte}
+use Rattle.zic_plan.specs.Delimiter.{is_csv_byte, is_delimiter, is_row_byte, exchange}
 use Rattle.zic_plan.specs.Layout.{records_before}
 use Rattle.zic_plan.specs.declared.layout.Header.{Header}
 use Rattle.zic_plan.specs.declared.layout.Header.TheVariants as headers
 use Rattle.zic_plan.specs.declared.layout.Layout.{Layout}
 use Rattle.zic_zones.specs.Zones.{field_at}
-use Rattle.zic_convert.specs.Column.{AreRowRecords, header_of, own_header, own_line}
+use Rattle.zic_convert.specs.Column.{AreRowRecords, header_of, own_header, own_line, read_by}
 use Rattle.zic_convert.specs.code.Progress.{own_line_in}
 use Rattle.zic_convert.specs.code.Row.{records_in}
 
@@ -73,34 +73,34 @@ name_row b is = name_in_row (is_ascii_alphanumeric b) (b == 43) (b == 45) (b == 
 
 module _ (d : ℕ) (o : IsOutside d) where
   -- what a field of a row may have, stays as it is
-  kept : (b : ℕ) → is_row_byte b ≡ true → exchange d b ≡ b
-  kept b is =
+  unchanged : (b : ℕ) → is_row_byte b ≡ true → exchange d b ≡ b
+  unchanged b is =
       cond_both (b == 44) d (if b == d then 44 else b) (λ x. x ≡ b)
       (λ comma. absurd (let e = rw (eqb-true b 44 comma) at is in cc e))
       (λ _. cond_both (b == d) 44 b (λ x. x ≡ b) (λ same. absurd (let e = rw (eqb-true b d same) at is in cc (e, o.row))) (λ _. refl))
 
-  all_kept : (p : ℕ → Bool) → ((b : ℕ) → p b ≡ true → is_row_byte b ≡ true) → (bytes : List ℕ) → list_all p bytes ≡ true → exchanged d bytes ≡ bytes
-  all_kept p in_row [] is = refl
-  all_kept p in_row (b ∷ bytes) is =
+  all_unchanged : (p : ℕ → Bool) → ((b : ℕ) → p b ≡ true → is_row_byte b ≡ true) → (bytes : List ℕ) → list_all p bytes ≡ true → exchanged d bytes ≡ bytes
+  all_unchanged p in_row [] is = refl
+  all_unchanged p in_row (b ∷ bytes) is =
       let (here, rest) = and_parts (p b) (list_all p bytes) is in
-      rw (kept b (in_row b here), all_kept p in_row bytes rest) refl
+      rw (unchanged b (in_row b here), all_unchanged p in_row bytes rest) refl
 
   -- a name stays as it is
   pub name_as_put : (name : List ℕ) → is_name name ≡ true → exchanged d name ≡ name
   name_as_put name is =
       let (front, parts) = and_parts (nat_le (length name) LONGEST_NAME && not (is_dash name) && list_all is_name_byte name) (list_all is_name_part (slice_split (λ byte. byte == 47) name)) is in
       let (others, bytes) = and_parts (nat_le (length name) LONGEST_NAME && not (is_dash name)) (list_all is_name_byte name) front in
-      all_kept is_name_byte name_row name bytes
+      all_unchanged is_name_byte name_row name bytes
 
   pub field_same : (fields : List (List ℕ)) (index : ℕ) → field_at (map (exchanged d) fields) index ≡ exchanged d (field_at fields index)
   field_same fields index = get_or-map (exchanged d) fields index []
 
 -- the records of a column with another delimiter that make rows are those with the delimiter put back
 pub records_alike : (layout : Layout) → RecordsByAreExchanged → is_delimiter layout.delimiter ≡ true → (column : List ℕ)
-    → AreRowRecords layout column (drop (records_before layout.header) (records_in layout (strip_bom (exchanged layout.delimiter column))))
+    → AreRowRecords layout column (drop (records_before layout.header) (records_in layout (strip_bom (exchanged layout.delimiter (read_by layout column)))))
 records_alike layout law is column = record {
-  all = records_in layout (strip_bom (exchanged layout.delimiter column));
-  are = law layout.records layout.delimiter column (can_delimit layout.delimiter is);
+  all = records_in layout (strip_bom (exchanged layout.delimiter (read_by layout column)));
+  are = law layout.records layout.delimiter (read_by layout column) (can_delimit layout.delimiter is);
   is = refl;
 }
 
@@ -115,8 +115,9 @@ header_put d headers.Skipped texts = refl
 
 -- and so is its own header
 pub own_line_delimited : (layout : Layout) → TextsByAreExchanged → is_delimiter layout.delimiter ≡ true → (column : List ℕ)
-    → own_line_in layout (exchanged layout.delimiter column) ≡ own_line layout column
+    → own_line_in layout (exchanged layout.delimiter (read_by layout column)) ≡ own_line layout column
 own_line_delimited layout own_law is column =
     let d = layout.delimiter in
-    let texts = texts_by layout.records (strip_bom (exchanged d column)) in
-    ap (header_of layout.start layout.from d) (header_put d layout.header texts ∙ ap (own_header layout.header) (sym (own_law layout.records d column (can_delimit d is))))
+    let bytes = read_by layout column in
+    let texts = texts_by layout.records (strip_bom (exchanged d bytes)) in
+    ap (header_of layout.start layout.style layout.from d) (header_put d layout.header texts ∙ ap (own_header layout.header) (sym (own_law layout.records d bytes (can_delimit d is))))

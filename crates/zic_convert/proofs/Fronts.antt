@@ -6,7 +6,7 @@ use Rattle.zic_tzif.specs.Laws.{FilesAnswerOnce}
 use Rattle.zic_files.specs.File.{File}
 use Rattle.zic_files.specs.Sound.{AreSoundFiles}
 use Rattle.zic_plan.specs.declared.layout.Layout.{Layout}
-use Rattle.zic_base.specs.declared.row_fault.RowFault.{RowFault}
+use Rattle.zic_plan.specs.Noted.{RowNote}
 use Rattle.zic_base.specs.declared.row_fault.RowKind.{RowKind}
 use Rattle.zic_convert.specs.LayoutRows.{RecordsConvertBy, fault_by, faults_by, noted}
 use Rattle.zic_convert.specs.code.Row.{AreRowsOf, RowsOf}
@@ -32,7 +32,7 @@ faults_front layout files most number [] others (t ∷ ts) fault come = absurd (
 faults_front layout files most number (x ∷ xs) others [] None come = absurd (cc come.1)
 faults_front layout files most number (x ∷ xs) others [] (Some kind) come = rw (sym come.0) refl
 faults_front layout files most number (x ∷ xs) others (t ∷ ts) fault come =
-    rw come.0 (ap (λ (l : List RowFault). noted number (fault_by layout files most number x.fields) ++ l) (faults_front layout files most (number + 1) xs others ts fault come.2))
+    rw come.0 (ap (λ (l : List RowNote). noted layout.at_fault number x.own (fault_by layout files most number x) ++ l) (faults_front layout files most (number + 1) xs others ts fault come.2))
 
 module _ (once : FilesAnswerOnce) (layout : Layout) (files : List File) (most : ℕ) (sound : AreSoundFiles files) (number : ℕ) (all done others : List CsvRecord) (parts : all ≡ done ++ others)
     (rows : RowsOf) (are : AreRowsOf layout files most number all rows) where

@@ -7,7 +7,7 @@ use Rattle.zic_files.specs.File.{File}
 use Rattle.zic_files.specs.Sound.{AreSoundFiles}
 use Rattle.zic_tzif.specs.Laws.{FilesAnswerOnce}
 use Rattle.zic_plan.specs.declared.layout.Layout.{Layout}
-use Rattle.zic_base.specs.declared.row_fault.RowFault.{RowFault}
+use Rattle.zic_plan.specs.Noted.{RowNote}
 use Rattle.zic_base.specs.declared.run_stop.RunStop.{RunStop}
 use Rattle.zic_base.specs.declared.run_stop.RunStop.TheVariants as stop
 use Rattle.zic_convert.specs.Run.{EndsAfterLines, EndsAtRow, EndsIn}
@@ -33,7 +33,7 @@ pub few : (layout : Layout) (files : List File) (most n : ℕ) (rs : List CsvRec
 few layout files most n rs rows are = omega (arith, are.count, few_texts layout files most n rs are.texts rows.fault are.come)
 
 module _ {W : Type 0} (contents : W → Option (List ℕ)) (once : FilesAnswerOnce) (layout : Layout) (files : List File) (most : ℕ) (sound : AreSoundFiles files) (all : List CsvRecord)
-    (left : Option (List ℕ)) (n : ℕ) (old : Option (List ℕ)) (mid new : Counts W) (log now last : Option (List RowFault))
+    (left : Option (List ℕ)) (n : ℕ) (old : Option (List ℕ)) (mid new : Counts W) (log now last : Option (List RowNote))
     (far : IsSoFar layout files most all left n (output old (contents mid.inner) log now)) where
   -- a row ends the run, or the writer failed
   pub ends_in_rows : (rs : List CsvRecord) → ComeNext layout left rs → (rows : RowsOf) → AreRowsOf layout files most (n + 1) rs rows → (why : RunStop)
@@ -51,14 +51,14 @@ module _ {W : Type 0} (contents : W → Option (List ℕ)) (once : FilesAnswerOn
   ends_in_rows rs come rows are stop.NoThread h = absurd h
 
 module _ (once : FilesAnswerOnce) (layout : Layout) (files : List File) (most : ℕ) (sound : AreSoundFiles files) (all : List CsvRecord)
-    (left : Option (List ℕ)) (n : ℕ) (old mid : Option (List ℕ)) (log now : Option (List RowFault)) (far : IsSoFar layout files most all left n (output old mid log now)) where
+    (left : Option (List ℕ)) (n : ℕ) (old mid : Option (List ℕ)) (log now : Option (List RowNote)) (far : IsSoFar layout files most all left n (output old mid log now)) where
   -- nothing more was written
   pub ends_still : (why : RunStop) → EndsAfterLines layout files most [] all why (output old mid log now)
   ends_still why = ends_here layout files most all once sound left n old mid mid log now far why [] refl (inl refl) (appends-none mid)
 
 -- the writer failed as it passed on what it held back
 pub ends_at_flush : {W : Type 0} (contents : W → Option (List ℕ)) (once : FilesAnswerOnce) (layout : Layout) (files : List File) (most : ℕ) (sound : AreSoundFiles files) (all : List CsvRecord)
-    (left : Option (List ℕ)) (n : ℕ) (old : Option (List ℕ)) (mid new : Counts W) (log now : Option (List RowFault))
+    (left : Option (List ℕ)) (n : ℕ) (old : Option (List ℕ)) (mid new : Counts W) (log now : Option (List RowNote))
     → IsSoFar layout files most all left n (output old (contents mid.inner) log now) → FailsWithin contents mid new []
     → EndsAfterLines layout files most [] all stop.WriteFailed (output old (contents new.inner) log now)
 ends_at_flush contents once layout files most sound all left n old mid new log now far fails =

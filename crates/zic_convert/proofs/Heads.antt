@@ -9,7 +9,7 @@ use Rattle.csv.specs.Reading.{strip_bom}
 use Rattle.csv.proofs.WriteFacts.{appends-none}
 use Rattle.zic_columns.specs.Exchange.{exchanged}
 use Rattle.zic_columns.specs.Laws.{RecordsByAreExchanged, TextsByAreExchanged}
-use Rattle.zic_columns.specs.Lines.{records_by, texts_by}
+use Rattle.zic_columns.specs.Lines.{records_by, texts_by, exchanged_record}
 use Rattle.zic_columns.specs.Own.{CsvRecord}
 use Rattle.zic_counted.specs.Counts.{Counts}
 use Rattle.zic_counted.specs.Written.{FailsWithin}
@@ -19,14 +19,14 @@ use Rattle.zic_files.specs.Sound.{AreSoundFiles}
 use Rattle.zic_plan.specs.Delimiter.{is_delimiter}
 use Rattle.zic_plan.specs.Layout.{records_before}
 use Rattle.zic_plan.specs.declared.layout.Layout.{Layout}
-use Rattle.zic_base.specs.declared.row_fault.RowFault.{RowFault}
+use Rattle.zic_plan.specs.Noted.{RowNote}
 use Rattle.zic_base.specs.declared.run_stop.RunStop.{RunStop}
 use Rattle.zic_base.specs.declared.run_stop.RunStop.TheVariants as stop
-use Rattle.zic_convert.specs.Column.{AreRowRecords, header_of, own_header, own_line}
+use Rattle.zic_convert.specs.Column.{AreRowRecords, header_of, own_header, own_line, read_by}
 use Rattle.zic_convert.specs.Run.{EndsAfterLines, EndsIn, WritesRows}
 use Rattle.zic_convert.specs.code.Halt.{IsCauseOfHalt, stop_of}
 use Rattle.zic_convert.specs.code.Progress.{BeginsRows, ConvertsColumn, ConvertsRest, EndsInColumn, EndsInRest, HaltsAtHead, output, own_line_in}
-use Rattle.zic_convert.specs.code.Row.{put_back, records_in}
+use Rattle.zic_convert.specs.code.Row.{records_in}
 use Rattle.zic_convert.specs.code.Written.{EndsAtHead, Wrote}
 use Rattle.zic_convert.specs.declared.halt.Halt.{Halt}
 use Rattle.zic_convert.specs.declared.halt.Halt.TheVariants as halt
@@ -45,19 +45,19 @@ module _ {W : Type 0} (contents : W → Option (List ℕ)) where
   head_passed a b c head (Err why) wrote flushed = tt
 
   -- or it was not
-  pub head_kept : (a b c : Counts W) (head : List ℕ) (result : Result (Unit {0}) RunStop) → Wrote contents a b head → IfErr result (λ why. (why ≡ stop.WriteFailed) × FailsWithin contents b c [])
+  pub head_unchanged : (a b c : Counts W) (head : List ℕ) (result : Result (Unit {0}) RunStop) → Wrote contents a b head → IfErr result (λ why. (why ≡ stop.WriteFailed) × FailsWithin contents b c [])
       → IfErr result (EndsAtHead contents a c head)
-  head_kept a b c head (Ok u) wrote failed = tt
-  head_kept a b c head (Err why) wrote failed =
+  head_unchanged a b c head (Ok u) wrote failed = tt
+  head_unchanged a b c head (Err why) wrote failed =
       rw failed.0 (subst (λ (l : List ℕ). FailsWithin contents a c l) (append-nil head) (fails_later contents a b c head [] wrote failed.1))
 
   module _ (old new : Counts W) (layout : Layout) (known : Option (List ℕ)) where
     -- a header was not written whole
     pub halts_before : (own : List ℕ) → IfSome known (λ column. own ≡ own_header layout.header (texts_by layout.records (strip_bom column))) → (why : RunStop)
-        → EndsAtHead contents old new (header_of layout.start layout.from layout.delimiter (exchanged layout.delimiter own)) why → HaltsAtHead contents old new layout known (halt.Stop why)
+        → EndsAtHead contents old new (header_of layout.start layout.style layout.from layout.delimiter (exchanged layout.delimiter own)) why → HaltsAtHead contents old new layout known (halt.Stop why)
     halts_before own is stop.WriteFailed fails = (
       fails.failed,
-      if_some known _ (λ column e. subst (λ (l : List ℕ). FailsWithin contents old new (header_of layout.start layout.from layout.delimiter (exchanged layout.delimiter l))) (for_some known _ column is e) fails),
+      if_some known _ (λ column e. subst (λ (l : List ℕ). FailsWithin contents old new (header_of layout.start layout.style layout.from layout.delimiter (exchanged layout.delimiter l))) (for_some known _ column is e) fails),
     )
     halts_before own is stop.Memory same = same
     halts_before own is (stop.Row row kind) ends = absurd ends
@@ -78,7 +78,7 @@ module _ {W : Type 0} (contents : W → Option (List ℕ)) where
     cause_at_head (halt.Stop stop.NoThread) ends = absurd ends
 
 -- not even a header was written whole
-no_line : FilesAnswerOnce → (layout : Layout) (files : List File) (most : ℕ) → AreSoundFiles files → (head : List ℕ) (row_records : List CsvRecord) (why : RunStop) (old new : Option (List ℕ)) (log : Option (List RowFault))
+no_line : FilesAnswerOnce → (layout : Layout) (files : List File) (most : ℕ) → AreSoundFiles files → (head : List ℕ) (row_records : List CsvRecord) (why : RunStop) (old new : Option (List ℕ)) (log : Option (List RowNote))
     (part : List ℕ) → StartsWith head part → Appends old new part → ((part ≡ []) ⊎ (why ≡ stop.WriteFailed)) → EndsAfterLines layout files most head row_records why (output old new log log)
 no_line once layout files most sound head row_records why old new log part starts wrote exact =
     let (texts, fault, come) = all_come layout files most (all_known files sound once) 1 row_records in
@@ -97,15 +97,15 @@ no_line once layout files most sound head row_records why old new log part start
 
 -- a column was converted in which the delimiter and commas are exchanged
 module _ (layout : Layout) (most : ℕ) (law : RecordsByAreExchanged) (own_law : TextsByAreExchanged) (can : is_delimiter layout.delimiter ≡ true) (known inside : Option (List ℕ))
-    (is : inside ≡ option_map (exchanged layout.delimiter) known) where
-  within : (column : List ℕ) → known ≡ Some column → inside ≡ Some (exchanged layout.delimiter column)
-  within column e = is ∙ ap (option_map (exchanged layout.delimiter)) e
+    (is : inside ≡ option_map (exchanged layout.delimiter) (option_map (read_by layout) known)) where
+  within : (column : List ℕ) → known ≡ Some column → inside ≡ Some (exchanged layout.delimiter (read_by layout column))
+  within column e = is ∙ ap (λ (o : Option (List ℕ)). option_map (exchanged layout.delimiter) (option_map (read_by layout) o)) e
 
   abbrev row_wholes : List ℕ → List CsvRecord
-  row_wholes column = drop (records_before layout.header) (records_in layout (strip_bom (exchanged layout.delimiter column)))
+  row_wholes column = drop (records_before layout.header) (records_in layout (strip_bom (exchanged layout.delimiter (read_by layout column))))
 
   -- the rows of a column did not begin
-  module _ {W : Type 0} (contents : W → Option (List ℕ)) (once : FilesAnswerOnce) (old new : Counts W) (log : Option (List RowFault)) (files : List File) (sound : AreSoundFiles files) where
+  module _ {W : Type 0} (contents : W → Option (List ℕ)) (once : FilesAnswerOnce) (old new : Counts W) (log : Option (List RowNote)) (files : List File) (sound : AreSoundFiles files) where
     none_written : (why : RunStop) → IfSome known (λ column. (row_records : List CsvRecord) × AreRowRecords layout column row_records
         × EndsAfterLines layout files most (own_line layout column) row_records why (output (contents old.inner) (contents old.inner) log log))
     none_written why = if_some known _ (λ column e. (
@@ -118,7 +118,7 @@ module _ (layout : Layout) (most : ℕ) (law : RecordsByAreExchanged) (own_law :
     ends_at_head halt.Unread same = rw same (none_written stop.ReadFailed)
     ends_at_head (halt.Stop stop.Memory) same = rw same (none_written stop.Memory)
     ends_at_head (halt.Stop stop.WriteFailed) failed = if_some known _ (λ column e.
-        let fails = for_some inside _ (exchanged layout.delimiter column) failed.1 (within column e) in
+        let fails = for_some inside _ (exchanged layout.delimiter (read_by layout column)) failed.1 (within column e) in
         let same = own_line_delimited layout own_law can column in (
           row_wholes column,
           records_alike layout law can column,
@@ -132,7 +132,7 @@ module _ (layout : Layout) (most : ℕ) (law : RecordsByAreExchanged) (own_law :
     ends_at_head (halt.Stop stop.NoThread) ends = absurd ends
 
   -- the rest of a column was converted, once its header was written
-  module _ (files : List File) (left : Option (List ℕ)) (old mid new : Option (List ℕ)) (log last : Option (List RowFault))
+  module _ (files : List File) (left : Option (List ℕ)) (old mid new : Option (List ℕ)) (log last : Option (List RowNote))
       (begins : IfSome inside (λ bytes. BeginsRows layout bytes left)) (head : IfSome inside (λ bytes. Appends old mid (own_line_in layout bytes))) where
     begun_as : (P : List CsvRecord → Type 0) (Q : List ℕ → List CsvRecord → Type 0)
         → ((column : List ℕ) (row_records : List CsvRecord) → Appends old mid (own_line layout column) → P row_records → Q column row_records)
@@ -140,9 +140,9 @@ module _ (layout : Layout) (most : ℕ) (law : RecordsByAreExchanged) (own_law :
     begun_as P Q below p = if_some known _ (λ column e.
         let d = layout.delimiter in
         let k = records_before layout.header in
-        let text = exchanged d column in
+        let text = exchanged d (read_by layout column) in
         let (rest, at, same) = for_some inside _ text begins (within column e) in
-        let all : records_in layout rest ≡ drop k (records_in layout (strip_bom text)) = ap (map (put_back d)) same ∙ sym (drop-map (put_back d) k (records_by layout.records (strip_bom text))) in
+        let all : records_in layout rest ≡ drop k (records_in layout (strip_bom text)) = ap (map (exchanged_record d)) same ∙ sym (drop-map (exchanged_record d) k (records_by layout.records (strip_bom text))) in
         let line = subst (λ (l : List ℕ). Appends old mid l) (own_line_delimited layout own_law can column) (for_some inside _ text head (within column e)) in (
           drop k (records_in layout (strip_bom text)),
           records_alike layout law can column,

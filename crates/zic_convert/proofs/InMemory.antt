@@ -11,7 +11,7 @@ use Rattle.zic_convert.specs.Rows.{RecordsConvertTo}
 use Rattle.zic_convert.specs.code.Row.{AreRowsOf, RowsOf, csv_records_in}
 use Rattle.zic_convert.proofs.Coming.{few_texts}
 use Rattle.zic_convert.proofs.Plain.{come_plainly}
-use Rattle.zic_convert.proofs.Wholes.{as_many_in, comma_fields_in}
+use Rattle.zic_convert.proofs.PieceRecords.{as_many_in, comma_fields_in}
 
 module _ (layout : Layout) (plain : HasPlainRows layout) (files : List File) (most : ℕ) (column : List ℕ) (rows : RowsOf)
     (are : AreRowsOf layout files most 1 (csv_records_in layout.delimiter (strip_bom column)) rows) where

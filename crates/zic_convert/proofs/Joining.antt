@@ -13,18 +13,18 @@ use Rattle.zic_columns.specs.declared.columns.Taken.{Taken}
 use Rattle.zic_columns.specs.declared.columns.Taken.TheVariants as taken
 use Rattle.zic_pieces.specs.Task.{AreValues}
 use Rattle.zic_files.specs.File.{File}
-use Rattle.zic_convert.specs.code.Row.{AreRowsOf, RowsOf, csv_records_in, taken_rows, wholes_of_all}
+use Rattle.zic_convert.specs.code.Row.{AreRowsOf, RowsOf, csv_records_in, taken_rows, records_of_all}
 use Rattle.zic_convert.specs.code.Written.{EndsInPieces, EndsInRound, EndsInRows, WritesRound}
 use Rattle.zic_counted.specs.Counts.{Counts}
 use Rattle.zic_plan.specs.declared.layout.Layout.{Layout}
-use Rattle.zic_base.specs.declared.row_fault.RowFault.{RowFault}
+use Rattle.zic_plan.specs.Noted.{RowNote}
 use Rattle.zic_base.specs.declared.run_stop.RunStop.{RunStop}
 use Rattle.zic_base.specs.declared.run_stop.RunStop.TheVariants as stop
 use Rattle.zic_convert.specs.code.Pieces.{ArePieces, AreRowsOfPiece, IsOutcomeOf, Pieces, joined}
 use Rattle.zic_base.specs.declared.row_fault.RowKind.{RowKind}
 use Rattle.zic_convert.specs.LayoutRows.{RecordsConvertBy, faults_by}
 use Rattle.zic_convert.proofs.Coming.{come_more, faults_more, no_rows, rows_followed}
-use Rattle.zic_convert.proofs.Wholes.{as_many_in, as_many_of_all}
+use Rattle.zic_convert.proofs.PieceRecords.{as_many_in, as_many_of_all}
 
 module _ (layout : Layout) (files : List File) (most size : ℕ) where
   -- the rows of pieces, by those of each
@@ -49,7 +49,7 @@ module _ (layout : Layout) (files : List File) (most size : ℕ) where
 
   -- the rows of all, where each piece but the last is full
   rows_of_all : (first : ℕ) (pieces : List (List ℕ)) (values : List RowsOf) → ArePiecesOf size pieces → length values ≡ length pieces → AreRowsOfEach first pieces values
-      → AreRowsOf layout files most first (wholes_of_all layout.delimiter pieces) (joined values)
+      → AreRowsOf layout files most first (records_of_all layout.delimiter pieces) (joined values)
   rows_of_all first [] [] cut long each = no_rows layout files most first
   rows_of_all first [] (x ∷ values) cut long each = absurd (omega (arith, long))
   rows_of_all first (p ∷ ps) [] cut long each = absurd (omega (arith, long))
@@ -58,12 +58,12 @@ module _ (layout : Layout) (files : List File) (most size : ℕ) where
       rows_followed layout files most first (csv_records_in layout.delimiter p) [] x (joined []) x.fault refl (first_rows first p [] x [] each) (λ none. no_rows layout files most (first + length (csv_records_in layout.delimiter p)))
   rows_of_all first (p ∷ q ∷ ps) (x ∷ values) cut long each =
       let after = rows_of_all (first + size) (q ∷ ps) values cut.1 (omega (arith, long)) (later_rows first p (q ∷ ps) x values each) in
-      rows_followed layout files most first (csv_records_in layout.delimiter p) (wholes_of_all layout.delimiter (q ∷ ps)) x (joined values) x.fault refl (first_rows first p (q ∷ ps) x values each)
-      (λ none. subst (λ (n : ℕ). AreRowsOf layout files most (first + n) (wholes_of_all layout.delimiter (q ∷ ps)) (joined values)) (sym (as_many_in layout.delimiter p ∙ cut.0)) after)
+      rows_followed layout files most first (csv_records_in layout.delimiter p) (records_of_all layout.delimiter (q ∷ ps)) x (joined values) x.fault refl (first_rows first p (q ∷ ps) x values each)
+      (λ none. subst (λ (n : ℕ). AreRowsOf layout files most (first + n) (records_of_all layout.delimiter (q ∷ ps)) (joined values)) (sym (as_many_in layout.delimiter p ∙ cut.0)) after)
 
   -- the rows of the first pieces
   rows_of_front : (i first : ℕ) (pieces : List (List ℕ)) (values : List RowsOf) → ArePiecesOf size pieces → length values ≡ length pieces → AreRowsOfEach first pieces values
-      → AreRowsOf layout files most first (wholes_of_all layout.delimiter (take i pieces)) (joined (take i values))
+      → AreRowsOf layout files most first (records_of_all layout.delimiter (take i pieces)) (joined (take i values))
   rows_of_front zero first pieces values cut long each = no_rows layout files most first
   rows_of_front (suc i) first [] [] cut long each = no_rows layout files most first
   rows_of_front (suc i) first [] (x ∷ values) cut long each = absurd (omega (arith, long))
@@ -75,26 +75,26 @@ module _ (layout : Layout) (files : List File) (most size : ℕ) where
       rows_followed layout files most first (csv_records_in layout.delimiter p) [] x (joined []) x.fault refl (first_rows first p [] x [] each) (λ none. no_rows layout files most (first + length (csv_records_in layout.delimiter p)))
   rows_of_front (suc i) first (p ∷ q ∷ ps) (x ∷ values) cut long each =
       let after = rows_of_front i (first + size) (q ∷ ps) values cut.1 (omega (arith, long)) (later_rows first p (q ∷ ps) x values each) in
-      rows_followed layout files most first (csv_records_in layout.delimiter p) (wholes_of_all layout.delimiter (take i (q ∷ ps))) x (joined (take i values)) x.fault refl (first_rows first p (q ∷ ps) x values each)
-      (λ none. subst (λ (n : ℕ). AreRowsOf layout files most (first + n) (wholes_of_all layout.delimiter (take i (q ∷ ps))) (joined (take i values))) (sym (as_many_in layout.delimiter p ∙ cut.0)) after)
+      rows_followed layout files most first (csv_records_in layout.delimiter p) (records_of_all layout.delimiter (take i (q ∷ ps))) x (joined (take i values)) x.fault refl (first_rows first p (q ∷ ps) x values each)
+      (λ none. subst (λ (n : ℕ). AreRowsOf layout files most (first + n) (records_of_all layout.delimiter (take i (q ∷ ps))) (joined (take i values))) (sym (as_many_in layout.delimiter p ∙ cut.0)) after)
 
 -- the rows of all pieces of a round
 pub joined_round : (p : Pieces) (values : List RowsOf) → ArePieces p → AreValues (IsOutcomeOf p) (length p.pieces) values
-    → AreRowsOf p.layout p.files p.most p.first (wholes_of_all p.layout.delimiter p.pieces) (joined values)
+    → AreRowsOf p.layout p.files p.most p.first (records_of_all p.layout.delimiter p.pieces) (joined values)
 joined_round p values sound are = rows_of_all p.layout p.files p.most p.size p.first p.pieces values sound.cut are.0 (λ i rows at. (are.1 i rows at).0)
 
 -- the records of the first pieces, and of the others
-wholes_split : (d i : ℕ) (pieces : List (List ℕ)) → wholes_of_all d pieces ≡ wholes_of_all d (take i pieces) ++ wholes_of_all d (drop i pieces)
-wholes_split d i pieces = ap (wholes_of_all d) (sym (take-append-drop i pieces)) ∙ flat_map-append (csv_records_in d) (take i pieces) (drop i pieces)
+wholes_split : (d i : ℕ) (pieces : List (List ℕ)) → records_of_all d pieces ≡ records_of_all d (take i pieces) ++ records_of_all d (drop i pieces)
+wholes_split d i pieces = ap (records_of_all d) (sym (take-append-drop i pieces)) ∙ flat_map-append (csv_records_in d) (take i pieces) (drop i pieces)
 
 -- where pieces end, their rows do
-pub pieces_end : {W : Type 0} (contents : W → Option (List ℕ)) (old new : Counts W) (log log' : Option (List RowFault)) (p : Pieces) (values : List RowsOf) → ArePieces p
+pub pieces_end : {W : Type 0} (contents : W → Option (List ℕ)) (old new : Counts W) (log log' : Option (List RowNote)) (p : Pieces) (values : List RowsOf) → ArePieces p
     → AreValues (IsOutcomeOf p) (length p.pieces) values → (why : RunStop) → EndsInPieces contents old new log log' p.first values why
-    → EndsInRows contents old new log log' p.layout p.files p.most p.first (wholes_of_all p.layout.delimiter p.pieces) (joined values) why
+    → EndsInRows contents old new log log' p.layout p.files p.most p.first (records_of_all p.layout.delimiter p.pieces) (joined values) why
 pieces_end contents old new log log' p values sound are (stop.Row row kind) h = h
 pieces_end contents old new log log' p values sound are stop.WriteFailed (i, fails, noted) = record {
-  done = wholes_of_all p.layout.delimiter (take i p.pieces);
-  more = wholes_of_all p.layout.delimiter (drop i p.pieces);
+  done = records_of_all p.layout.delimiter (take i p.pieces);
+  more = records_of_all p.layout.delimiter (drop i p.pieces);
   parts = wholes_split p.layout.delimiter i p.pieces;
   front = joined (take i values);
   are = rows_of_front p.layout p.files p.most p.size i p.first p.pieces values sound.cut are.0 (λ k rows at. (are.1 k rows at).0);
@@ -123,19 +123,20 @@ some_of_records size [] has positive cut = absurd (omega (arith, has))
 some_of_records size (p ∷ []) has positive cut = omega (arith, length-append (column_records p) [], cut.0)
 some_of_records size (p ∷ q ∷ ps) has positive cut = omega (arith, length-append (column_records p) (records_of (q ∷ ps)), positive, cut.0)
 
-pub some_records : (d size : ℕ) (pieces : List (List ℕ)) → 0 < length pieces → 0 < size → ArePiecesOf size pieces → 0 < length (wholes_of_all d pieces)
+pub some_records : (d size : ℕ) (pieces : List (List ℕ)) → 0 < length pieces → 0 < size → ArePiecesOf size pieces → 0 < length (records_of_all d pieces)
 some_records d size pieces has positive cut = omega (arith, as_many_of_all d pieces, some_of_records size pieces has positive cut)
 
-pub taken_some : (d size : ℕ) (next : Taken) (pieces : List (List ℕ)) → (next ≡ taken.End → ⊥) → (next ≡ taken.Round → 0 < length pieces) → 0 < size → ArePiecesOf size pieces → 0 < length (taken_rows d next pieces)
-taken_some d size taken.Round pieces goes has positive cut = some_records d size pieces (has refl) positive cut
-taken_some d size (taken.OpenLine line) pieces goes has positive cut = omega arith
-taken_some d size taken.End pieces goes has positive cut = absurd (goes refl)
+pub taken_some : (d size : ℕ) (next : Taken) (pieces : List (List ℕ)) → (next ≡ taken.End → ⊥) → (next ≡ taken.TooLong → ⊥) → (next ≡ taken.Round → 0 < length pieces) → 0 < size → ArePiecesOf size pieces → 0 < length (taken_rows d next pieces)
+taken_some d size taken.Round pieces goes short has positive cut = some_records d size pieces (has refl) positive cut
+taken_some d size (taken.OpenLine line) pieces goes short has positive cut = omega arith
+taken_some d size taken.TooLong pieces goes short has positive cut = absurd (short refl)
+taken_some d size taken.End pieces goes short has positive cut = absurd (goes refl)
 
 -- and few enough for their numbers
 product : (a b : ℕ) → a ≤ 4294967296 → b ≤ 65536 → a * b ≤ 281474976710656
 product a b h k = grind (arith, h, k)
 
-pub few_records : (p : Pieces) → ArePieces p → length (wholes_of_all p.layout.delimiter p.pieces) ≤ 281474976710656
+pub few_records : (p : Pieces) → ArePieces p → length (records_of_all p.layout.delimiter p.pieces) ≤ 281474976710656
 few_records p sound = omega (arith, as_many_of_all p.layout.delimiter p.pieces, round_few p.size p.pieces sound.cut, product (length p.pieces) p.size sound.few sound.small)
 
 pub small_number : (p : Pieces) (i : ℕ) → ArePieces p → i < length p.pieces → p.first + i * p.size ≤ 281475076710657
@@ -163,7 +164,7 @@ front_sound p i sound = record {
 
 -- the records up to a piece, and its own
 front_records : (d size : ℕ) (pieces : List (List ℕ)) (i : ℕ) (piece : List ℕ) → ArePiecesOf size pieces → slice_get pieces i ≡ Some piece
-    → (before : List CsvRecord) × (length before ≡ i * size) × (wholes_of_all d (take (suc i) pieces) ≡ before ++ csv_records_in d piece)
+    → (before : List CsvRecord) × (length before ≡ i * size) × (records_of_all d (take (suc i) pieces) ≡ before ++ csv_records_in d piece)
 front_records d size [] i piece cut e = absurd cc
 front_records d size (p ∷ ps) zero piece cut e = ([], omega arith, append-nil (csv_records_in d p) ∙ ap (csv_records_in d) (same_Some p piece e))
 front_records d size (p ∷ []) (suc i) piece cut e = absurd cc
@@ -196,7 +197,7 @@ module _ (layout : Layout) (files : List File) (most : ℕ) where
       clash (number + 1) xs ys ts u fault first.2 (subst (λ (n : ℕ). RecordsConvertBy layout files most n ys u fault) at second) has
 
 -- the rows up to a piece that has a fault have one
-pub front_faults : (p : Pieces) (i : ℕ) (rows found : RowsOf) → ArePieces p → i < length p.pieces → AreRowsOf p.layout p.files p.most p.first (wholes_of_all p.layout.delimiter (take (i + 1) p.pieces)) rows
+pub front_faults : (p : Pieces) (i : ℕ) (rows found : RowsOf) → ArePieces p → i < length p.pieces → AreRowsOf p.layout p.files p.most p.first (records_of_all p.layout.delimiter (take (i + 1) p.pieces)) rows
     → AreRowsOfPiece p i found → IsSome found.fault → rows.fault ≡ None → ⊥
 front_faults p i rows found sound lt are of_piece has none =
     let piece = get_or p.pieces i [] in
@@ -205,49 +206,49 @@ front_faults p i rows found sound lt are of_piece has none =
     let parts = front_records d p.size p.pieces i piece sound.cut e in
     let here = rw e at of_piece in
     let at : i + 1 ≡ suc i = omega arith in
-    let all : wholes_of_all d (take (i + 1) p.pieces) ≡ parts.0 ++ csv_records_in d piece = ap (λ (n : ℕ). wholes_of_all d (take n p.pieces)) at ∙ parts.2 in
+    let all : records_of_all d (take (i + 1) p.pieces) ≡ parts.0 ++ csv_records_in d piece = ap (λ (n : ℕ). records_of_all d (take n p.pieces)) at ∙ parts.2 in
     let come = rw (none, all) at are.come in
     clash p.layout p.files p.most p.first parts.0 (csv_records_in d piece) are.texts here.texts found.fault come
     (subst (λ (n : ℕ). RecordsConvertBy p.layout p.files p.most (p.first + n) (csv_records_in d piece) here.texts found.fault) (sym parts.1) here.come) has
 
 -- rows up to a fault are those of all
-pub front_of_all : (p : Pieces) (i : ℕ) (rows : RowsOf) (kind : RowKind) → AreRowsOf p.layout p.files p.most p.first (wholes_of_all p.layout.delimiter (take (i + 1) p.pieces)) rows → rows.fault ≡ Some kind
-    → AreRowsOf p.layout p.files p.most p.first (wholes_of_all p.layout.delimiter p.pieces) rows
+pub front_of_all : (p : Pieces) (i : ℕ) (rows : RowsOf) (kind : RowKind) → AreRowsOf p.layout p.files p.most p.first (records_of_all p.layout.delimiter (take (i + 1) p.pieces)) rows → rows.fault ≡ Some kind
+    → AreRowsOf p.layout p.files p.most p.first (records_of_all p.layout.delimiter p.pieces) rows
 front_of_all p i rows kind are has =
     let d = p.layout.delimiter in
-    let all : wholes_of_all d p.pieces ≡ wholes_of_all d (take (i + 1) p.pieces) ++ wholes_of_all d (drop (i + 1) p.pieces) =
-    ap (wholes_of_all d) (sym (take-append-drop (i + 1) p.pieces)) ∙ flat_map-append (csv_records_in d) (take (i + 1) p.pieces) (drop (i + 1) p.pieces) in
-    let front = wholes_of_all d (take (i + 1) p.pieces) in
-    let behind = wholes_of_all d (drop (i + 1) p.pieces) in
+    let all : records_of_all d p.pieces ≡ records_of_all d (take (i + 1) p.pieces) ++ records_of_all d (drop (i + 1) p.pieces) =
+    ap (records_of_all d) (sym (take-append-drop (i + 1) p.pieces)) ∙ flat_map-append (csv_records_in d) (take (i + 1) p.pieces) (drop (i + 1) p.pieces) in
+    let front = records_of_all d (take (i + 1) p.pieces) in
+    let rest_after = records_of_all d (drop (i + 1) p.pieces) in
     let come = rw has at are.come in
     record {
       texts = are.texts;
-      come = rw (all, has) (come_more p.layout p.files p.most p.first front behind are.texts kind come);
+      come = rw (all, has) (come_more p.layout p.files p.most p.first front rest_after are.texts kind come);
       text = are.text;
       count = are.count;
-      faults = are.faults ∙ sym (faults_more p.layout p.files p.most p.first front behind are.texts kind come) ∙ ap (faults_by p.layout p.files p.most p.first) (sym all);
+      faults = are.faults ∙ sym (faults_more p.layout p.files p.most p.first front rest_after are.texts kind come) ∙ ap (faults_by p.layout p.files p.most p.first) (sym all);
     }
 
 -- ---- a round that is converted again up to a fault
 
 module _ (p : Pieces) (i : ℕ) (found : RowsOf) (sound : ArePieces p) (lt : i < length p.pieces) (of_piece : AreRowsOfPiece p i found) (has : IsSome found.fault) where
-  module _ {W : Type 0} (contents : W → Option (List ℕ)) (old new : Counts W) (log log' : Option (List RowFault)) where
+  module _ {W : Type 0} (contents : W → Option (List ℕ)) (old new : Counts W) (log log' : Option (List RowNote)) where
     -- its rows are not all without a fault
     pub again_ok : (count : ℕ) → WritesRound (record p { pieces = take (i + 1) p.pieces; stops = false }) contents old new log log' count → ⊥
     again_ok count wrote = front_faults p i wrote.0 found sound lt wrote.1 of_piece has wrote.2.0
 
-    by_fault : (rows : RowsOf) (fault : Option RowKind) → rows.fault ≡ fault → AreRowsOf p.layout p.files p.most p.first (wholes_of_all p.layout.delimiter (take (i + 1) p.pieces)) rows
-        → AreRowsOf p.layout p.files p.most p.first (wholes_of_all p.layout.delimiter p.pieces) rows
+    by_fault : (rows : RowsOf) (fault : Option RowKind) → rows.fault ≡ fault → AreRowsOf p.layout p.files p.most p.first (records_of_all p.layout.delimiter (take (i + 1) p.pieces)) rows
+        → AreRowsOf p.layout p.files p.most p.first (records_of_all p.layout.delimiter p.pieces) rows
     by_fault rows None e are = absurd (front_faults p i rows found sound lt are of_piece has e)
     by_fault rows (Some kind) e are = front_of_all p i rows kind are e
 
     rows_again : (rows : RowsOf) (why : RunStop)
-        → EndsInRows contents old new log log' p.layout p.files p.most p.first (wholes_of_all p.layout.delimiter (take (i + 1) p.pieces)) rows why
-        → EndsInRows contents old new log log' p.layout p.files p.most p.first (wholes_of_all p.layout.delimiter p.pieces) rows why
+        → EndsInRows contents old new log log' p.layout p.files p.most p.first (records_of_all p.layout.delimiter (take (i + 1) p.pieces)) rows why
+        → EndsInRows contents old new log log' p.layout p.files p.most p.first (records_of_all p.layout.delimiter p.pieces) rows why
     rows_again rows (stop.Row row kind) h = h
     rows_again rows stop.WriteFailed h =
         let d = p.layout.delimiter in
-        let rest = wholes_of_all d (drop (i + 1) p.pieces) in
+        let rest = records_of_all d (drop (i + 1) p.pieces) in
         record {
           done = h.done;
           more = h.more ++ rest;

@@ -11,6 +11,7 @@ pub mod Heads
 pub mod InMemory
 pub mod Joining
 pub mod Logs
+pub mod Adding
 pub mod MoreRows
 pub mod NextRows
 pub mod Once
@@ -21,6 +22,7 @@ pub mod Progress
 pub mod PutBack
 pub mod Rounds
 pub mod OpenLines
+pub mod LongRecords
 pub mod RowFaults
 pub mod Stated
 pub mod Sounds
@@ -28,7 +30,9 @@ pub mod Sources
 pub mod Staying
 pub mod Stops
 pub mod Totals
-pub mod Wholes
+pub mod PieceRecords
 pub mod Writings
 pub mod QuickRows
+pub mod LocalRows
 pub mod Meant
+pub mod Answered

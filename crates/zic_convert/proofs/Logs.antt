@@ -1,24 +1,27 @@
 -- What a log has noted.
-use Rattle.std.proofs.Common.{◌≡◌, ◌+◌, ◌<◌, ℕ, suc, List, [], ◌∷◌, ◌++◌, length, take, get_or, Option, Some, sym, ap, subst, ◌∙◌, append_assoc, arith}
+use Rattle.std.proofs.Common.{◌≡◌, ◌+◌, ◌<◌, ℕ, suc, List, [], ◌∷◌, ◌++◌, length, take, get_or, Option, None, Some, sym, ap, subst, ◌∙◌, append_assoc, arith}
 use Rattle.std.proofs.lemmas.List.{append-nil}
 use Rattle.std.proofs.Math.Seq.{take-suc}
-use Rattle.zic_base.specs.declared.row_fault.RowFault.{RowFault}
+use Rattle.zic_plan.specs.Noted.{RowNote}
 use Rattle.zic_convert.specs.Run.{Notes}
-use Rattle.zic_convert.proofs.Options.{for_some, if_some}
 
 -- nothing
-pub notes_none : (log : Option (List RowFault)) → Notes log log []
-notes_none log = if_some log _ (λ before e. e ∙ ap (λ (l : List RowFault). Some l) (sym (append-nil before)))
+pub notes_none : (log : Option (List RowNote)) → Notes log log []
+notes_none None = tt
+notes_none (Some before) = sym (append-nil before)
 
--- some faults, and then others
-pub notes_more : (a b c : Option (List RowFault)) (xs ys : List RowFault) → Notes a b xs → Notes b c ys → Notes a c (xs ++ ys)
-notes_more a b c xs ys first then = if_some a _ (λ before e.
-    let mid = for_some a _ before first e in
-    for_some b _ (before ++ xs) then mid ∙ ap (λ (l : List RowFault). Some l) (append_assoc before xs ys))
+-- some rows, and then others
+pub notes_more : (a b c : Option (List RowNote)) (xs ys : List RowNote) → Notes a b xs → Notes b c ys → Notes a c (xs ++ ys)
+notes_more None b c xs ys first then = tt
+notes_more (Some before) None c xs ys first then = absurd first
+notes_more (Some before) (Some mid) None xs ys first then = absurd then
+notes_more (Some before) (Some mid) (Some after) xs ys first then =
+    then ∙ ap (λ (l : List RowNote). l ++ ys) first ∙ append_assoc before xs ys
 
--- one fault more of a list
-pub notes_next : (a b c : Option (List RowFault)) (faults : List RowFault) (i : ℕ) (other : RowFault) → i < length faults → Notes a b (take i faults)
-    → Notes b c (get_or faults i other ∷ []) → Notes a c (take (i + 1) faults)
-notes_next a b c faults i other lt first then =
+-- one row more of a list
+pub notes_next : (a b c : Option (List RowNote)) (faults : List RowNote) (i : ℕ) (row : RowNote) → i < length faults → row ≡ get_or faults i row → Notes a b (take i faults)
+    → Notes b c (row ∷ []) → Notes a c (take (i + 1) faults)
+notes_next a b c faults i row lt is first then =
     let at : suc i ≡ i + 1 = omega arith in
-    subst (λ (l : List RowFault). Notes a c l) (sym (take-suc faults i other lt) ∙ ap (λ (n : ℕ). take n faults) at) (notes_more a b c (take i faults) (get_or faults i other ∷ []) first then)
+    let next = subst (λ (r : RowNote). Notes b c (r ∷ [])) is then in
+    subst (λ (l : List RowNote). Notes a c l) (sym (take-suc faults i row lt) ∙ ap (λ (n : ℕ). take n faults) at) (notes_more a b c (take i faults) (get_or faults i row ∷ []) first next)

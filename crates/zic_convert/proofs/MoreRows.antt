@@ -28,7 +28,7 @@ not_some (Some x) h = absurd (h refl)
 
 -- one row more, which doesn't end the run
 pub one_counted : (layout : Layout) (files : List File) (most number : ℕ) (row_record : CsvRecord) (old new : RowsOf) → AreNext layout files most number row_record old new → new.fault ≡ None → new.count ≡ old.count + 1
-one_counted layout files most number row_record old new next goes_on = by_end (ends_by layout files most number row_record.fields) next where
+one_counted layout files most number row_record old new next goes_on = by_end (ends_by layout files most number row_record) next where
   by_end : (end : Option RowKind) → IsNextAt layout files most number row_record old new end → new.count ≡ old.count + 1
   by_end None is = ap (λ (r : RowsOf). r.count) is.2
   by_end (Some kind) is = absurd (cc (sym (ap (λ (r : RowsOf). r.fault) is) ∙ goes_on))
@@ -40,16 +40,16 @@ module _ (layout : Layout) (files : List File) (most first : ℕ) (xs : List Csv
 
   -- the record has a row
   pub row_added : new.fault ≡ None → AreRowsOf layout files most first (xs ++ row_record ∷ []) new
-  row_added goes_on = by_end (ends_by layout files most (first + old.count) row_record.fields) refl next where
-    by_end : (end : Option RowKind) → ends_by layout files most (first + old.count) row_record.fields ≡ end → IsNextAt layout files most (first + old.count) row_record old new end
+  row_added goes_on = by_end (ends_by layout files most (first + old.count) row_record) refl next where
+    by_end : (end : Option RowKind) → ends_by layout files most (first + old.count) row_record ≡ end → IsNextAt layout files most (first + old.count) row_record old new end
         → AreRowsOf layout files most first (xs ++ row_record ∷ []) new
     by_end None e is = rw (is.2, none) (one_more layout files most first xs old.text old.count old.faults made row_record is.0 e is.1)
     by_end (Some kind) e is = absurd (cc (sym (ap (λ (r : RowsOf). r.fault) is) ∙ goes_on))
 
   -- the record ends the run, whatever records follow
   pub end_added : IsSome new.fault → (more : List CsvRecord) → AreRowsOf layout files most first (xs ++ row_record ∷ more) new
-  end_added some more = by_end (ends_by layout files most (first + old.count) row_record.fields) refl next where
-    by_end : (end : Option RowKind) → ends_by layout files most (first + old.count) row_record.fields ≡ end → IsNextAt layout files most (first + old.count) row_record old new end
+  end_added some more = by_end (ends_by layout files most (first + old.count) row_record) refl next where
+    by_end : (end : Option RowKind) → ends_by layout files most (first + old.count) row_record ≡ end → IsNextAt layout files most (first + old.count) row_record old new end
         → AreRowsOf layout files most first (xs ++ row_record ∷ more) new
     by_end None e is = absurd (cc (subst IsSome (ap (λ (r : RowsOf). r.fault) is.2 ∙ none) some))
     by_end (Some kind) e is = rw is (one_fault layout files most first xs old.text old.count old.faults made row_record more kind e)

@@ -18,6 +18,7 @@ use Rattle.zic_files.specs.Sound.{AreSoundFiles, IsSoundFile}
 use Rattle.zic_plan.specs.Layout.{records_before}
 use Rattle.zic_plan.specs.declared.layout.Layout.{Layout}
 use Rattle.zic_base.specs.declared.row_fault.RowKind.{RowKind}
+use Rattle.zic_convert.specs.Column.{read_by}
 use Rattle.zic_convert.specs.Laws.{ColumnsConvertOnce}
 use Rattle.zic_convert.specs.LayoutRows.{RecordsConvertBy, IsRowAt, IsTextBy, ends_by, fault_by, instant_by, rest_by, start_text}
 use Rattle.zic_convert.specs.Rows.{RecordsConvertTo, IsTextOf, fault_of}
@@ -50,16 +51,16 @@ module _ (answers : FilesAnswerOnce) (files : List File) (sound : AreSoundFiles 
   one_text_by : (layout : Layout) (row_record : CsvRecord) (t u : List ℕ) → IsTextBy layout files row_record t → IsTextBy layout files row_record u → t ≡ u
   one_text_by layout row_record t u a b =
       let file = one_file a.file b.file a.among b.among (a.named ∙ sym b.named) in
-      let asked = same_Some a.asked b.asked (sym a.says ∙ b.says) in
-      let by_file = subst (λ (f : File). instant_by layout.from layout.unit f b.asked ≡ Ok b.count) (sym file) b.means in
-      let meant = subst (λ (n : ℤ). instant_by layout.from layout.unit a.file n ≡ Ok b.count) (sym asked) by_file in
+      let input = same_Some a.input b.input (sym a.says ∙ b.says) in
+      let by_file = subst (λ (f : File). instant_by layout.from layout.unit f b.input ≡ Ok b.count) (sym file) b.means in
+      let meant = subst (λ (n : ℤ). instant_by layout.from layout.unit a.file n ≡ Ok b.count) (sym input) by_file in
       let count = same_count a.count b.count (sym a.means ∙ meant) in
       let is = All-contains IsSoundFile files a.file sound.each a.among in
       let there = subst (λ (f : File). Answers f.image.content (second_of layout.unit b.count) (Some b.state)) (sym file) b.answers in
       let other = subst (λ (n : ℤ). Answers a.file.image.content (second_of layout.unit n) (Some b.state)) (sym count) there in
       let state = same_Some a.state b.state (answers.only a.file.image.octets a.file.image.content is.read (second_of layout.unit a.count) (Some a.state) (Some b.state) a.answers other) in
-      let start : start_text layout row_record.own a.file.name a.asked ≡ start_text layout row_record.own b.file.name b.asked = rw (file, asked) refl in
-      let rest : rest_by layout.from layout.unit a.count a.state ≡ rest_by layout.from layout.unit b.count b.state = rw (count, state) refl in
+      let start : start_text layout row_record.own a.file.name a.input ≡ start_text layout row_record.own b.file.name b.input = rw (file, input) refl in
+      let rest : rest_by layout.style layout.from layout.unit a.count a.state ≡ rest_by layout.style layout.from layout.unit b.count b.state = rw (count, state) refl in
       a.is ∙ ap₂ (λ (x y : List ℕ). x ++ exchanged layout.delimiter y) start rest ∙ sym b.is
 
   -- and so has a row, with this fault or none
@@ -89,10 +90,10 @@ module _ (answers : FilesAnswerOnce) (files : List File) (sound : AreSoundFiles 
         → RecordsConvertBy layout files most number row_records a fault → RecordsConvertBy layout files most number row_records b other → (a ≡ b) × (fault ≡ other)
     once_by layout number [] a b fault other come then = (come.0 ∙ sym then.0, come.1 ∙ sym then.1)
     once_by layout number (x ∷ xs) [] [] fault other come then = (refl, come.0 ∙ sym then.0)
-    once_by layout number (x ∷ xs) [] (u ∷ us) fault other come then = absurd (faultless fault (ends_by layout files most number x.fields) come.0 come.1 then.0)
-    once_by layout number (x ∷ xs) (t ∷ ts) [] fault other come then = absurd (faultless other (ends_by layout files most number x.fields) then.0 then.1 come.0)
+    once_by layout number (x ∷ xs) [] (u ∷ us) fault other come then = absurd (faultless fault (ends_by layout files most number x) come.0 come.1 then.0)
+    once_by layout number (x ∷ xs) (t ∷ ts) [] fault other come then = absurd (faultless other (ends_by layout files most number x) then.0 then.1 come.0)
     once_by layout number (x ∷ xs) (t ∷ ts) (u ∷ us) fault other come then =
-        let first = one_row layout (fault_by layout files most number x.fields) x t u come.1 then.1 in
+        let first = one_row layout (fault_by layout files most number x) x t u come.1 then.1 in
         let rest = once_by layout (number + 1) xs ts us fault other come.2 then.2 in
         (ap (λ (l : List ℕ). l ∷ ts) first ∙ ap (λ (l : List (List ℕ)). u ∷ l) rest.0, rest.1)
 
@@ -103,7 +104,7 @@ columns_once one by_mode answers = record {
       (let same = one _ come.records then.records come.are then.are in
       once answers files sound most 1 come.records a b fault other come.rows (rw same then.rows));
   by = λ files layout most column a b fault other sound come then.
-      (let same = by_mode layout.records layout.delimiter (strip_bom column) come.are.all then.are.all come.are.are then.are.are in
+      (let same = by_mode layout.records layout.delimiter (strip_bom (read_by layout column)) come.are.all then.are.all come.are.are then.are.are in
       let row_records : come.row_records ≡ then.row_records = come.are.is ∙ ap (drop (records_before layout.header)) same ∙ sym then.are.is in
       once_by answers files sound most layout 1 come.row_records a b fault other come.rows (rw row_records then.rows));
 }

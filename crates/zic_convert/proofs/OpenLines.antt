@@ -1,54 +1,55 @@
 -- The rows of open lines.
-use Rattle.std.proofs.Common.{◌≡◌, ◌+◌, ◌<◌, ◌≤◌, ◌∙◌, ℕ, zero, suc, List, [], ◌∷◌, ◌++◌, Option, Some, None, inl, inr, refl, sym, ap, subst, arith}
+use Rattle.std.proofs.Common.{◌≡◌, ◌+◌, ◌<◌, ◌≤◌, ◌∙◌, ℕ, zero, suc, List, [], ◌∷◌, ◌++◌, length, Option, Some, None, inl, inr, refl, sym, ap, subst, arith}
 use Rattle.std.specs.Prelude.{nat_le}
 use Rattle.std.proofs.lemmas.Bool.{cases_Bool}
 use Rattle.zic_columns.specs.Lines.{open_record}
 use Rattle.zic_columns.specs.Own.{CsvRecord}
+use Rattle.zic_columns.specs.Round.{may_have}
 use Rattle.zic_counted.specs.Counts.{Counts}
 use Rattle.zic_files.specs.File.{File}
 use Rattle.zic_plan.specs.declared.layout.Layout.{Layout}
-use Rattle.zic_base.specs.declared.row_fault.RowFault.{RowFault}
+use Rattle.zic_plan.specs.Noted.{RowNote}
 use Rattle.zic_base.specs.declared.row_fault.RowKind.{RowKind}
 use Rattle.zic_base.specs.declared.row_fault.RowKind.TheVariants as kinds
 use Rattle.zic_base.specs.declared.run_stop.RunStop.{RunStop}
 use Rattle.zic_base.specs.declared.run_stop.RunStop.TheVariants as stop
-use Rattle.zic_convert.specs.LayoutRows.{ending, fault_by, faulty_text}
+use Rattle.zic_convert.specs.LayoutRows.{ending, fault_by, faulty_text, if_aside, unless_aside}
 use Rattle.zic_convert.specs.code.Pieces.{joined}
-use Rattle.zic_convert.specs.code.Row.{AreNext, AreRowsOf, RowsOf, empty_rows, put_back}
+use Rattle.zic_convert.specs.code.Row.{AreNext, AreRowsOf, RowsOf, empty_rows}
 use Rattle.zic_convert.specs.code.Written.{EndsInPieces, EndsInRows}
-use Rattle.zic_convert.proofs.Coming.{no_rows, rows_followed, too_many_ends}
+use Rattle.zic_convert.proofs.Coming.{no_rows, one_fault, rows_followed, too_many_ends}
 use Rattle.zic_convert.proofs.MoreRows.{end_added, row_added}
 use Rattle.zic_convert.proofs.NextRows.{next_end, next_faulty}
 
-module _ (layout : Layout) (files : List File) (most number : ℕ) (given : CsvRecord) (kind : RowKind) (is : fault_by layout files most number given.fields ≡ Some kind) where
+module _ (layout : Layout) (files : List File) (most number : ℕ) (given : CsvRecord) (kind : RowKind) (is : fault_by layout files most number given ≡ Some kind) where
   at : number + 0 ≡ number
   at = omega arith
 
-  here : fault_by layout files most (number + 0) given.fields ≡ Some kind
-  here = subst (λ (n : ℕ). fault_by layout files most n given.fields ≡ Some kind) (sym at) is
+  here : fault_by layout files most (number + 0) given ≡ Some kind
+  here = subst (λ (n : ℕ). fault_by layout files most n given ≡ Some kind) (sym at) is
 
   -- a record that ends the run
-  pub one_ends : ending layout.at_fault (Some kind) ≡ Some kind → AreRowsOf layout files most number (given ∷ []) (record { text = []; count = 0; fault = Some kind; faults = [] })
+  pub one_ends : ending layout.at_fault layout.records (Some kind) ≡ Some kind → AreRowsOf layout files most number (given ∷ []) (record { text = []; count = 0; fault = Some kind; faults = [] })
   one_ends ends =
       let rows : RowsOf = record { text = []; count = 0; fault = Some kind; faults = [] } in
       end_added layout files most number [] given empty_rows rows (no_rows layout files most number) refl
       (next_end layout files most (number + 0) given empty_rows rows kind here ends refl) refl []
 
   -- a record whose row has a fault
-  pub one_faulty : ending layout.at_fault (Some kind) ≡ None
-      → AreRowsOf layout files most number (given ∷ []) (record { text = faulty_text layout kind given; count = 1; fault = None; faults = record { row = number; kind = kind } ∷ [] })
+  pub one_faulty : ending layout.at_fault layout.records (Some kind) ≡ None
+      → AreRowsOf layout files most number (given ∷ []) (record { text = faulty_text layout kind given; count = 1; fault = None; faults = record { fault = record { row = number; kind = kind }; own = if_aside layout.at_fault given.own } ∷ [] })
   one_faulty goes =
-      let rows : RowsOf = record { text = faulty_text layout kind given; count = 1; fault = None; faults = record { row = number; kind = kind } ∷ [] } in
-      let same : rows ≡ record { text = faulty_text layout kind given; count = 1; fault = None; faults = record { row = number + 0; kind = kind } ∷ [] } =
+      let rows : RowsOf = record { text = faulty_text layout kind given; count = 1; fault = None; faults = record { fault = record { row = number; kind = kind }; own = if_aside layout.at_fault given.own } ∷ [] } in
+      let same : rows ≡ record { text = faulty_text layout kind given; count = 1; fault = None; faults = record { fault = record { row = number + 0; kind = kind }; own = if_aside layout.at_fault given.own } ∷ [] } =
       ap (λ (n : ℕ). made n) (sym at) in
       row_added layout files most number [] given empty_rows rows (no_rows layout files most number) refl
       (next_faulty layout files most (number + 0) given empty_rows rows kind here goes same) refl
     where
       made : ℕ → RowsOf
-      made n = record { text = faulty_text layout kind given; count = 1; fault = None; faults = record { row = n; kind = kind } ∷ [] }
+      made n = record { text = faulty_text layout kind given; count = 1; fault = None; faults = record { fault = record { row = n; kind = kind }; own = if_aside layout.at_fault given.own } ∷ [] }
 
 -- one row
-abbrev pub made_of : List ℕ → Option RowKind → List RowFault → RowsOf
+abbrev pub made_of : List ℕ → Option RowKind → List RowNote → RowsOf
 made_of text fault faults = record { text = text; count = 1; fault = fault; faults = faults }
 
 -- rows alone are those of one piece
@@ -57,7 +58,7 @@ pub alone : (layout : Layout) (files : List File) (most number : ℕ) (given : C
 alone layout files most number given rows are = rows_followed layout files most number (given ∷ []) [] rows (joined []) rows.fault refl are (λ none. no_rows layout files most (number + 1))
 
 -- and end as they do
-pub alone_ends : {W : Type 0} (contents : W → Option (List ℕ)) (old new : Counts W) (log log' : Option (List RowFault)) (layout : Layout) (files : List File) (most number : ℕ) (given : CsvRecord) (rows : RowsOf)
+pub alone_ends : {W : Type 0} (contents : W → Option (List ℕ)) (old new : Counts W) (log log' : Option (List RowNote)) (layout : Layout) (files : List File) (most number : ℕ) (given : CsvRecord) (rows : RowsOf)
     → AreRowsOf layout files most number (given ∷ []) rows → (why : RunStop) → EndsInPieces contents old new log log' number (rows ∷ []) why
     → EndsInRows contents old new log log' layout files most number (given ∷ []) (joined (rows ∷ [])) why
 alone_ends contents old new log log' layout files most number given rows are (stop.Row row kind) h = h
@@ -94,22 +95,26 @@ alone_ends contents old new log log' layout files most number given rows are sto
 alone_ends contents old new log log' layout files most number given rows are stop.Memory h = absurd h
 alone_ends contents old new log log' layout files most number given rows are stop.NoThread h = absurd h
 
--- the text of an open line that doesn't end the run is its own bytes
-pub open_text : (layout : Layout) (files : List File) (most number : ℕ) (kind : RowKind) (given : CsvRecord) → fault_by layout files most number [] ≡ Some kind → ending layout.at_fault (Some kind) ≡ None
-    → faulty_text layout kind given ≡ given.own ++ 10 ∷ []
-open_text layout files most number kind given is goes =
+-- the text of an open line that doesn't end the run is its own bytes, unless it is put aside
+pub open_text : (layout : Layout) (files : List File) (most number : ℕ) (kind : RowKind) (own : List ℕ) → fault_by layout files most number (open_record own) ≡ Some kind → ending layout.at_fault layout.records (Some kind) ≡ None
+    → faulty_text layout kind (open_record own) ≡ unless_aside layout.at_fault (own ++ 10 ∷ [])
+open_text layout files most number kind own is goes =
+    let ended : (other : RowKind) → ending layout.at_fault layout.records (Some other) ≡ Some other → Some other ≡ Some kind → ⊥ =
+    λ other ends e. (let same : other ≡ kind = cc e in let none : ending layout.at_fault layout.records (Some other) ≡ None = subst (λ (k : RowKind). ending layout.at_fault layout.records (Some k) ≡ None) (sym same) goes in cc (ends, none)) in
     elim (cases_Bool (nat_le number most)) [
-      | inl below ↦
-          let e : Some kinds.RowQuote ≡ Some kind = rw below at is in
-          let same : kinds.RowQuote ≡ kind = cc e in
-          subst (λ (k : RowKind). faulty_text layout k given ≡ given.own ++ 10 ∷ []) same refl
-      | inr beyond ↦
-          let e : Some kinds.TooManyRows ≡ Some kind = rw beyond at is in
-          let same : kinds.TooManyRows ≡ kind = cc e in
-          let none : ending layout.at_fault (Some kinds.TooManyRows) ≡ None = subst (λ (k : RowKind). ending layout.at_fault (Some k) ≡ None) (sym same) goes in
-          absurd (let ends = too_many_ends layout.at_fault in cc (ends, none))
+      | inl below ↦ elim (cases_Bool (may_have layout.max_record (length own))) [
+        | inl short ↦
+            let e : Some kinds.RowQuote ≡ Some kind = rw (below, short) at is in
+            let same : kinds.RowQuote ≡ kind = cc e in
+            subst (λ (k : RowKind). faulty_text layout k (open_record own) ≡ unless_aside layout.at_fault (own ++ 10 ∷ [])) same refl
+        | inr long ↦
+            let e : Some kinds.RowTooLong ≡ Some kind = rw (below, long) at is in
+            let same : kinds.RowTooLong ≡ kind = cc e in
+            subst (λ (k : RowKind). faulty_text layout k (open_record own) ≡ unless_aside layout.at_fault (own ++ 10 ∷ [])) same refl
+      ]
+      | inr beyond ↦ absurd (ended kinds.TooManyRows (too_many_ends layout.at_fault layout.records) (rw beyond at is))
     ]
 
-pub same_rows : (text other : List ℕ) (fault : Option RowKind) (faults others : List RowFault) → text ≡ other → fault ≡ None → faults ≡ others
+pub same_rows : (text other : List ℕ) (fault : Option RowKind) (faults others : List RowNote) → text ≡ other → fault ≡ None → faults ≡ others
     → made_of text fault faults ≡ made_of other None others
 same_rows text other fault faults others a b c = rw (a, b, c) refl

@@ -1,4 +1,5 @@
 -- How far the rows of a piece have been made.
+use Rattle.zic_columns.specs.Lines.{exchanged_record}
 use Rattle.std.proofs.Common.{◌≡◌, ◌≤◌, ◌<◌, ◌+◌, ◌∙◌, ℕ, List, [], ◌++◌, length, map, take, Option, Some, None, All, ap, ap₂, append_assoc, arith, length-append, length-take-le, refl, sym}
 use Rattle.std.specs.Prelude.{IsSome, false, is_some}
 use Rattle.std.proofs.lemmas.List.{append-nil, length-map, map-append}
@@ -12,7 +13,7 @@ use Rattle.zic_files.specs.File.{File}
 use Rattle.zic_plan.specs.declared.layout.Layout.{Layout}
 use Rattle.zic_convert.specs.code.Batch.{record_of, records_of, wanted_by}
 use Rattle.zic_convert.specs.code.Piece.{AreSoFar}
-use Rattle.zic_convert.specs.code.Row.{AreRowsOf, RowsOf, empty_rows, put_back, csv_records_in}
+use Rattle.zic_convert.specs.code.Row.{AreRowsOf, RowsOf, empty_rows, csv_records_in}
 use Rattle.zic_convert.specs.declared.batch.Batch.{Batch}
 use Rattle.zic_convert.specs.declared.piece.Piece.{Piece}
 use Rattle.zic_convert.proofs.Coming.{come_more, faults_more, no_rows}
@@ -39,9 +40,9 @@ rows_more layout files most first xs ys rows (Some kind) e some are =
 module _ (piece : Piece) where
   -- records that are split from those that are left
   parts_split : (records : List Record) (old left : List CsvRecord) → old ≡ map (record_at piece.bytes.now) records ++ left
-      → map (put_back piece.layout.now.delimiter) old ≡ map (record_of piece) records ++ map (put_back piece.layout.now.delimiter) left
+      → map (exchanged_record piece.layout.now.delimiter) old ≡ map (record_of piece) records ++ map (exchanged_record piece.layout.now.delimiter) left
   parts_split records old left split =
-      let put = put_back piece.layout.now.delimiter in
+      let put = exchanged_record piece.layout.now.delimiter in
       ap (map put) split ∙ map-append put (map (record_at piece.bytes.now) records) left
       ∙ ap (λ (l : List CsvRecord). l ++ map put left) (map-map put (record_at piece.bytes.now) records)
 
@@ -60,7 +61,7 @@ module _ (piece : Piece) where
         split = rw (is_piece, is_wanted) at each;
         end = end;
         done = [];
-        parts = ap (map (put_back piece.layout.now.delimiter)) (sym all) ∙ parts_split (take count batch.records) old.left new.left here;
+        parts = ap (map (exchanged_record piece.layout.now.delimiter)) (sym all) ∙ parts_split (take count batch.records) old.left new.left here;
         rows_are = rw none (no_rows piece.layout.now piece.zones.now piece.most piece.first);
         counted = λ _. rw none refl;
       }
@@ -72,7 +73,7 @@ module _ (piece : Piece) where
     -- how many records there are
     pub all_counted : length (csv_records piece.bytes.now) ≡ length far.done + (count + length splitter.left)
     all_counted =
-        let put = put_back piece.layout.now.delimiter in
+        let put = exchanged_record piece.layout.now.delimiter in
         omega (
           arith,
           ap length far.parts,
@@ -89,7 +90,7 @@ module _ (piece : Piece) where
     all_made none zero =
         let no_more : count ≡ 0 = omega (arith, zero) in
         let is : csv_records_in piece.layout.now.delimiter piece.bytes.now ≡ far.done =
-        far.parts ∙ ap₂ (λ (n : ℕ) (l : List CsvRecord). far.done ++ (map (record_of piece) (take n batch.records) ++ map (put_back piece.layout.now.delimiter) l)) no_more none ∙ append-nil far.done in
+        far.parts ∙ ap₂ (λ (n : ℕ) (l : List CsvRecord). far.done ++ (map (record_of piece) (take n batch.records) ++ map (exchanged_record piece.layout.now.delimiter) l)) no_more none ∙ append-nil far.done in
         rw is far.rows_are
 
     -- or a row ends the run
@@ -103,7 +104,7 @@ module _ (piece : Piece) where
         → splitter.left ≡ map (record_at splitter.piece) (take n then.records) ++ new.left → All (IsSplit splitter.piece splitter.wanted) (take n then.records) → (n < BATCH → new.left ≡ [])
         → AreSoFar piece next then n new
     far_after next then n new long none are counted same_piece same_wanted few split each end =
-        let put = put_back piece.layout.now.delimiter in
+        let put = exchanged_record piece.layout.now.delimiter in
         let here = rw far.piece_is at split in
         record {
           few = few;

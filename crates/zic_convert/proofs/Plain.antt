@@ -1,4 +1,5 @@
 -- Records of two plain fields, by a layout.
+use Rattle.zic_plan.specs.Delimiter.{exchange}
 use Rattle.std.proofs.Common.{◌≡◌, ◌+◌, ◌==◌, ℕ, ℤ, Bool, true, false, List, [], ◌∷◌, ◌++◌, length, Option, Some, None, Result, Ok, append_assoc, refl, sym, ap, subst, ◌∙◌, arith, drop}
 use Rattle.std.specs.Prelude.{◌↔◌, is_some, nat_le, option_map}
 use Rattle.std.specs.Fmt.{signed_decimal}
@@ -10,12 +11,12 @@ use Rattle.zic_base.specs.State.{Shown}
 use Rattle.zic_base.specs.declared.row_fault.RowKind.{RowKind}
 use Rattle.zic_base.specs.declared.row_fault.RowKind.TheVariants as kind
 use Rattle.zic_columns.proofs.Exchanges.{comma_exchanged}
-use Rattle.zic_columns.proofs.Wholes.{wholes_fields}
+use Rattle.zic_columns.proofs.PieceRecords.{wholes_fields}
 use Rattle.zic_columns.specs.Column.{AreColumnRecords, column_records}
-use Rattle.zic_columns.specs.Exchange.{config_of, exchange, exchanged}
+use Rattle.zic_columns.specs.Exchange.{config_of, exchanged}
 use Rattle.zic_columns.specs.Laws.{ColumnRecordsAreRead, DelimitedRecordsAreOne}
 use Rattle.zic_columns.specs.Lines.{AreRecordsBy}
-use Rattle.zic_columns.specs.Own.{CsvRecord, beside, csv_records, own_texts}
+use Rattle.zic_columns.specs.Own.{CsvRecord, paired, csv_records, own_texts}
 use Rattle.zic_files.specs.File.{File}
 use Rattle.zic_plan.specs.Layout.{HasPlainRows, records_before}
 use Rattle.zic_plan.specs.declared.layout.Header.TheVariants as header
@@ -23,6 +24,7 @@ use Rattle.zic_plan.specs.declared.layout.Layout.{Layout}
 use Rattle.zic_plan.specs.declared.layout.Records.{Records}
 use Rattle.zic_plan.specs.declared.layout.Records.TheVariants as by
 use Rattle.zic_plan.specs.declared.layout.RowStart.TheVariants as starts
+use Rattle.zic_plan.specs.declared.layout.Style.TheVariants as styles
 use Rattle.zic_plan.specs.declared.layout.Unit.{Unit}
 use Rattle.zic_plan.specs.declared.layout.Unit.TheVariants as unit
 use Rattle.zic_rows.proofs.Counts.{count_seconds, counted_seconds, second_one}
@@ -31,10 +33,10 @@ use Rattle.zic_rows.specs.Instant.{instant_of}
 use Rattle.zic_rows.specs.Row.{row_text}
 use Rattle.zic_tzif.specs.Answer.{Answers}
 use Rattle.zic_zones.specs.Zones.{is_named, zone_in}
-use Rattle.zic_convert.specs.Column.{AreRowRecords, ConvertsBodyTo, ConvertsBy, ConvertsTo}
+use Rattle.zic_convert.specs.Column.{AreRowRecords, ConvertsBodyTo, ConvertsBy, ConvertsTo, read_by}
 use Rattle.zic_convert.specs.Laws.{PlainColumnsConvertAlike}
 use Rattle.zic_convert.specs.Rows.{RecordsConvertTo, IsTextOf, fault_of, instant_in, is_closed, is_row_instant, name_in}
-use Rattle.zic_convert.specs.LayoutRows.{RecordsConvertBy, IsRowAt, IsTextBy, count_in, ends_by, fault_by, file_named, rest_by, start_text, time_by, told_count, told_fault}
+use Rattle.zic_convert.specs.LayoutRows.{RecordsConvertBy, IsRowAt, IsTextBy, count_in, ends_by, fault_by, file_named, rest_by, start_text, time_by, ok_count, err_fault}
 use Rattle.zic_convert.specs.code.Row.{field_start, fields_of_all}
 
 same_seconds : (o : Option ℤ) → option_map (second_of unit.Second) o ≡ o
@@ -45,11 +47,12 @@ same_instant : (a b : ℤ) → ◌≡◌ {A = Result ℤ RowKind} (Ok a) (Ok b) 
 same_instant a b same = cc
 
 -- checks that all pass
-third_passes : (a b c d e f : Bool) (k l m n o p : RowKind) → first_failed (check a k ∷ check b l ∷ check c m ∷ check d n ∷ check e o ∷ check f p ∷ []) ≡ None → c ≡ true
-third_passes false b c d e f k l m n o p h = absurd (cc h)
-third_passes true false c d e f k l m n o p h = absurd (cc h)
-third_passes true true false d e f k l m n o p h = absurd (cc h)
-third_passes true true true d e f k l m n o p h = refl
+fourth_passes : (a b c d e f g : Bool) (k l m n o p q : RowKind) → first_failed (check a k ∷ check b l ∷ check c m ∷ check d n ∷ check e o ∷ check f p ∷ check g q ∷ []) ≡ None → d ≡ true
+fourth_passes false b c d e f g k l m n o p q h = absurd (cc h)
+fourth_passes true false c d e f g k l m n o p q h = absurd (cc h)
+fourth_passes true true false d e f g k l m n o p q h = absurd (cc h)
+fourth_passes true true true false e f g k l m n o p q h = absurd (cc h)
+fourth_passes true true true true e f g k l m n o p q h = refl
 
 two_fields : (fields : List (List ℕ)) → length fields ≡ 2 → (name : List ℕ) × (field : List ℕ) × (fields ≡ name ∷ field ∷ [])
 two_fields [] e = absurd (omega (arith, e))
@@ -58,50 +61,53 @@ two_fields (a ∷ b ∷ []) e = (a, b, refl)
 two_fields (a ∷ b ∷ c ∷ rest) e = absurd (omega (arith, e))
 
 -- the text of a row, in the two parts in which it is written
-pub row_in_parts : (u : Unit) (name : List ℕ) (count : ℤ) (state : Shown) → field_start starts.Fields [] name (signed_decimal count) ++ counted_rest_text u count state ≡ counted_row_text u name count state
+pub row_in_parts : (u : Unit) (name : List ℕ) (count : ℤ) (state : Shown) → field_start starts.Fields [] name (signed_decimal count) ++ counted_rest_text styles.Fields u count state ≡ counted_row_text u name count state
 unfolding counted_row_text
-row_in_parts u name count state = append_assoc name (44 ∷ signed_decimal count) (counted_rest_text u count state)
+row_in_parts u name count state = append_assoc name (44 ∷ signed_decimal count) (counted_rest_text styles.Fields u count state)
 
 module _ (layout : Layout) (plain : HasPlainRows layout) (files : List File) where
   -- the text of a row that begins with a name and an instant, with commas
   plain_row_text : (own name : List ℕ) (count : ℤ) (state : Shown)
-      → start_text layout own name count ++ exchanged layout.delimiter (rest_by layout.from layout.unit count state) ≡ row_text name count state
+      → start_text layout own name count ++ exchanged layout.delimiter (rest_by layout.style layout.from layout.unit count state) ≡ row_text name count state
   plain_row_text own name count state =
-      rw (plain.start, plain.delimiter, plain.from, plain.unit)
-      (sym (map-append (exchange 44) (name ++ 44 ∷ signed_decimal count) (counted_rest_text unit.Second count state))
+      rw (plain.start, plain.style, plain.delimiter, plain.from, plain.unit)
+      (sym (map-append (exchange 44) (name ++ 44 ∷ signed_decimal count) (counted_rest_text styles.Fields unit.Second count state))
       ∙ ap (exchanged 44) (row_in_parts unit.Second name count state)
       ∙ comma_exchanged (counted_row_text unit.Second name count state) ∙ counted_seconds name count state)
 
   -- the count of a field is that of an instant
-  plain_count : (file : Option File) (count : Option ℤ) → told_count (time_by layout file count) ≡ count
+  plain_count : (file : Option File) (count : Option ℤ) → ok_count (time_by layout file count) ≡ count
   plain_count file None = refl
   plain_count None (Some count) = refl
   plain_count (Some file) (Some count) = rw plain.from refl
 
   -- and a field without one isn't one
-  plain_missing : (file : Option File) (count : Option ℤ) → told_fault (time_by layout file count) ≡ kind.RowInstant
+  plain_missing : (file : Option File) (count : Option ℤ) → err_fault (time_by layout file count) ≡ kind.RowInstant
   plain_missing file None = rw plain.from refl
   plain_missing None (Some count) = refl
   plain_missing (Some file) (Some count) = rw plain.from refl
 
   module _ (most : ℕ) where
     -- so does one of other than two fields
-    other_fault : (number : ℕ) (fields : List (List ℕ)) → (length fields == 2) ≡ false → fault_by layout files most number fields ≡ fault_of files most number fields
-    other_fault number fields other = rw (plain.count, other) refl
+    other_fault : (number : ℕ) (own : List ℕ) (fields : List (List ℕ)) → (length fields == 2) ≡ false → fault_by layout files most number (record { own = own; fields = fields }) ≡ fault_of files most number fields
+    other_fault number own fields other = rw (plain.max_record, plain.count, other) refl
 
-    -- a record has the fault that it has in a plain column
-    pub plain_fault : (number : ℕ) (fields : List (List ℕ)) → fault_by layout files most number fields ≡ fault_of files most number fields
-    plain_fault number [] = other_fault number [] (ne_eqb (length {A = List ℕ} []) 2 (λ e. omega (arith, e)))
-    plain_fault number (a ∷ []) = other_fault number (a ∷ []) (ne_eqb (length (a ∷ [])) 2 (λ e. omega (arith, e)))
-    plain_fault number (a ∷ b ∷ []) =
+    fault_made : (number : ℕ) (own : List ℕ) (fields : List (List ℕ)) → fault_by layout files most number (record { own = own; fields = fields }) ≡ fault_of files most number fields
+    fault_made number own [] = other_fault number own [] (ne_eqb (length {A = List ℕ} []) 2 (λ e. omega (arith, e)))
+    fault_made number own (a ∷ []) = other_fault number own (a ∷ []) (ne_eqb (length (a ∷ [])) 2 (λ e. omega (arith, e)))
+    fault_made number own (a ∷ b ∷ []) =
         let file = file_named files (zone_in layout.zone (a ∷ b ∷ [])) in
         let count = count_in layout (a ∷ b ∷ []) in
-        rw (plain_count file count, plain_missing file count, plain.count, plain.zone, plain.time, plain.from, plain.unit, count_seconds b, same_seconds (instant_of b)) refl
-    plain_fault number (a ∷ b ∷ c ∷ rest) = other_fault number (a ∷ b ∷ c ∷ rest) (ne_eqb (length (a ∷ b ∷ c ∷ rest)) 2 (λ e. omega (arith, e)))
+        rw (plain.max_record, plain_count file count, plain_missing file count, plain.count, plain.zone, plain.time, plain.from, plain.unit, count_seconds b, same_seconds (instant_of b)) refl
+    fault_made number own (a ∷ b ∷ c ∷ rest) = other_fault number own (a ∷ b ∷ c ∷ rest) (ne_eqb (length (a ∷ b ∷ c ∷ rest)) 2 (λ e. omega (arith, e)))
+
+    -- a record has the fault that it has in a plain column
+    pub plain_fault : (number : ℕ) (row_record : CsvRecord) → fault_by layout files most number row_record ≡ fault_of files most number row_record.fields
+    plain_fault number row_record = fault_made number row_record.own row_record.fields
 
     -- which ends the run
-    pub plain_ends : (number : ℕ) (fields : List (List ℕ)) → ends_by layout files most number fields ≡ fault_of files most number fields
-    plain_ends number fields = rw plain.at_fault (plain_fault number fields)
+    pub plain_ends : (number : ℕ) (row_record : CsvRecord) → ends_by layout files most number row_record ≡ fault_of files most number row_record.fields
+    plain_ends number row_record = rw plain.at_fault (plain_fault number row_record)
 
   -- a record of two fields has the text that it has in a plain column, whatever its own bytes are
   text_by : (own : List ℕ) (fields : List (List ℕ)) (name field text : List ℕ) → fields ≡ name ∷ field ∷ [] → IsTextOf files fields text
@@ -112,7 +118,7 @@ module _ (layout : Layout) (plain : HasPlainRows layout) (files : List File) whe
         file = is.file;
         among = is.among;
         named = rw (plain.zone, two) (rw two at is.named);
-        asked = is.instant;
+        input = is.instant;
         says = rw (plain.time, plain.from, plain.unit, two, count_seconds field) says;
         count = is.instant;
         means = rw plain.from refl;
@@ -125,48 +131,48 @@ module _ (layout : Layout) (plain : HasPlainRows layout) (files : List File) whe
   text_plainly : (row_record : CsvRecord) (name field text : List ℕ) → row_record.fields ≡ name ∷ field ∷ [] → IsTextBy layout files row_record text → IsTextOf files row_record.fields text
   text_plainly row_record name field text two is =
       let says = rw (plain.time, plain.from, plain.unit, two, count_seconds field) at is.says in
-      let same : is.asked ≡ is.count = same_instant is.asked is.count (rw plain.from at is.means) in
+      let same : is.input ≡ is.count = same_instant is.input is.count (rw plain.from at is.means) in
       record {
         file = is.file;
         among = is.among;
         named = rw two (rw (plain.zone, two) at is.named);
-        instant = is.asked;
+        instant = is.input;
         says = rw two says;
         state = is.state;
         answers = subst (λ (t : ℤ). Answers is.file.image.content t (Some is.state)) (sym same) (rw (plain.unit, second_one is.count) at is.answers);
         is = is.is
-            ∙ ap (λ (t : ℤ). start_text layout row_record.own is.file.name is.asked ++ exchanged layout.delimiter (rest_by layout.from layout.unit t is.state)) (sym same)
-            ∙ plain_row_text row_record.own is.file.name is.asked is.state;
+            ∙ ap (λ (t : ℤ). start_text layout row_record.own is.file.name is.input ++ exchanged layout.delimiter (rest_by layout.style layout.from layout.unit t is.state)) (sym same)
+            ∙ plain_row_text row_record.own is.file.name is.input is.state;
       }
 
   -- a record without a fault has two fields
   two_of : (most number : ℕ) (fields : List (List ℕ)) → fault_of files most number fields ≡ None → (name : List ℕ) × (field : List ℕ) × (fields ≡ name ∷ field ∷ [])
   two_of most number fields none =
-      let two = third_passes (nat_le number most) (is_closed fields) (length fields == 2) (is_named files (name_in fields)) (is_some (instant_in fields)) (is_row_instant (instant_in fields))
-      kind.TooManyRows kind.RowQuote kind.RowFields kind.RowZone kind.RowInstant kind.RowRange none in
+      let two = fourth_passes (nat_le number most) true (is_closed fields) (length fields == 2) (is_named files (name_in fields)) (is_some (instant_in fields)) (is_row_instant (instant_in fields))
+      kind.TooManyRows kind.RowTooLong kind.RowQuote kind.RowFields kind.RowZone kind.RowInstant kind.RowRange none in
       two_fields fields (eqb-true (length fields) 2 two)
 
   -- plain columns come to the same
   pub come_plainly : (most number : ℕ) (row_records : List CsvRecord) (texts : List (List ℕ)) (fault : Option RowKind)
       → RecordsConvertBy layout files most number row_records texts fault → RecordsConvertTo files most number (fields_of_all row_records) texts fault
   come_plainly most number [] texts fault come = come
-  come_plainly most number (row_record ∷ row_records) [] fault come = (come.0 ∙ plain_ends most number row_record.fields, come.1)
+  come_plainly most number (row_record ∷ row_records) [] fault come = (come.0 ∙ plain_ends most number row_record, come.1)
   come_plainly most number (row_record ∷ row_records) (text ∷ texts) fault come =
-      let sound = sym (plain_ends most number row_record.fields) ∙ come.0 in
+      let sound = sym (plain_ends most number row_record) ∙ come.0 in
       let two = two_of most number row_record.fields sound in
-      let row = subst (λ (o : Option RowKind). IsRowAt layout files o row_record text) (plain_fault most number row_record.fields ∙ sound) come.1 in
+      let row = subst (λ (o : Option RowKind). IsRowAt layout files o row_record text) (plain_fault most number row_record ∙ sound) come.1 in
       (sound, text_plainly row_record two.0 two.1 text two.2 row, come_plainly most (number + 1) row_records texts fault come.2)
 
   -- and the other way round
   come_by : (most number : ℕ) (row_records : List CsvRecord) (texts : List (List ℕ)) (fault : Option RowKind) → RecordsConvertTo files most number (fields_of_all row_records) texts fault
       → RecordsConvertBy layout files most number row_records texts fault
   come_by most number [] texts fault come = come
-  come_by most number (row_record ∷ row_records) [] fault come = (come.0 ∙ sym (plain_ends most number row_record.fields), come.1)
+  come_by most number (row_record ∷ row_records) [] fault come = (come.0 ∙ sym (plain_ends most number row_record), come.1)
   come_by most number (row_record ∷ row_records) (text ∷ texts) fault come =
       let two = two_of most number row_record.fields come.0 in
       let row = text_by row_record.own row_record.fields two.0 two.1 text two.2 come.1 in (
-        plain_ends most number row_record.fields ∙ come.0,
-        subst (λ (o : Option RowKind). IsRowAt layout files o row_record text) (sym (plain_fault most number row_record.fields ∙ come.0)) row,
+        plain_ends most number row_record ∙ come.0,
+        subst (λ (o : Option RowKind). IsRowAt layout files o row_record text) (sym (plain_fault most number row_record ∙ come.0)) row,
         come_by most (number + 1) row_records texts fault come.2,
       )
 
@@ -180,6 +186,10 @@ comma_config = refl
 
 module _ (read : ColumnRecordsAreRead) (one : DelimitedRecordsAreOne) (files : List File) (layout : Layout) (most : ℕ) (column : List ℕ) (texts : List (List ℕ)) (fault : Option RowKind)
     (plain : HasPlainRows layout) where
+  -- the column is read whole
+  whole : read_by layout column ≡ column
+  whole = rw plain.at_fault refl
+
   -- a column's records, by a reader
   records_are : (records : List (List (List ℕ))) → AreColumnRecords (strip_bom column) records → records ≡ column_records (strip_bom column)
   records_are records are = one 44 (strip_bom column) records (column_records (strip_bom column)) are (read (strip_bom column))
@@ -188,14 +198,16 @@ module _ (read : ColumnRecordsAreRead) (one : DelimitedRecordsAreOne) (files : L
   rows_are : (row_records : List CsvRecord) → AreRowRecords layout column row_records → row_records ≡ drop (records_before layout.header) (csv_records (strip_bom column))
   rows_are row_records are =
       let of : AreRecordsBy by.Csv 44 (strip_bom column) are.all = subst (λ (d : ℕ). AreRecordsBy by.Csv d (strip_bom column) are.all) plain.delimiter
-      (subst (λ (mode : Records). AreRecordsBy mode layout.delimiter (strip_bom column) are.all) plain.records are.are) in
+      (subst (λ (mode : Records). AreRecordsBy mode layout.delimiter (strip_bom column) are.all) plain.records
+      (subst (λ (bytes : List ℕ). AreRecordsBy layout.records layout.delimiter (strip_bom bytes) are.all) whole are.are)) in
       let same = records_are of.0 of.1 in
-      are.is ∙ ap (drop (records_before layout.header)) (of.2 ∙ ap (beside (own_texts (strip_bom column))) same)
+      are.is ∙ ap (drop (records_before layout.header)) (of.2 ∙ ap (paired (own_texts (strip_bom column))) same)
 
   all_rows : AreRowRecords layout column (drop (records_before layout.header) (csv_records (strip_bom column)))
   all_rows = record {
     all = csv_records (strip_bom column);
-    are = rw (plain.delimiter, plain.records) (column_records (strip_bom column), read (strip_bom column), refl);
+    are = subst (λ (bytes : List ℕ). AreRecordsBy layout.records layout.delimiter (strip_bom bytes) (csv_records (strip_bom column))) (sym whole)
+        (rw (plain.delimiter, plain.records) (column_records (strip_bom column), read (strip_bom column), refl));
     is = refl;
   }
 

@@ -1,45 +1,47 @@
 -- How far a conversion has come.
-use Rattle.std.proofs.Common.{◌≡◌, ◌+◌, ◌-◌, ◌<◌, ◌⊎◌, ℕ, suc, List, [], ◌∷◌, ◌++◌, length, map, take, Option, Some, None, inl, inr, refl, sym, ap, ap₂, subst, ◌∙◌, append_assoc, arith}
+use Rattle.std.proofs.Common.{◌≡◌, ◌+◌, ◌-◌, ◌<◌, ◌⊎◌, ℕ, suc, false, List, [], ◌∷◌, ◌++◌, length, map, take, Option, Some, None, inl, inr, refl, sym, ap, ap₂, subst, ◌∙◌, append_assoc, arith}
 use Rattle.std.specs.Prelude.{IfSome}
 use Rattle.std.specs.List.{concat}
 use Rattle.std.specs.Io.{StartsWith}
 use Rattle.std.specs.Io.KnownBytes.{Appends}
 use Rattle.std.proofs.Math.Seq.{take-append_seam}
-use Rattle.std.proofs.lemmas.List.{append-nil, length-append, map-append}
+use Rattle.std.proofs.lemmas.List.{append-nil, length-append, length-map, map-append}
 use Rattle.std.proofs.lemmas.List.Folds.{concat-append}
 use Rattle.csv.proofs.WriteFacts.{appends-more, appends-none}
-use Rattle.zic_columns.specs.Lines.{records_by}
+use Rattle.zic_columns.specs.Lines.{records_by, exchanged_record}
 use Rattle.zic_columns.specs.Own.{CsvRecord}
 use Rattle.zic_columns.specs.Round as Columns
-use Rattle.zic_columns.specs.Round.{HasNoRecord, taken_records}
+use Rattle.zic_columns.specs.Round.{BeginsTooLong, HasNoRecord, IsNextTooLong, may_have, taken_records}
 use Rattle.zic_columns.specs.declared.columns.Taken.{Taken}
 use Rattle.zic_columns.specs.declared.columns.Taken.TheVariants as taken
 use Rattle.zic_tzif.specs.Laws.{FilesAnswerOnce}
 use Rattle.zic_files.specs.File.{File}
 use Rattle.zic_files.specs.Sound.{AreSoundFiles}
+use Rattle.zic_plan.specs.Delimiter.{exchange}
 use Rattle.zic_plan.specs.declared.layout.Layout.{Layout}
 use Rattle.zic_plan.specs.declared.layout.Records.{Records}
-use Rattle.zic_base.specs.declared.row_fault.RowFault.{RowFault}
+use Rattle.zic_plan.specs.Noted.{RowNote}
 use Rattle.zic_base.specs.declared.row_fault.RowKind.{RowKind}
 use Rattle.zic_base.specs.declared.run_stop.RunStop.{RunStop}
 use Rattle.zic_base.specs.declared.run_stop.RunStop.TheVariants as stop
 use Rattle.zic_convert.specs.LayoutRows.{RecordsConvertBy, faults_by}
 use Rattle.zic_convert.specs.Run.{EndsAfterLines, EndsAtRow, Notes, WritesRows}
-use Rattle.zic_convert.specs.code.Progress.{ComeNext, IsSoFar, Takes, output}
-use Rattle.zic_convert.specs.code.Row.{AreRowsOf, RowsOf, empty_rows, put_back, records_in, taken_rows}
+use Rattle.zic_convert.specs.code.Progress.{ComeNext, IsSoFar, Takes, longest_of, output}
+use Rattle.zic_convert.specs.code.Row.{AreRowsOf, RowsOf, empty_rows, records_in, taken_rows}
 use Rattle.zic_convert.proofs.Bytes.{starts_later}
 use Rattle.zic_convert.proofs.Coming.{all_texts, come_after, come_more, faults_after, faults_more, no_rows}
 use Rattle.zic_convert.proofs.Fronts.{faults_front, front_texts, take_after}
 use Rattle.zic_convert.proofs.Logs.{notes_more, notes_none}
 use Rattle.zic_convert.proofs.Options.{for_some, if_some}
 use Rattle.zic_convert.proofs.Sounds.{all_known}
-use Rattle.zic_convert.proofs.Totals.{come_to_more}
-use Rattle.zic_convert.proofs.Wholes.{all_put}
+use Rattle.zic_convert.proofs.Totals.{more_than}
+use Rattle.zic_convert.proofs.PieceRecords.{all_put}
 
 -- what was taken, with the delimiter put back
-rows_put : (d : ℕ) (next : Taken) (pieces : List (List ℕ)) → map (put_back d) (taken_records next pieces) ≡ taken_rows d next pieces
+rows_put : (d : ℕ) (next : Taken) (pieces : List (List ℕ)) → map (exchanged_record d) (taken_records next pieces) ≡ taken_rows d next pieces
 rows_put d taken.Round pieces = sym (all_put d pieces)
 rows_put d (taken.OpenLine line) pieces = refl
+rows_put d taken.TooLong pieces = refl
 rows_put d taken.End pieces = refl
 
 -- what is taken takes its records
@@ -51,9 +53,18 @@ rows_taken layout mode is old new next pieces takes = if_some old _ (λ bytes e.
     let (rest, at, same) = for_some old _ bytes here e in (
       rest,
       at,
-      ap (map (put_back d)) same ∙ map-append (put_back d) (taken_records next pieces) (records_by layout.records rest)
+      ap (map (exchanged_record d)) same ∙ map-append (exchanged_record d) (taken_records next pieces) (records_by layout.records rest)
           ∙ ap (λ (l : List CsvRecord). l ++ records_in layout rest) (rows_put d next pieces),
     ))
+
+-- a record that has too many bytes comes next
+pub long_comes_next : (layout : Layout) (left : Option (List ℕ)) → IsNextTooLong (longest_of layout) layout.records left → (bytes : List ℕ) → left ≡ Some bytes
+    → (given : CsvRecord) × (may_have (longest_of layout) (length given.own) ≡ false) × (others : List CsvRecord) × (records_in layout bytes ≡ given ∷ others)
+long_comes_next layout left long bytes e = by_records (records_by layout.records bytes) (for_some left _ bytes long e) where
+  by_records : (all : List CsvRecord) → BeginsTooLong (longest_of layout) all
+      → (given : CsvRecord) × (may_have (longest_of layout) (length given.own) ≡ false) × (others : List CsvRecord) × (map (exchanged_record layout.delimiter) all ≡ given ∷ others)
+  by_records [] none = absurd none
+  by_records (first ∷ others) is = (exchanged_record layout.delimiter first, rw (length-map first.own (exchange layout.delimiter)) is, map (exchanged_record layout.delimiter) others, refl)
 
 -- records that are taken come next
 pub taken_come_next : (layout : Layout) (old new : Option (List ℕ)) (rs : List CsvRecord) → Takes layout old new rs → ComeNext layout old rs
@@ -61,7 +72,7 @@ taken_come_next layout old new rs takes = if_some old _ (λ bytes e. (let t = fo
 
 module _ (layout : Layout) (files : List File) (most : ℕ) (all : List CsvRecord) where
   -- nothing yet
-  pub at_start : (known held : Option (List ℕ)) (log : Option (List RowFault)) (bytes : List ℕ) → known ≡ Some bytes → all ≡ records_in layout bytes
+  pub at_start : (known held : Option (List ℕ)) (log : Option (List RowNote)) (bytes : List ℕ) → known ≡ Some bytes → all ≡ records_in layout bytes
       → IsSoFar layout files most all known 0 (output held held log log)
   at_start known held log bytes is same = record {
     row_records = [];
@@ -76,7 +87,7 @@ module _ (layout : Layout) (files : List File) (most : ℕ) (all : List CsvRecor
   }
 
   -- what is left changes, where no record was taken
-  pub none_taken : (left next : Option (List ℕ)) (n : ℕ) (old new : Option (List ℕ)) (log now : Option (List RowFault)) → Takes layout left next []
+  pub none_taken : (left next : Option (List ℕ)) (n : ℕ) (old new : Option (List ℕ)) (log now : Option (List RowNote)) → Takes layout left next []
       → IsSoFar layout files most all left n (output old new log now) → IsSoFar layout files most all next n (output old new log now)
   none_taken left next n old new log now takes far =
       let t = for_some left _ far.rest takes far.bytes in
@@ -93,10 +104,10 @@ module _ (layout : Layout) (files : List File) (most : ℕ) (all : List CsvRecor
       }
 
   -- no record is left, and what the writer held back is passed on
-  pub all_written : (left : Option (List ℕ)) (n : ℕ) (old mid new : Option (List ℕ)) (log now : Option (List RowFault)) → IsSoFar layout files most all left n (output old mid log now)
+  pub all_written : (left : Option (List ℕ)) (n : ℕ) (old mid new : Option (List ℕ)) (log now : Option (List RowNote)) → IsSoFar layout files most all left n (output old mid log now)
       → HasNoRecord layout.records left → Appends mid new [] → WritesRows layout files most [] all n (output old new log now)
   all_written left n old mid new log now far none flushed =
-      let last : records_in layout far.rest ≡ [] = ap (map (put_back layout.delimiter)) (for_some left _ far.rest none far.bytes) in
+      let last : records_in layout far.rest ≡ [] = ap (map (exchanged_record layout.delimiter)) (for_some left _ far.rest none far.bytes) in
       let same = far.goes_on ∙ ap (λ (r : List CsvRecord). far.row_records ++ r) last ∙ append-nil far.row_records in (
         record {
           texts = far.texts;
@@ -107,7 +118,7 @@ module _ (layout : Layout) (files : List File) (most : ℕ) (all : List CsvRecor
         subst (λ (r : List CsvRecord). Notes log now (faults_by layout files most 1 r)) (sym same) far.noted,
       )
 
-  module _ (left : Option (List ℕ)) (n : ℕ) (old mid new : Option (List ℕ)) (log now last : Option (List RowFault)) (far : IsSoFar layout files most all left n (output old mid log now)) where
+  module _ (left : Option (List ℕ)) (n : ℕ) (old mid new : Option (List ℕ)) (log now last : Option (List RowNote)) (far : IsSoFar layout files most all left n (output old mid log now)) where
     number : n + 1 ≡ 1 + length far.texts
     number = omega (arith, far.counted)
 
@@ -132,7 +143,7 @@ module _ (layout : Layout) (files : List File) (most : ℕ) (all : List CsvRecor
 
     module _ (rs : List CsvRecord) (rows : RowsOf) (are : AreRowsOf layout files most (n + 1) rs rows) where
       noted_on : Notes now last rows.faults → Notes log last (faults_by layout files most 1 (far.row_records ++ rs))
-      noted_on noted = subst (λ (l : List RowFault). Notes log last l) (ap (λ (l : List RowFault). faults_by layout files most 1 far.row_records ++ l) are.faults ∙ sym (faults_on rs))
+      noted_on noted = subst (λ (l : List RowNote). Notes log last l) (ap (λ (l : List RowNote). faults_by layout files most 1 far.row_records ++ l) are.faults ∙ sym (faults_on rs))
           (notes_more log now last _ rows.faults far.noted noted)
 
       -- more rows
@@ -161,14 +172,14 @@ module _ (layout : Layout) (files : List File) (most : ℕ) (all : List CsvRecor
             let row_record = far.goes_on ∙ ap (λ (r : List CsvRecord). far.row_records ++ r) next in
             let ends = rw some at are.come in
             let same = ap (faults_by layout files most 1) row_record ∙ faults_on (rs ++ more)
-            ∙ ap (λ (l : List RowFault). faults_by layout files most 1 far.row_records ++ l) (faults_more layout files most (n + 1) rs more are.texts kind ends) ∙ sym (faults_on rs) in (
+            ∙ ap (λ (l : List RowNote). faults_by layout files most 1 far.row_records ++ l) (faults_more layout files most (n + 1) rs more are.texts kind ends) ∙ sym (faults_on rs) in (
               record {
                 texts = far.texts ++ are.texts;
                 converts = rw row_record (come_on (rs ++ more) are.texts (Some kind) (come_more layout files most (n + 1) rs more are.texts kind ends));
                 number = omega (arith, far.counted, are.count, length-append far.texts are.texts);
                 wrote = wrote_on are.texts rows.text are.text wrote;
               },
-              subst (λ (l : List RowFault). Notes log last l) (sym same) (noted_on noted),
+              subst (λ (l : List RowNote). Notes log last l) (sym same) (noted_on noted),
             )
 
         -- The rows of the first of these records, and perhaps a beginning of the text of the others, after which nothing was noted.
@@ -178,7 +189,7 @@ module _ (layout : Layout) (files : List File) (most : ℕ) (all : List CsvRecor
         ends_after once sound done others parts front are_front part starts least why exact wrote noted =
             let (more, next) = for_some left _ far.rest come far.bytes in
             let row_record = far.goes_on ∙ ap (λ (r : List CsvRecord). far.row_records ++ r) next in
-            let (texts, end, comes, later, longer) = come_to_more layout files most (all_known files sound once) (n + 1) rs more rows are in
+            let (texts, end, comes, later, longer) = more_than layout files most (all_known files sound once) (n + 1) rs more rows are in
             let (rest, front_first) = front_texts once layout files most sound (n + 1) rs done others parts rows are front are_front in
             let m = length are_front.texts in
             let base = concat far.texts in
@@ -199,7 +210,7 @@ module _ (layout : Layout) (files : List File) (most : ℕ) (all : List CsvRecor
             ap₂ (λ (k : ℕ) (l : List CsvRecord). take k l) upto regroup ∙ take_after far.row_records (done ++ (others ++ more)) m in
             let faults : faults_by layout files most 1 (take (suc (n + m) - 1) all) ≡ faults_by layout files most 1 far.row_records ++ front.faults =
             ap (faults_by layout files most 1) taken ∙ faults_on (take m (done ++ (others ++ more)))
-            ∙ ap (λ (l : List RowFault). faults_by layout files most 1 far.row_records ++ l)
+            ∙ ap (λ (l : List RowNote). faults_by layout files most 1 far.row_records ++ l)
             (faults_front layout files most (n + 1) done (others ++ more) are_front.texts front.fault are_front.come ∙ sym are_front.faults) in
             record {
               texts = far.texts ++ texts;
@@ -215,11 +226,11 @@ module _ (layout : Layout) (files : List File) (most : ℕ) (all : List CsvRecor
                 | inr failed ↦ inr failed
               ];
               wrote = appends-more old mid new base part far.wrote wrote;
-              noted = subst (λ (l : List RowFault). Notes log last l) (sym faults) (notes_more log now last _ front.faults far.noted noted);
+              noted = subst (λ (l : List RowNote). Notes log last l) (sym faults) (notes_more log now last _ front.faults far.noted noted);
             }
 
   -- nothing more was written, or the writer failed as it passed on what it held back
-  pub ends_here : (once : FilesAnswerOnce) → AreSoundFiles files → (left : Option (List ℕ)) (n : ℕ) (old mid new : Option (List ℕ)) (log now : Option (List RowFault))
+  pub ends_here : (once : FilesAnswerOnce) → AreSoundFiles files → (left : Option (List ℕ)) (n : ℕ) (old mid new : Option (List ℕ)) (log now : Option (List RowNote))
       → IsSoFar layout files most all left n (output old mid log now) → (why : RunStop) (part : List ℕ) → StartsWith [] part → (part ≡ []) ⊎ (why ≡ stop.WriteFailed) → Appends mid new part
       → EndsAfterLines layout files most [] all why (output old new log now)
   ends_here once sound left n old mid new log now far why part starts exact wrote =

@@ -1,4 +1,6 @@
 -- Records in which the delimiter and the comma stand in each other's place have the same rows.
+use Rattle.zic_columns.specs.Lines.{exchanged_record}
+use Rattle.zic_columns.specs.Own.{CsvRecord}
 use Rattle.std.proofs.Common.{◌≡◌, ◌≢◌, ◌<◌, ◌==◌, ℕ, Bool, true, false, not, List, [], ◌∷◌, length, ◌++◌, map, drop, take, ℤ, Some, None, inl, inr, refl, sym, ap, ap₂, subst, ◌∙◌, arith}
 use Rattle.std.proofs.Math.Seq.{drop-append_seam, take-append_seam}
 use Rattle.std.specs.Prelude.{All, Contains, bytes_eq, nat_le, slice_get, ◌&&◌, ◌||◌, if◌then◌else◌}
@@ -15,14 +17,14 @@ use Rattle.zic_words.specs.Dash.{is_dash}
 use Rattle.zic_words.specs.Name.{is_name, is_name_byte, is_name_part}
 use Rattle.zic_words.specs.declared.name.TheConstants.{LONGEST_NAME}
 use Rattle.zic_base.specs.State.{Shown}
-use Rattle.zic_columns.specs.Exchange.{CanDelimit, exchange, exchanged}
+use Rattle.zic_columns.specs.Exchange.{CanDelimit, exchanged}
 use Rattle.zic_base.specs.Check.{first_failed}
 use Rattle.zic_columns.specs.Record.{IsSplit, field_text, record_at}
 use Rattle.zic_columns.specs.declared.fields.Record.{Record}
 use Rattle.zic_columns.proofs.Exchanges.{as_other, twice}
 use Rattle.zic_files.specs.File.{File}
 use Rattle.zic_files.specs.Sound.{AreSoundFiles, IsSoundFile}
-use Rattle.zic_plan.specs.Delimiter.{is_csv_byte, is_delimiter, is_row_byte}
+use Rattle.zic_plan.specs.Delimiter.{is_csv_byte, is_delimiter, is_row_byte, exchange}
 use Rattle.zic_plan.specs.declared.layout.Layout.{Layout}
 use Rattle.zic_plan.specs.declared.layout.RowStart.{RowStart}
 use Rattle.zic_plan.specs.declared.layout.RowStart.TheVariants as starts
@@ -36,7 +38,7 @@ use Rattle.zic_zones.specs.Zones.{AnswersAt, field_at, is_named, number_of, zone
 use Rattle.zic_convert.specs.LayoutRows.{IsTextBy, beginning, checks_of, count_in, fault_by, file_named, rest_by, start_text, time_by}
 use Rattle.zic_convert.specs.Rows.{is_closed}
 use Rattle.zic_convert.specs.code.Batch.{IsRowQuery, count_at, wanted_by}
-use Rattle.zic_convert.specs.code.Row.{field_start, put_back}
+use Rattle.zic_convert.specs.code.Row.{field_start}
 use Rattle.zic_convert.specs.declared.piece.Piece.{Piece}
 use Rattle.zic_convert.specs.declared.row.RowQuery.{RowQuery}
 use Rattle.zic_convert.proofs.RowFaults.{found}
@@ -97,17 +99,17 @@ digit_row b is = digit_in_row (is_ascii_digit b) _ _ (b == 43) (b == 45) (b == 4
 
 module _ (d : ℕ) (o : IsOutside d) where
   -- what a field of a row may have, stays as it is
-  kept : (b : ℕ) → is_row_byte b ≡ true → exchange d b ≡ b
-  kept b is =
+  unchanged : (b : ℕ) → is_row_byte b ≡ true → exchange d b ≡ b
+  unchanged b is =
       cond_both (b == 44) d (if b == d then 44 else b) (λ x. x ≡ b)
       (λ comma. absurd (let e = rw (eqb-true b 44 comma) at is in cc e))
       (λ _. cond_both (b == d) 44 b (λ x. x ≡ b) (λ same. absurd (let e = rw (eqb-true b d same) at is in cc (e, o.row))) (λ _. refl))
 
-  all_kept : (p : ℕ → Bool) → ((b : ℕ) → p b ≡ true → is_row_byte b ≡ true) → (bytes : List ℕ) → list_all p bytes ≡ true → exchanged d bytes ≡ bytes
-  all_kept p in_row [] is = refl
-  all_kept p in_row (b ∷ bytes) is =
+  all_unchanged : (p : ℕ → Bool) → ((b : ℕ) → p b ≡ true → is_row_byte b ≡ true) → (bytes : List ℕ) → list_all p bytes ≡ true → exchanged d bytes ≡ bytes
+  all_unchanged p in_row [] is = refl
+  all_unchanged p in_row (b ∷ bytes) is =
       let (here, rest) = and_parts (p b) (list_all p bytes) is in
-      rw (kept b (in_row b here), all_kept p in_row bytes rest) refl
+      rw (unchanged b (in_row b here), all_unchanged p in_row bytes rest) refl
 
   -- no digit comes or goes
   digit_same : (b : ℕ) → is_ascii_digit (exchange d b) ≡ is_ascii_digit b
@@ -131,7 +133,7 @@ module _ (d : ℕ) (o : IsOutside d) where
   number_same most bytes =
       rw (length-map bytes (exchange d), digits_same bytes)
       (elim (cases_Bool (list_all is_ascii_digit bytes)) [
-        | inl digits ↦ rw (all_kept is_ascii_digit digit_row bytes digits) refl
+        | inl digits ↦ rw (all_unchanged is_ascii_digit digit_row bytes digits) refl
         | inr others ↦ rw others (both_none (nat_le 1 (length bytes) && nat_le (length bytes) most) (decimal_value (exchanged d bytes)) (decimal_value bytes))
       ])
     where
@@ -153,15 +155,15 @@ module _ (d : ℕ) (o : IsOutside d) where
   name_as_put name is =
       let (front, parts) = and_parts (nat_le (length name) LONGEST_NAME && not (is_dash name) && list_all is_name_byte name) (list_all is_name_part (slice_split (λ byte. byte == 47) name)) is in
       let (others, bytes) = and_parts (nat_le (length name) LONGEST_NAME && not (is_dash name)) (list_all is_name_byte name) front in
-      all_kept is_name_byte name_row name bytes
+      all_unchanged is_name_byte name_row name bytes
 
   pub field_same : (fields : List (List ℕ)) (index : ℕ) → field_at (map (exchanged d) fields) index ≡ exchanged d (field_at fields index)
   field_same fields index = get_or-map (exchanged d) fields index []
 
   module _ (files : List File) (sound : AreSoundFiles files) where
     -- the name of a file stays as it is
-    name_kept : (file : File) → IsSoundFile file → exchanged d file.name ≡ file.name
-    name_kept file is = name_as_put file.name is.named
+    name_unchanged : (file : File) → IsSoundFile file → exchanged d file.name ≡ file.name
+    name_unchanged file is = name_as_put file.name is.named
 
     equal_same : (a b : List ℕ) → exchanged d a ≡ a → bytes_eq a (exchanged d b) ≡ bytes_eq a b
     equal_same a b same = same_from_decides (bytes_eq a (exchanged d b)) (bytes_eq a b) (bytes_decides a (exchanged d b)) (
@@ -172,7 +174,7 @@ module _ (d : ℕ) (o : IsOutside d) where
     any_same : (some : List File) → All IsSoundFile some → (name : List ℕ) → is_named some (exchanged d name) ≡ is_named some name
     any_same [] all name = refl
     any_same (file ∷ others) all name =
-        rw (equal_same file.name name (name_kept file (all 0 file (omega arith))), any_same others (All-tail IsSoundFile file others all) name) refl
+        rw (equal_same file.name name (name_unchanged file (all 0 file (omega arith))), any_same others (All-tail IsSoundFile file others all) name) refl
 
     zone_same : (from : ZoneFrom) (fields : List (List ℕ)) → is_named files (zone_in from (map (exchanged d) fields)) ≡ is_named files (zone_in from fields)
     zone_same (zone.Field index) fields = rw (field_same fields index) (any_same files sound.each (field_at fields index))
@@ -181,15 +183,15 @@ module _ (d : ℕ) (o : IsOutside d) where
     numbers_same : (some : List File) → All IsSoundFile some → (name : List ℕ) → number_of some (exchanged d name) ≡ number_of some name
     numbers_same [] all name = refl
     numbers_same (file ∷ others) all name =
-        rw (equal_same file.name name (name_kept file (all 0 file (omega arith))), numbers_same others (All-tail IsSoundFile file others all) name) refl
+        rw (equal_same file.name name (name_unchanged file (all 0 file (omega arith))), numbers_same others (All-tail IsSoundFile file others all) name) refl
 
-    number_kept : (from : ZoneFrom) (fields : List (List ℕ)) → number_of files (zone_in from (map (exchanged d) fields)) ≡ number_of files (zone_in from fields)
-    number_kept (zone.Field index) fields = rw (field_same fields index) (numbers_same files sound.each (field_at fields index))
-    number_kept (zone.Name name) fields = refl
+    number_unchanged : (from : ZoneFrom) (fields : List (List ℕ)) → number_of files (zone_in from (map (exchanged d) fields)) ≡ number_of files (zone_in from fields)
+    number_unchanged (zone.Field index) fields = rw (field_same fields index) (numbers_same files sound.each (field_at fields index))
+    number_unchanged (zone.Name name) fields = refl
 
     zone_named : (from : ZoneFrom) (fields : List (List ℕ)) (file : File) → Contains files file → file.name ≡ zone_in from fields → file.name ≡ zone_in from (map (exchanged d) fields)
     zone_named (zone.Field index) fields file among named =
-        sym (name_kept file (All-contains IsSoundFile files file sound.each among)) ∙ ap (exchanged d) named ∙ sym (field_same fields index)
+        sym (name_unchanged file (All-contains IsSoundFile files file sound.each among)) ∙ ap (exchanged d) named ∙ sym (field_same fields index)
     zone_named (zone.Name name) fields file among named = named
 
     closed_same : (fields : List (List ℕ)) → is_closed (map (exchanged d) fields) ≡ is_closed fields
@@ -197,15 +199,16 @@ module _ (d : ℕ) (o : IsOutside d) where
     closed_same (field ∷ fields) = refl
 
     -- a record whose fields are exchanged has the fault that it has with the same count in its field
-    pub fault_same : (layout : Layout) (most n : ℕ) (fields : List (List ℕ)) → fault_by layout files most n (map (exchanged d) fields)
-        ≡ first_failed (checks_of layout files most n fields (time_by layout (file_named files (zone_in layout.zone fields)) (count_in layout (map (exchanged d) fields))))
-    fault_same layout most n fields = rw (closed_same fields, length-map fields (exchanged d), zone_same layout.zone fields, number_kept layout.zone fields) refl
+    pub fault_same : (layout : Layout) (most n : ℕ) (w : CsvRecord) → fault_by layout files most n (exchanged_record d w)
+        ≡ first_failed (checks_of layout files most n w (time_by layout (file_named files (zone_in layout.zone w.fields)) (count_in layout (map (exchanged d) w.fields))))
+    fault_same layout most n w =
+        rw (length-map w.own (exchange d), closed_same w.fields, length-map w.fields (exchanged d), zone_same layout.zone w.fields, number_unchanged layout.zone w.fields) refl
 
 -- what a row begins with, and its rest, exchanged together
-pub row_put_back : (start : RowStart) (d : ℕ) (own name asked rest : List ℕ)
-    → exchanged d (field_start start own name asked ++ rest) ≡ beginning start d (exchanged d own) name asked ++ exchanged d rest
-row_put_back starts.Fields d own name asked rest = map-append (exchange d) (name ++ 44 ∷ asked) rest
-row_put_back starts.Record d own name asked rest = map-append (exchange d) own rest
+pub row_put_back : (start : RowStart) (d : ℕ) (own name input rest : List ℕ)
+    → exchanged d (field_start start own name input ++ rest) ≡ beginning start d (exchanged d own) name input ++ exchanged d rest
+row_put_back starts.Fields d own name input rest = map-append (exchange d) (name ++ 44 ∷ input) rest
+row_put_back starts.Record d own name input rest = map-append (exchange d) own rest
 
 -- a row that was appended, and then put back in its place
 pub row_exchanged : (d start : ℕ) (old row all : List ℕ) → start ≡ length old → all ≡ old ++ row → take start all ++ exchanged d (drop start all) ≡ old ++ exchanged d row
@@ -221,9 +224,9 @@ pub text_made : (piece : Piece) (given : Record) (query : RowQuery) (state : Sho
     → IsRowQuery piece given query → AnswersAt piece.zones.now query.file (second_of piece.layout.now.unit query.counts.count) state
     → let row_record = record_at piece.bytes.now given in
     let layout = piece.layout.now in
-    IsTextBy layout piece.zones.now (put_back layout.delimiter row_record)
-    (start_text layout (exchanged layout.delimiter row_record.own) (zone_in layout.zone row_record.fields) query.counts.asked
-    ++ exchanged layout.delimiter (rest_by layout.from layout.unit query.counts.count state))
+    IsTextBy layout piece.zones.now (exchanged_record layout.delimiter row_record)
+    (start_text layout (exchanged layout.delimiter row_record.own) (zone_in layout.zone row_record.fields) query.counts.input
+    ++ exchanged layout.delimiter (rest_by layout.style layout.from layout.unit query.counts.count state))
 text_made piece given query state delimiter sound is answers =
     let row_record = record_at piece.bytes.now given in
     let layout = piece.layout.now in
@@ -233,13 +236,13 @@ text_made piece given query state delimiter sound is answers =
       file = file;
       among = among piece.zones.now query.file file got;
       named = zone_named d (outside d delimiter) piece.zones.now sound layout.zone row_record.fields file (among piece.zones.now query.file file got) called;
-      asked = query.counts.asked;
-      says = is.counts.asked_is;
+      input = query.counts.input;
+      says = is.counts.input_is;
       count = query.counts.count;
-      means = rw (is.file, got, is.counts.asked_is) at is.counts.time;
+      means = rw (is.file, got, is.counts.input_is) at is.counts.time;
       state = state;
       answers = rw got at answers;
-      is = ap (λ (n : List ℕ). start_text layout (exchanged d row_record.own) n query.counts.asked ++ exchanged d (rest_by layout.from layout.unit query.counts.count state)) (sym called);
+      is = ap (λ (n : List ℕ). start_text layout (exchanged d row_record.own) n query.counts.input ++ exchanged d (rest_by layout.style layout.from layout.unit query.counts.count state)) (sym called);
     }
 
 -- the count of a field that has decimals is that of the record, where counts are read

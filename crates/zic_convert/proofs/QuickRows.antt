@@ -1,4 +1,5 @@
 -- Rows of records in which all that they show is at hand.
+use Rattle.zic_columns.specs.Lines.{exchanged_record}
 use Rattle.std.proofs.Common.{◌≡◌, ◌≤◌, ◌<◌, ◌+◌, ◌∙◌, ℕ, ℤ, Bool, true, List, [], ◌∷◌, ◌++◌, Some, None, Ok, ap, ap₂, append_assoc, arith, length, length-append, refl, subst, sym, take, drop, get_or}
 use Rattle.std.specs.Prelude.{int_le, slice_index_or, slice_range, ◌&&◌}
 use Rattle.std.proofs.lemmas.Int.{ints}
@@ -8,6 +9,7 @@ use Rattle.zic_base.specs.State.{Shown}
 use Rattle.zic_columns.proofs.Spans.{span_both, span_first}
 use Rattle.zic_columns.specs.Exchange.{exchanged}
 use Rattle.zic_columns.specs.Record.{IsSplit, IsWithin, bytes_at, field_text, record_at}
+use Rattle.zic_columns.specs.Round.{may_have}
 use Rattle.zic_columns.specs.declared.fields.Field.{Field}
 use Rattle.zic_columns.specs.declared.fields.Field.TheVariants.{Plain, Quoted}
 use Rattle.zic_columns.specs.declared.fields.Record.{Record}
@@ -15,6 +17,7 @@ use Rattle.zic_columns.specs.declared.fields.Span.{Span}
 use Rattle.zic_files.specs.Sound.{AreSoundFiles}
 use Rattle.zic_plan.specs.Delimiter.{is_delimiter}
 use Rattle.zic_plan.specs.Layout.{has_count}
+use Rattle.zic_plan.specs.declared.layout.Style.{Style}
 use Rattle.zic_plan.specs.declared.layout.Unit.{Unit}
 use Rattle.zic_plan.specs.declared.layout.Unit.TheVariants as unit
 use Rattle.zic_plan.specs.declared.layout.TimeFrom.{TimeFrom}
@@ -25,10 +28,10 @@ use Rattle.zic_rows.specs.PlainTime.{IsPlainTime}
 use Rattle.zic_rows.specs.declared.limit.TheConstants.{FIRST_INSTANT, LAST_INSTANT}
 use Rattle.zic_rows.specs.declared.row_time.RowTime.{RowTime}
 use Rattle.zic_zones.specs.Zones.{AnswersAt, zone_in}
-use Rattle.zic_convert.specs.LayoutRows.{IsTextBy, asked_text, file_at, rest_by, start_text}
+use Rattle.zic_convert.specs.LayoutRows.{IsTextBy, input_text, file_at, rest_by, start_text}
 use Rattle.zic_convert.specs.Rows.{is_closed, is_row_instant}
 use Rattle.zic_convert.specs.code.Batch.{AreCountsOf, IsCountFor, IsQuickRow, IsRowQuery, IsTimeIn, count_at, fault_at, time_at, wanted_by, zone_at}
-use Rattle.zic_convert.specs.code.Row.{field_start, put_back}
+use Rattle.zic_convert.specs.code.Row.{field_start}
 use Rattle.zic_convert.specs.declared.piece.Piece.{Piece}
 use Rattle.zic_convert.specs.declared.quick.QuickRow.{QuickRow}
 use Rattle.zic_convert.specs.declared.row.RowQuery.{RowQuery}
@@ -48,11 +51,11 @@ pub own_begins : (piece : Piece) (given : Record) (split : IsSplit piece.bytes.n
     → bytes_at piece.bytes.now given.own ≡ zone_in piece.layout.now.zone (record_at piece.bytes.now given).fields ++ 44 ∷ bytes_at piece.bytes.now time
 own_begins piece given split k zone time by_field plain first next last within comma =
     let bytes = piece.bytes.now in
-    let stands = rw plain at split.zone_stands in
-    let told = rw (plain, by_field) at split.zone in
-    let name : slice_range bytes zone.start zone.end ≡ zone_in piece.layout.now.zone (record_at bytes given).fields = rw by_field told in
+    let within_bytes = rw plain at split.zone_within in
+    let has_time = rw (plain, by_field) at split.zone in
+    let name : slice_range bytes zone.start zone.end ≡ zone_in piece.layout.now.zone (record_at bytes given).fields = rw by_field has_time in
     let here : bytes_at bytes given.own ≡ slice_range bytes zone.start time.end = ap₂ (λ (a b : ℕ). slice_range bytes a b) (sym first) (sym last) in
-    let row_record = joined bytes zone.start zone.end time.end stands.0 (omega (arith, next, within.0)) within.1 comma in
+    let row_record = joined bytes zone.start zone.end time.end within_bytes.0 (omega (arith, next, within.0)) within.1 comma in
     here ∙ row_record ∙ ap₂ (λ (l : List ℕ) (n : ℕ). l ++ 44 ∷ slice_range bytes n time.end) name next
 
 -- a name, and then a comma
@@ -89,15 +92,15 @@ unfolding count_of number
 no_count u = refl
 
 -- a record with a count has fields
-told_closed : (u : Unit) (fields : List (List ℕ)) (index : ℕ) (count : ℤ) → count_of u (slice_index_or fields index []) ≡ Some count → is_closed fields ≡ true
-told_closed u [] index count says = absurd (let none = no_count u in cc (none, says))
-told_closed u (field ∷ fields) index count says = refl
+closed_is : (u : Unit) (fields : List (List ℕ)) (index : ℕ) (count : ℤ) → count_of u (slice_index_or fields index []) ≡ Some count → is_closed fields ≡ true
+closed_is u [] index count says = absurd (let none = no_count u in cc (none, says))
+closed_is u (field ∷ fields) index count says = refl
 
 -- the rest of a row by a time, and by its count
-rest_same : (u : Unit) (field : List ℕ) (time : RowTime) (is : IsPlainTime u field time) (shown : Shown)
-    → timed_rest_text time.unit time.second time.fraction shown ≡ counted_rest_text u is.count shown
+rest_same : (style : Style) (u : Unit) (field : List ℕ) (time : RowTime) (is : IsPlainTime u field time) (shown : Shown)
+    → timed_rest_text style time.unit time.second time.fraction shown ≡ counted_rest_text style u is.count shown
 unfolding counted_rest_text
-rest_same u field time is shown = rw (is.unit, is.second, is.fraction) refl
+rest_same style u field time is shown = rw (is.unit, is.second, is.fraction) refl
 
 module _ (piece : Piece) (given : Record) (row : QuickRow) (split : IsSplit piece.bytes.now (wanted_by piece.layout.now) given) (is : IsQuickRow piece given row) where
   -- the time stands in its field
@@ -115,42 +118,43 @@ module _ (piece : Piece) (given : Record) (row : QuickRow) (split : IsSplit piec
       rw (is.file, got, count_is delimiter, is.from) refl
 
   -- the row has no fault
-  pub faultless : (number : ℕ) → number ≤ piece.most → is_delimiter piece.layout.now.delimiter ≡ true → fault_at piece number given ≡ None
-  faultless number le delimiter =
+  pub faultless : (number : ℕ) → number ≤ piece.most → may_have piece.layout.now.max_record (length (bytes_at piece.bytes.now given.own)) ≡ true → is_delimiter piece.layout.now.delimiter ≡ true
+      → fault_at piece number given ≡ None
+  faultless number le short delimiter =
       let admits = subst (λ (n : ℕ). has_count piece.layout.now.count n ≡ true) split.count is.admitted in
-      let closed = told_closed piece.layout.now.unit (record_at piece.bytes.now given).fields piece.layout.now.time read.count (ap (count_of piece.layout.now.unit) (sym split.time) ∙ read.says) in
-      no_fault piece number given le closed admits row.file is.file read.count (time_is delimiter) (may_row (second_of piece.layout.now.unit read.count) read.may)
+      let closed = closed_is piece.layout.now.unit (record_at piece.bytes.now given).fields piece.layout.now.time read.count (ap (count_of piece.layout.now.unit) (sym split.time) ∙ read.says) in
+      no_fault piece number given le short closed admits row.file is.file read.count (time_is delimiter) (may_row (second_of piece.layout.now.unit read.count) read.may)
 
   -- its text, as it is made
   pub quick_text_made : (old begun_text all : List ℕ) (start : ℕ) → start ≡ length old → is_delimiter piece.layout.now.delimiter ≡ true → AreSoundFiles piece.zones.now
       → begun_text ≡ old ++ field_start piece.layout.now.start (bytes_at piece.bytes.now given.own) (zone_in piece.layout.now.zone (record_at piece.bytes.now given).fields)
       (field_text piece.bytes.now given.time)
-      → all ≡ begun_text ++ timed_rest_text row.time.unit row.time.second row.time.fraction row.text.now
+      → all ≡ begun_text ++ timed_rest_text piece.layout.now.style row.time.unit row.time.second row.time.fraction row.text.now
       → (made : List ℕ) × (take start all ++ exchanged piece.layout.now.delimiter (drop start all) ≡ old ++ made)
-      × IsTextBy piece.layout.now piece.zones.now (put_back piece.layout.now.delimiter (record_at piece.bytes.now given)) made
+      × IsTextBy piece.layout.now piece.zones.now (exchanged_record piece.layout.now.delimiter (record_at piece.bytes.now given)) made
   quick_text_made old begun_text all start at delimiter sound begun made =
       let layout = piece.layout.now in
       let d = layout.delimiter in
       let own = bytes_at piece.bytes.now given.own in
       let name = zone_in layout.zone (record_at piece.bytes.now given).fields in
-      let query : RowQuery = record { file = row.file; counts = record { asked = read.count; count = read.count } } in
+      let query : RowQuery = record { file = row.file; counts = record { input = read.count; count = read.count } } in
       let counts : AreCountsOf layout (file_at piece.zones.now (zone_at piece given)) (count_at piece given) query.counts = record {
-        asked_is = count_is delimiter;
+        input_is = count_is delimiter;
         sound = subst (λ (time : TimeFrom). IsCountFor time layout.unit read.count) (sym is.from) tt;
         time = time_is delimiter;
       } in
-      let asked : IsRowQuery piece given query = record { file = is.file; counts = counts; may = read.may } in
-      let digits = asked_text layout.from layout.unit read.count in
+      let input : IsRowQuery piece given query = record { file = is.file; counts = counts; may = read.may } in
+      let digits = input_text layout.from layout.unit read.count in
       let digits_are : signed_decimal read.count ≡ digits = rw is.from refl in
-      let rest = rest_by layout.from layout.unit read.count row.text.now in
-      let rest_is : counted_rest_text layout.unit read.count row.text.now ≡ rest = rw is.from refl in
+      let rest = rest_by layout.style layout.from layout.unit read.count row.text.now in
+      let rest_is : counted_rest_text layout.style layout.unit read.count row.text.now ≡ rest = rw is.from refl in
       let answers = subst (λ (t : ℤ). AnswersAt piece.zones.now row.file t row.text.now) read.second is.answers in
       let row_record : all ≡ old ++ (field_start layout.start own name digits ++ rest) =
-      made ∙ ap (λ (l : List ℕ). begun_text ++ l) (rest_same layout.unit (field_text piece.bytes.now given.time) row.time read row.text.now ∙ rest_is)
+      made ∙ ap (λ (l : List ℕ). begun_text ++ l) (rest_same layout.style layout.unit (field_text piece.bytes.now given.time) row.time read row.text.now ∙ rest_is)
       ∙ ap (λ (l : List ℕ). l ++ rest) (begun ∙ ap (λ (l : List ℕ). old ++ field_start layout.start own name l) (read.plain ∙ digits_are))
       ∙ append_assoc old (field_start layout.start own name digits) rest in (
         start_text layout (exchanged d own) name read.count ++ exchanged d rest,
         row_exchanged d start old (field_start layout.start own name digits ++ rest) all at row_record
             ∙ ap (λ (l : List ℕ). old ++ l) (row_put_back layout.start d own name digits rest),
-        text_made piece given query row.text.now delimiter sound asked answers,
+        text_made piece given query row.text.now delimiter sound input answers,
       )

@@ -1,9 +1,9 @@
 -- A column that is converted round by round, by zones that are made ready before each round.
-use Rattle.std.proofs.Common.{◌≡◌, ◌≢◌, ◌+◌, ◌++◌, ℕ, true, List, [], map, Option, Some, inl, inr, refl, subst, length-append, arith}
+use Rattle.std.proofs.Common.{◌≡◌, ◌≢◌, ◌+◌, ◌++◌, ℕ, true, false, List, [], ◌∷◌, length, map, Option, Some, inl, inr, refl, sym, subst, length-append, arith}
 use Rattle.std.specs.Prelude.{All, AllPairs, Contains, IfSome}
 use Rattle.std.proofs.lemmas.List.{get_or_append_left}
 use Rattle.zic_columns.specs.Own.{CsvRecord}
-use Rattle.zic_columns.specs.Round.{HasNoRecord}
+use Rattle.zic_columns.specs.Round.{HasNoRecord, IsNextTooLong, may_have}
 use Rattle.zic_counted.specs.Counts.{Counts}
 use Rattle.zic_counted.specs.Written.{FailsWithin}
 use Rattle.zic_tzif.specs.Laws.{FilesAnswerOnce}
@@ -11,32 +11,32 @@ use Rattle.zic_files.specs.File.{File}
 use Rattle.zic_files.specs.Sound.{AreSoundFiles}
 use Rattle.zic_plan.specs.Plan.{Limits}
 use Rattle.zic_plan.specs.declared.layout.Layout.{Layout}
-use Rattle.zic_base.specs.declared.row_fault.RowFault.{RowFault}
+use Rattle.zic_plan.specs.Noted.{RowNote}
 use Rattle.zic_base.specs.declared.run_stop.RunStop.{RunStop}
 use Rattle.zic_base.specs.declared.run_stop.RunStop.TheVariants as stop
 use Rattle.zic_zones.specs.Zones.{Agree}
-use Rattle.zic_convert.specs.Run.{EndsByZones}
+use Rattle.zic_convert.specs.Run.{EndsByZones, EndsIn}
 use Rattle.zic_convert.specs.code.Halt.{stop_of}
-use Rattle.zic_convert.specs.code.Progress.{ConvertsRest, EndsAtTaking, EndsInRest, IsSoFar, Takes, output}
+use Rattle.zic_convert.specs.code.Progress.{ComeNext, ConvertsRest, EndsAtTaking, EndsInRest, IsSoFar, Takes, longest_of, output}
 use Rattle.zic_convert.specs.code.Row.{RowsOf, records_in}
 use Rattle.zic_convert.specs.code.Written.{EndsInRecords, EndsInRows, WritesRecords, Wrote}
 use Rattle.zic_convert.specs.declared.halt.Halt.{Halt}
 use Rattle.zic_convert.specs.declared.halt.Halt.TheVariants as halt
 use Rattle.zic_convert.proofs.Halts.{ends_at_flush, ends_in_rows, ends_still}
 use Rattle.zic_convert.proofs.Options.{if_some}
-use Rattle.zic_convert.proofs.Progress.{all_written, at_start, later, none_taken, taken_come_next}
+use Rattle.zic_convert.proofs.Progress.{all_written, at_start, later, long_comes_next, none_taken, taken_come_next}
 use Rattle.zic_convert.proofs.Staying.{IsKnownZone, rows_same}
 
 -- how far a conversion of bytes, where they are known, has come by these files
-abbrev pub IsFarBy : Layout → ℕ → Option (List ℕ) → Option (List ℕ) → ℕ → Option (List ℕ) → Option (List ℕ) → Option (List RowFault) → Option (List RowFault) → List File → Type 0
+abbrev pub IsFarBy : Layout → ℕ → Option (List ℕ) → Option (List ℕ) → ℕ → Option (List ℕ) → Option (List ℕ) → Option (List RowNote) → Option (List RowNote) → List File → Type 0
 IsFarBy layout most known left n held now log noted files =
     (bytes : List ℕ) → known ≡ Some bytes → IsSoFar layout files most (records_in layout bytes) left n (output held now log noted)
 
-pub far_at_start : (layout : Layout) (most : ℕ) (known held : Option (List ℕ)) (log : Option (List RowFault)) (files : List File) → IsFarBy layout most known known 0 held held log log files
+pub far_at_start : (layout : Layout) (most : ℕ) (known held : Option (List ℕ)) (log : Option (List RowNote)) (files : List File) → IsFarBy layout most known known 0 held held log log files
 far_at_start layout most known held log files bytes e = at_start layout files most (records_in layout bytes) known held log bytes e refl
 
 module _ {W : Type 0} (contents : W → Option (List ℕ)) (once : FilesAnswerOnce) (layout : Layout) (plan : Limits) (known left : Option (List ℕ)) (n : ℕ) (held : Option (List ℕ)) (mid : Counts W)
-    (log now : Option (List RowFault)) (files : List File) (sound : AreSoundFiles files) (far : IsFarBy layout plan.max_rows known left n held (contents mid.inner) log now files) where
+    (log now : Option (List RowNote)) (files : List File) (sound : AreSoundFiles files) (far : IsFarBy layout plan.max_rows known left n held (contents mid.inner) log now files) where
   -- the column can't be read on
   unread_ends : EndsInRest layout plan.max_rows known stop.ReadFailed (output held (contents mid.inner) log now) files
   unread_ends = if_some known _ (λ bytes e.
@@ -48,7 +48,7 @@ module _ {W : Type 0} (contents : W → Option (List ℕ)) (once : FilesAnswerOn
       ends_still once layout files plan.max_rows sound (records_in layout bytes) left n held (contents mid.inner) log now (far bytes e) stop.Memory)
 
   -- some records were taken
-  module _ (rs : List CsvRecord) (next : Option (List ℕ)) (taken : Takes layout left next rs) (new : Counts W) (last : Option (List RowFault)) where
+  module _ (rs : List CsvRecord) (next : Option (List ℕ)) (taken : Takes layout left next rs) (new : Counts W) (last : Option (List RowNote)) where
     -- their rows were written
     far_after_round : (count : ℕ) → WritesRecords layout files plan.max_rows (n + 1) rs contents mid new now last count
         → IsFarBy layout plan.max_rows known next (n + count) held (contents new.inner) log last files
@@ -63,6 +63,23 @@ module _ {W : Type 0} (contents : W → Option (List ℕ)) (once : FilesAnswerOn
     ends_in_round why (inr (rows, are, ends)) = if_some known _ (λ bytes e.
         ends_in_rows contents once layout files plan.max_rows sound (records_in layout bytes) left n held mid new log now last (far bytes e)
         rs (taken_come_next layout left next rs taken) rows are why ends)
+
+  -- the next record has too many bytes
+  ends_at_record : (next : Option (List ℕ)) → Takes layout left next [] → IsNextTooLong (longest_of layout) layout.records next → (new : Counts W) (why : RunStop)
+      → ((given : CsvRecord) → may_have (longest_of layout) (length given.own) ≡ false → EndsInRecords layout files plan.max_rows (n + 1) (given ∷ []) contents mid new now now why)
+      → EndsInRest layout plan.max_rows known why (output held (contents new.inner) log now) files
+  ends_at_record next none long new why ends = if_some known _ (λ bytes e.
+      let all = records_in layout bytes in
+      let far_next = none_taken layout files plan.max_rows all left next n held (contents mid.inner) log now none (far bytes e) in
+      let (given, over, others, same) = long_comes_next layout next long far_next.rest far_next.bytes in
+      let come : ComeNext layout next (given ∷ []) = subst (λ (o : Option (List ℕ)). ComeNext layout o (given ∷ [])) (sym far_next.bytes) (others, same) in
+      ended all next far_next given come (ends given over))
+    where
+      ended : (all : List CsvRecord) (next : Option (List ℕ)) → IsSoFar layout files plan.max_rows all next n (output held (contents mid.inner) log now) → (given : CsvRecord) → ComeNext layout next (given ∷ [])
+          → EndsInRecords layout files plan.max_rows (n + 1) (given ∷ []) contents mid new now now why → EndsIn layout files plan.max_rows [] all why (output held (contents new.inner) log now)
+      ended all next far_next given come (inl memory) = rw (memory.0, memory.1) (ends_still once layout files plan.max_rows sound all next n held (contents mid.inner) log now far_next stop.Memory)
+      ended all next far_next given come (inr (rows, are, then)) =
+          ends_in_rows contents once layout files plan.max_rows sound all next n held mid new log now now far_next (given ∷ []) come rows are why then
 
   -- the writer failed in the end
   flush_ends : (new : Counts W) → FailsWithin contents mid new [] → EndsInRest layout plan.max_rows known stop.WriteFailed (output held (contents new.inner) log now) files
@@ -84,7 +101,7 @@ all_front P xs ys all = λ k d lt. subst P (get_or_append_left xs ys d k lt) (al
 -- ---- a round by the files that are known, and by all that may be
 
 module _ (layout : Layout) (most : ℕ) (rs : List CsvRecord) (first : ℕ) (known files : List File) (still : (file : File) → Contains known file → Contains files file)
-    (differ : AllPairs (λ (file other : File). file.name ≢ other.name) files) (only : All (IsKnownZone layout.zone known files) rs) {W : Type 0} (contents : W → Option (List ℕ)) (held now : Counts W) (log log' : Option (List RowFault)) where
+    (differ : AllPairs (λ (file other : File). file.name ≢ other.name) files) (only : All (IsKnownZone layout.zone known files) rs) {W : Type 0} (contents : W → Option (List ℕ)) (held now : Counts W) (log log' : Option (List RowNote)) where
   written_alike : (count : ℕ) → WritesRecords layout known most first rs contents held now log log' count → WritesRecords layout files most first rs contents held now log log' count
   written_alike count (rows, are, wrote) = (rows, rows_same known files still differ layout most first rs rows only are, wrote)
 
@@ -117,7 +134,7 @@ module _ {Z : Type 0} (known_of : Z → List File) (settled : Z → List ℕ →
     (same : (z : Z) → grown z z) (joins : (a b c : Z) → grown a b → grown b c → grown a c) (narrows : (a b : Z) (files : List File) → grown a b → may_be b files → may_be a files)
     (agrees : (z : Z) (files : List File) → may_be z files → Agree (settled z) (known_of z) files)
     {W : Type 0} (contents : W → Option (List ℕ)) (once : FilesAnswerOnce) (layout : Layout) (plan : Limits) (known left : Option (List ℕ)) (n : ℕ) (held : Option (List ℕ)) (mid : Counts W)
-    (log now : Option (List RowFault)) (begun zones : Z) (grew : grown begun zones)
+    (log now : Option (List RowNote)) (begun zones : Z) (grew : grown begun zones)
     (far : (files : List File) → may_be zones files → IsFarBy layout plan.max_rows known left n held (contents mid.inner) log now files) where
   -- no round could be taken
   pub no_round : (new : Z) (why : Halt) → EndsAtTaking broken zones new why
@@ -156,13 +173,24 @@ module _ {Z : Type 0} (known_of : Z → List File) (settled : Z → List ℕ →
       by = λ files may. flush_ends contents once layout plan known left n held mid log now files (agrees then files may).sound (far files (narrows zones then files grows may)) new fails;
     }
 
+    -- the next record has too many bytes
+    pub long_ends : Takes layout left next [] → IsNextTooLong (longest_of layout) layout.records next → (new : Counts W) (why : RunStop)
+        → ((files : List File) (given : CsvRecord) → may_have (longest_of layout) (length given.own) ≡ false → EndsInRecords layout files plan.max_rows (n + 1) (given ∷ []) contents mid new now now why)
+        → EndsByZones grown broken may_be begun then why (EndsInRest layout plan.max_rows known why (output held (contents new.inner) log now))
+    long_ends none long new why ends = record {
+      then = then;
+      grown = joins begun zones then grew grows;
+      ends = inl refl;
+      by = λ files may. ends_at_record contents once layout plan known left n held mid log now files (agrees then files may).sound (far files (narrows zones then files grows may)) next none long new why (ends files);
+    }
+
     -- no record was left
     pub rounds_done : Takes layout left next [] → HasNoRecord layout.records next → (new : Counts W) → Wrote contents mid new [] → (files : List File) → may_be then files
         → ConvertsRest layout plan.max_rows known n (output held (contents new.inner) log now) files
     rounds_done none end new flushed files may =
         all_done contents once layout plan known left n held mid log now files (agrees then files may).sound (far files (narrows zones then files grows may)) next none end new flushed
 
-    module _ (only : (files : List File) → may_be then files → All (IsKnownZone layout.zone (known_of then) files) rs) (new : Counts W) (last : Option (List RowFault)) where
+    module _ (only : (files : List File) → may_be then files → All (IsKnownZone layout.zone (known_of then) files) rs) (new : Counts W) (last : Option (List RowNote)) where
       -- their rows were written
       pub far_on : (count : ℕ) → WritesRecords layout (known_of then) plan.max_rows (n + 1) rs contents mid new now last count → (files : List File) → may_be then files
           → IsFarBy layout plan.max_rows known next (n + count) held (contents new.inner) log last files

@@ -5,6 +5,7 @@ use Rattle.std.specs.Cmp.Lexicographic.{bytes_decides}
 use Rattle.std.proofs.lemmas.Bool.{and_parts}
 use Rattle.std.proofs.lemmas.Int.{ints}
 use Rattle.zic_columns.specs.Record.{record_at}
+use Rattle.zic_columns.specs.Round.{may_have}
 use Rattle.zic_columns.specs.declared.fields.Record.{Record}
 use Rattle.zic_files.specs.File.{File}
 use Rattle.zic_plan.specs.Layout.{has_count}
@@ -57,40 +58,45 @@ pub named : (files : List File) (name : List ℕ) (n : ℕ) → number_of files 
 named files name n some = (found files name n some).3
 
 -- the name of that file
-pub name_told : (files : List File) (name : List ℕ) (n : ℕ) (told : List ℕ) → number_of files name ≡ Some n → IfSome (slice_get files n) (λ f. told ≡ f.name) → told ≡ name
-name_told files name n told some is =
+pub name_is : (files : List File) (name : List ℕ) (n : ℕ) (has_time : List ℕ) → number_of files name ≡ Some n → IfSome (slice_get files n) (λ f. has_time ≡ f.name) → has_time ≡ name
+name_is files name n has_time some is =
     let (f, got, called, known) = found files name n some in
     let here = rw got at is in
     here ∙ called
 
 module _ (piece : Piece) (number : ℕ) (given : Record) (le : number ≤ piece.most) where
-  -- it has no field
-  pub no_field : is_closed (record_at piece.bytes.now given).fields ≡ false → fault_at piece number given ≡ Some kind.RowQuote
-  no_field none = rw (le-leb number piece.most le, none) refl
+  -- it has too many bytes
+  pub too_long : may_have piece.layout.now.max_record (length (record_at piece.bytes.now given).own) ≡ false → fault_at piece number given ≡ Some kind.RowTooLong
+  too_long long = rw (le-leb number piece.most le, long) refl
 
-  module _ (closed : is_closed (record_at piece.bytes.now given).fields ≡ true) (admits : has_count piece.layout.now.count (length (record_at piece.bytes.now given).fields) ≡ true) where
-    -- its zone has no file
-    pub zone_missing : zone_at piece given ≡ None → fault_at piece number given ≡ Some kind.RowZone
-    zone_missing none = rw (le-leb number piece.most le, closed, admits, unnamed piece.zones.now (zone_in piece.layout.now.zone (record_at piece.bytes.now given).fields) none) refl
+  module _ (short : may_have piece.layout.now.max_record (length (record_at piece.bytes.now given).own) ≡ true) where
+    -- it has no field
+    pub no_field : is_closed (record_at piece.bytes.now given).fields ≡ false → fault_at piece number given ≡ Some kind.RowQuote
+    no_field none = rw (le-leb number piece.most le, short, none) refl
 
-    module _ (n : ℕ) (zone : zone_at piece given ≡ Some n) where
-      -- it has no instant
-      pub time_missing : (fault : RowKind) → time_at piece given ≡ Err fault → fault_at piece number given ≡ Some fault
-      time_missing fault none =
-          rw (le-leb number piece.most le, closed, admits, named piece.zones.now (zone_in piece.layout.now.zone (record_at piece.bytes.now given).fields) n zone, none) refl
+    module _ (closed : is_closed (record_at piece.bytes.now given).fields ≡ true) (admits : has_count piece.layout.now.count (length (record_at piece.bytes.now given).fields) ≡ true) where
+      -- its zone has no file
+      pub zone_missing : zone_at piece given ≡ None → fault_at piece number given ≡ Some kind.RowZone
+      zone_missing none = rw (le-leb number piece.most le, short, closed, admits, unnamed piece.zones.now (zone_in piece.layout.now.zone (record_at piece.bytes.now given).fields) none) refl
 
-      module _ (c : ℤ) (count : time_at piece given ≡ Ok c) where
-        -- its instant is out of range
-        pub out_of_range : is_row_instant (Some (second_of piece.layout.now.unit c)) ≡ false
-            → fault_at piece number given ≡ Some kind.RowRange
-        out_of_range out =
-            rw (le-leb number piece.most le, closed, admits, named piece.zones.now (zone_in piece.layout.now.zone (record_at piece.bytes.now given).fields) n zone, count, out) refl
+      module _ (n : ℕ) (zone : zone_at piece given ≡ Some n) where
+        -- it has no instant
+        pub time_missing : (fault : RowKind) → time_at piece given ≡ Err fault → fault_at piece number given ≡ Some fault
+        time_missing fault none =
+            rw (le-leb number piece.most le, short, closed, admits, named piece.zones.now (zone_in piece.layout.now.zone (record_at piece.bytes.now given).fields) n zone, none) refl
 
-        -- or it has no fault
-        pub no_fault : is_row_instant (Some (second_of piece.layout.now.unit c)) ≡ true
-            → fault_at piece number given ≡ None
-        no_fault may =
-            rw (le-leb number piece.most le, closed, admits, named piece.zones.now (zone_in piece.layout.now.zone (record_at piece.bytes.now given).fields) n zone, count, may) refl
+        module _ (c : ℤ) (count : time_at piece given ≡ Ok c) where
+          -- its instant is out of range
+          pub out_of_range : is_row_instant (Some (second_of piece.layout.now.unit c)) ≡ false
+              → fault_at piece number given ≡ Some kind.RowRange
+          out_of_range out =
+              rw (le-leb number piece.most le, short, closed, admits, named piece.zones.now (zone_in piece.layout.now.zone (record_at piece.bytes.now given).fields) n zone, count, out) refl
+
+          -- or it has no fault
+          pub no_fault : is_row_instant (Some (second_of piece.layout.now.unit c)) ≡ true
+              → fault_at piece number given ≡ None
+          no_fault may =
+              rw (le-leb number piece.most le, short, closed, admits, named piece.zones.now (zone_in piece.layout.now.zone (record_at piece.bytes.now given).fields) n zone, count, may) refl
 
 -- a row may have an instant that passes the check
 pub row_may : (t : ℤ) → is_row_instant (Some t) ≡ true → IsRowInstant t
@@ -99,8 +105,8 @@ row_may t is =
     (grind (arith, ints, from), grind (arith, ints, to))
 
 -- what a row begins with, as it is appended
-pub start_pushed : (old name asked a b : List ℕ) → a ≡ old ++ name → b ≡ a ++ 44 ∷ asked → b ≡ old ++ (name ++ 44 ∷ asked)
-start_pushed old name asked a b is_a is_b = is_b ∙ ap (λ (l : List ℕ). l ++ 44 ∷ asked) is_a ∙ append_assoc old name (44 ∷ asked)
+pub start_pushed : (old name input a b : List ℕ) → a ≡ old ++ name → b ≡ a ++ 44 ∷ input → b ≡ old ++ (name ++ 44 ∷ input)
+start_pushed old name input a b is_a is_b = is_b ∙ ap (λ (l : List ℕ). l ++ 44 ∷ input) is_a ∙ append_assoc old name (44 ∷ input)
 
 -- a comma and decimals
 pub digits_pushed : (old digits a b : List ℕ) → a ≡ old ++ 44 ∷ [] → b ≡ a ++ digits → b ≡ old ++ 44 ∷ digits

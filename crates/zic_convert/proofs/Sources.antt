@@ -6,7 +6,7 @@ use Rattle.std.specs.List.{concat}
 use Rattle.std.specs.Prelude.{IfOk, IfSome, Result, Ok, Err}
 use Rattle.csv.specs.Reading.{strip_bom}
 use Rattle.csv.proofs.WriteFacts.{appends-none}
-use Rattle.zic_base.specs.declared.row_fault.RowFault.{RowFault}
+use Rattle.zic_plan.specs.Noted.{RowNote}
 use Rattle.zic_base.specs.declared.row_fault.RowKind.{RowKind}
 use Rattle.zic_base.specs.declared.run_stop.RunStop.{RunStop}
 use Rattle.zic_base.specs.declared.run_stop.RunStop.TheVariants as stop
@@ -32,7 +32,7 @@ use Rattle.zic_convert.proofs.Options.{for_some, if_some}
 use Rattle.zic_convert.proofs.Plain.{come_plainly}
 use Rattle.zic_convert.proofs.Sounds.{all_known}
 use Rattle.zic_convert.proofs.Totals.{all_come}
-use Rattle.zic_convert.proofs.Wholes.{comma_fields_in}
+use Rattle.zic_convert.proofs.PieceRecords.{comma_fields_in}
 
 module _ (alike : PlainColumnsConvertAlike) (layout : Layout) (plain : HasPlainRows layout) (none : layout.header ≡ header.Absent) (files : List File) (most : ℕ) where
   no_header : (column : List ℕ) → header_text layout column ≡ []
@@ -50,7 +50,7 @@ module _ (alike : PlainColumnsConvertAlike) (layout : Layout) (plain : HasPlainR
       same_text texts wrote = subst (λ (l : List ℕ). Appends held held' (l ++ concat texts)) (no_header column) wrote
 
   -- all of a column was converted
-  pub source_converts : (known : Option (List ℕ)) (held held' : Option (List ℕ)) (log log' : Option (List RowFault)) (n : ℕ)
+  pub source_converts : (known : Option (List ℕ)) (held held' : Option (List ℕ)) (log log' : Option (List RowNote)) (n : ℕ)
       → IfSome known (λ column. (row_records : List CsvRecord) × AreRowRecords layout column row_records × WritesRows layout files most (header_text layout column) row_records n (output held held' log log'))
       → IfSome known (λ column. WritesAll files most column n held held')
   source_converts known held held' log log' n all = if_some known _ (λ column e.
@@ -114,10 +114,10 @@ module _ (alike : PlainColumnsConvertAlike) (layout : Layout) (plain : HasPlainR
 
     -- the conversion ended early
     pub source_ends : {R W : Type 0} (run : Run R W) (why : RunStop) (zones zones' : List File) → zones ≡ files
-        → EndsAtNames layout why run zones zones'
+        → (EndsAtNames layout why run × (zones' ≡ zones))
         ⊎ EndsByZones (λ (a b : List File). b ≡ a) (λ (a b : List File). b ≡ a) (λ (z fs : List File). (fs ≡ z) × AreSoundFiles z) zones zones' why (EndsBy layout most why run)
         → IfSome run.column (λ column. WritesAt files most column why run.output.held run.output.held')
-    source_ends run why zones zones' are (inl ends) = rw ends.is (if_some run.column _ (λ column e.
+    source_ends run why zones zones' are (inl (ends, same_zones)) = rw ends.is (if_some run.column _ (λ column e.
         no_part column run.output.held run.output.held' ends.part (subst (λ (l : List ℕ). StartsWith l ends.part) no_names ends.starts) ends.wrote))
     source_ends run why zones zones' are (inr ends) =
         let same = ends.grown ∙ are in

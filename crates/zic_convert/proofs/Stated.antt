@@ -27,6 +27,6 @@ module _ (piece : Piece) (given : Record) (states : List Shown) (known : Known) 
         from = counts;
         admitted = at.admitted;
         file = sym is.zone ∙ zone;
-        time = subst (IsTimeIn piece.layout.now.unit piece.bytes.now given.time) time (is.time at.told);
+        time = subst (IsTimeIn piece.layout.now.unit piece.bytes.now given.time) time (is.time at.has_time);
         answers = rw (time, same_Some at.file row.file (sym at.zone_is ∙ zone), same_Some state row.text.now (sym got ∙ text)) at at.answers;
       }

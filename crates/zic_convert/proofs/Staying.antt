@@ -8,13 +8,14 @@ use Rattle.zic_base.proofs.Elements.{contained_passes, get_contained, one_that_p
 use Rattle.zic_base.proofs.OrderedLists.{one_by_key}
 use Rattle.zic_base.specs.Check.{check, first_failed}
 use Rattle.zic_columns.specs.Exchange.{exchanged}
-use Rattle.zic_columns.specs.Lines.{open_record}
+use Rattle.zic_columns.specs.Lines.{open_record, exchanged_record}
 use Rattle.zic_columns.specs.Own.{CsvRecord}
+use Rattle.zic_columns.specs.Round.{may_have}
 use Rattle.zic_columns.specs.declared.columns.Taken.{Taken}
 use Rattle.zic_columns.specs.declared.columns.Taken.TheVariants as taken
-use Rattle.zic_columns.specs.Round.{records_of, wholes_of}
+use Rattle.zic_columns.specs.Round.{records_of, records_of_pieces}
 use Rattle.zic_columns.proofs.Exchanges.{twice}
-use Rattle.zic_columns.proofs.Wholes.{pieces_fields}
+use Rattle.zic_columns.proofs.PieceRecords.{pieces_fields}
 use Rattle.zic_files.specs.File.{File}
 use Rattle.zic_files.specs.Sound.{IsSoundFile}
 use Rattle.zic_plan.specs.Layout.{has_count}
@@ -22,18 +23,18 @@ use Rattle.zic_plan.specs.Delimiter.{is_delimiter}
 use Rattle.zic_plan.specs.declared.layout.Layout.{Layout}
 use Rattle.zic_plan.specs.declared.layout.ZoneFrom.{ZoneFrom}
 use Rattle.zic_plan.specs.declared.layout.ZoneFrom.TheVariants as zone
-use Rattle.zic_base.specs.declared.row_fault.RowFault.{RowFault}
+use Rattle.zic_plan.specs.Noted.{RowNote}
 use Rattle.zic_base.specs.declared.row_fault.RowKind.{RowKind}
 use Rattle.zic_base.specs.declared.row_fault.RowKind.TheVariants as kind
 use Rattle.zic_rows.specs.Count.{second_of}
 use Rattle.zic_zones.specs.Zones.{Agree, field_at, is_named, number_of, zone_in}
 use Rattle.zic_convert.specs.Rows.{is_closed, is_row_instant}
-use Rattle.zic_convert.specs.LayoutRows.{RecordsConvertBy, IsRowAt, IsTextBy, count_in, ending, ends_by, fault_by, faults_by, file_at, file_named, noted, time_by, told_count, told_fault}
-use Rattle.zic_convert.specs.code.Row.{AreRowsOf, RowsOf, fields_of_all, put_back, taken_rows, wholes_of_all}
+use Rattle.zic_convert.specs.LayoutRows.{RecordsConvertBy, IsRowAt, IsTextBy, count_in, ending, ends_by, fault_by, faults_by, file_at, file_named, noted, time_by, ok_count, err_fault}
+use Rattle.zic_convert.specs.code.Row.{AreRowsOf, RowsOf, fields_of_all, taken_rows, records_of_all}
 use Rattle.zic_convert.proofs.Delimited.{field_same, name_as_put, outside}
 use Rattle.zic_convert.proofs.PutBack.{among}
 use Rattle.zic_convert.proofs.RowFaults.{found, named, unnamed}
-use Rattle.zic_convert.proofs.Wholes.{all_put}
+use Rattle.zic_convert.proofs.PieceRecords.{all_put}
 
 both_or_none : (a b : Bool) → (a ≡ true → b ≡ true) → (b ≡ true → a ≡ true) → a ≡ b
 both_or_none true b to from = sym (to refl)
@@ -87,19 +88,24 @@ module _ (known files : List File) (still : (file : File) → Contains known fil
 
   module _ (layout : Layout) (most : ℕ) where
     -- the fault of a row
-    fault_same : (number : ℕ) (fields : List (List ℕ)) → (is_closed fields ≡ true → IsKnownName known files (zone_in layout.zone fields)) → fault_by layout known most number fields ≡ fault_by layout files most number fields
-    fault_same number [] only = refl
-    fault_same number (field ∷ others) only =
+    fault_made : (number : ℕ) (own : List ℕ) (fields : List (List ℕ)) → (is_closed fields ≡ true → IsKnownName known files (zone_in layout.zone fields))
+        → fault_by layout known most number (record { own = own; fields = fields }) ≡ fault_by layout files most number (record { own = own; fields = fields })
+    fault_made number own [] only = refl
+    fault_made number own (field ∷ others) only =
         let fields = field ∷ others in
         ap₂ (λ (named : Bool) (time : Result ℤ RowKind). first_failed
         (check (nat_le number most) kind.TooManyRows
+        ∷ check (may_have layout.max_record (length own)) kind.RowTooLong
         ∷ check true kind.RowQuote
         ∷ check (has_count layout.count (length fields)) kind.RowFields
         ∷ check named kind.RowZone
-        ∷ check (is_some (told_count time)) (told_fault time)
-        ∷ check (is_row_instant (option_map (second_of layout.unit) (told_count time))) kind.RowRange
+        ∷ check (is_some (ok_count time)) (err_fault time)
+        ∷ check (is_row_instant (option_map (second_of layout.unit) (ok_count time))) kind.RowRange
         ∷ [])) (named_same (zone_in layout.zone fields) (only refl))
         (ap (λ (file : Option File). time_by layout file (count_in layout fields)) (file_same (zone_in layout.zone fields) (only refl)))
+
+    fault_same : (number : ℕ) (w : CsvRecord) → IsKnownZone layout.zone known files w → fault_by layout known most number w ≡ fault_by layout files most number w
+    fault_same number w only = fault_made number w.own w.fields only
 
     -- and the row
     text_same : (row_record : CsvRecord) (text : List ℕ) → IsTextBy layout known row_record text → IsTextBy layout files row_record text
@@ -107,7 +113,7 @@ module _ (known files : List File) (still : (file : File) → Contains known fil
       file = is.file;
       among = still is.file is.among;
       named = is.named;
-      asked = is.asked;
+      input = is.input;
       says = is.says;
       count = is.count;
       means = is.means;
@@ -125,12 +131,12 @@ module _ (known files : List File) (still : (file : File) → Contains known fil
         → RecordsConvertBy layout known most number row_records texts fault → RecordsConvertBy layout files most number row_records texts fault
     come_same number [] texts fault only come = come
     come_same number (w ∷ row_records) [] fault only come =
-        let same = fault_same number w.fields (All-head (IsKnownZone layout.zone known files) w row_records only) in
-        (come.0 ∙ ap (ending layout.at_fault) same, come.1)
+        let same = fault_same number w (All-head (IsKnownZone layout.zone known files) w row_records only) in
+        (come.0 ∙ ap (ending layout.at_fault layout.records) same, come.1)
     come_same number (w ∷ row_records) (text ∷ texts) fault only come =
-        let same = fault_same number w.fields (All-head (IsKnownZone layout.zone known files) w row_records only) in (
-          ap (ending layout.at_fault) (sym same) ∙ come.0,
-          subst (λ (f : Option RowKind). IsRowAt layout files f w text) same (row_same (fault_by layout known most number w.fields) w text come.1),
+        let same = fault_same number w (All-head (IsKnownZone layout.zone known files) w row_records only) in (
+          ap (ending layout.at_fault layout.records) (sym same) ∙ come.0,
+          subst (λ (f : Option RowKind). IsRowAt layout files f w text) same (row_same (fault_by layout known most number w) w text come.1),
           come_same (number + 1) row_records texts fault (All-tail (IsKnownZone layout.zone known files) w row_records only) come.2,
         )
 
@@ -139,10 +145,10 @@ module _ (known files : List File) (still : (file : File) → Contains known fil
         → faults_by layout known most number row_records ≡ faults_by layout files most number row_records
     faults_same number [] only = refl
     faults_same number (w ∷ row_records) only =
-        let same = fault_same number w.fields (All-head (IsKnownZone layout.zone known files) w row_records only) in
+        let same = fault_same number w (All-head (IsKnownZone layout.zone known files) w row_records only) in
         let rest = faults_same (number + 1) row_records (All-tail (IsKnownZone layout.zone known files) w row_records only) in
-        ap (λ (f : Option RowKind). if is_some (ending layout.at_fault f) then [] else noted number f ++ faults_by layout known most (number + 1) row_records) same
-        ∙ ap (λ (l : List RowFault). if is_some (ends_by layout files most number w.fields) then [] else noted number (fault_by layout files most number w.fields) ++ l) rest
+        ap (λ (f : Option RowKind). if is_some (ending layout.at_fault layout.records f) then [] else noted layout.at_fault number w.own f ++ faults_by layout known most (number + 1) row_records) same
+        ∙ ap (λ (l : List RowNote). if is_some (ends_by layout files most number w) then [] else noted layout.at_fault number w.own (fault_by layout files most number w) ++ l) rest
 
     -- the rows of records
     pub rows_same : (first : ℕ) (row_records : List CsvRecord) (rows : RowsOf) → All (IsKnownZone layout.zone known files) row_records
@@ -172,22 +178,23 @@ module _ (d : ℕ) (can : is_delimiter d ≡ true) (settled : List ℕ → Type 
   zone_known (zone.Field index) fields is = rw (field_same d (outside d can) fields index) (put_known (field_at fields index) is)
   zone_known (zone.Name name) fields is = name_known _ is
 
-  wholes_known : (row_records : List CsvRecord) → All settled (map (zone_in from) (fields_of_all row_records)) → All (IsKnownZone from known files) (map (put_back d) row_records)
+  wholes_known : (row_records : List CsvRecord) → All settled (map (zone_in from) (fields_of_all row_records)) → All (IsKnownZone from known files) (map (exchanged_record d) row_records)
   wholes_known [] all = λ k dflt lt. absurd (omega (arith, lt))
   wholes_known (w ∷ row_records) all =
-      All-cons (IsKnownZone from known files) (put_back d w) (map (put_back d) row_records)
+      All-cons (IsKnownZone from known files) (exchanged_record d w) (map (exchanged_record d) row_records)
       (λ _. zone_known from w.fields (All-head settled (zone_in from w.fields) (map (zone_in from) (fields_of_all row_records)) all))
       (wholes_known row_records (All-tail settled (zone_in from w.fields) (map (zone_in from) (fields_of_all row_records)) all))
 
   -- those of a round
-  pub round_known : (pieces : List (List ℕ)) → All settled (map (zone_in from) (records_of pieces)) → All (IsKnownZone from known files) (wholes_of_all d pieces)
+  pub round_known : (pieces : List (List ℕ)) → All settled (map (zone_in from) (records_of pieces)) → All (IsKnownZone from known files) (records_of_all d pieces)
   round_known pieces all =
       subst (All (IsKnownZone from known files)) (sym (all_put d pieces))
-      (wholes_known (wholes_of pieces) (subst (λ (records : List (List (List ℕ))). All settled (map (zone_in from) records)) (sym (pieces_fields pieces)) all))
+      (wholes_known (records_of_pieces pieces) (subst (λ (records : List (List (List ℕ))). All settled (map (zone_in from) records)) (sym (pieces_fields pieces)) all))
 
   -- an open line names none
   pub taken_known : (taken : Taken) (pieces : List (List ℕ)) → All settled (map (zone_in from) (records_of pieces)) → All (IsKnownZone from known files) (taken_rows d taken pieces)
   taken_known taken.Round pieces all = round_known pieces all
   taken_known (taken.OpenLine line) pieces all =
-      All-cons (IsKnownZone from known files) (put_back d (open_record line.items)) [] (λ no. absurd (cc no)) (λ k dflt lt. absurd (omega (arith, lt)))
+      All-cons (IsKnownZone from known files) (exchanged_record d (open_record line.items)) [] (λ no. absurd (cc no)) (λ k dflt lt. absurd (omega (arith, lt)))
+  taken_known taken.TooLong pieces all = λ k dflt lt. absurd (omega (arith, lt))
   taken_known taken.End pieces all = λ k dflt lt. absurd (omega (arith, lt))

@@ -9,6 +9,7 @@ use Rattle.zic_base.specs.Check.{check, first_failed}
 use Rattle.zic_rows.specs.Count.{second_of}
 use Rattle.zic_columns.specs.Exchange.{exchanged}
 use Rattle.zic_columns.specs.Own.{CsvRecord}
+use Rattle.zic_columns.specs.Round.{may_have}
 use Rattle.zic_files.specs.File.{File}
 use Rattle.zic_plan.specs.Layout.{has_count}
 use Rattle.zic_plan.specs.declared.layout.Layout.{Layout}
@@ -16,7 +17,7 @@ use Rattle.zic_base.specs.declared.row_fault.RowKind.{RowKind}
 use Rattle.zic_base.specs.declared.row_fault.RowKind.TheVariants as kind
 use Rattle.zic_zones.specs.Zones.{is_named, number_of, zone_in}
 use Rattle.zic_convert.specs.Rows.{is_closed, is_row_instant}
-use Rattle.zic_convert.specs.LayoutRows.{RecordsConvertBy, IsRowAt, IsRowBy, IsTextBy, count_in, ends_by, fault_by, faulty_text, instant_by, rest_by, start_text, time_by, time_in, told_count, told_fault}
+use Rattle.zic_convert.specs.LayoutRows.{RecordsConvertBy, IsRowAt, IsRowBy, IsTextBy, count_in, ends_by, fault_by, faulty_text, instant_by, rest_by, start_text, time_by, time_in, ok_count, err_fault}
 use Rattle.zic_convert.specs.code.Row.{AreRowsOf, RowsOf}
 use Rattle.zic_convert.proofs.Coming.{come_after, come_more}
 use Rattle.zic_convert.proofs.PutBack.{among}
@@ -24,16 +25,17 @@ use Rattle.zic_convert.proofs.RowFaults.{found}
 use Rattle.zic_convert.proofs.Sounds.{IsKnown}
 
 -- checks that all pass
-passed : (a b c d e f : Bool) (k l m n o p : RowKind) → first_failed (check a k ∷ check b l ∷ check c m ∷ check d n ∷ check e o ∷ check f p ∷ []) ≡ None → (d ≡ true) × (e ≡ true)
-passed false b c d e f k l m n o p h = absurd (cc h)
-passed true false c d e f k l m n o p h = absurd (cc h)
-passed true true false d e f k l m n o p h = absurd (cc h)
-passed true true true false e f k l m n o p h = absurd (cc h)
-passed true true true true false f k l m n o p h = absurd (cc h)
-passed true true true true true f k l m n o p h = (refl, refl)
+passed : (a b c d e f g : Bool) (k l m n o p q : RowKind) → first_failed (check a k ∷ check b l ∷ check c m ∷ check d n ∷ check e o ∷ check f p ∷ check g q ∷ []) ≡ None → (e ≡ true) × (f ≡ true)
+passed false b c d e f g k l m n o p q h = absurd (cc h)
+passed true false c d e f g k l m n o p q h = absurd (cc h)
+passed true true false d e f g k l m n o p q h = absurd (cc h)
+passed true true true false e f g k l m n o p q h = absurd (cc h)
+passed true true true true false f g k l m n o p q h = absurd (cc h)
+passed true true true true true false g k l m n o p q h = absurd (cc h)
+passed true true true true true true g k l m n o p q h = (refl, refl)
 
 -- the count that is there
-the_count : (r : Result ℤ RowKind) → is_some (told_count r) ≡ true → (x : ℤ) × (r ≡ Ok x)
+the_count : (r : Result ℤ RowKind) → is_some (ok_count r) ≡ true → (x : ℤ) × (r ≡ Ok x)
 the_count (Err kind) h = absurd (cc h)
 the_count (Ok x) h = (x, refl)
 
@@ -48,34 +50,34 @@ numbered (f ∷ files) name h =
 
 module _ (layout : Layout) (files : List File) (most : ℕ) (known : All IsKnown files) where
   -- the count of a field that tells an instant
-  asked_for : (file : File) (o : Option ℤ) (count : ℤ) → time_by layout (Some file) o ≡ Ok count
-      → (asked : ℤ) × (o ≡ Some asked) × (instant_by layout.from layout.unit file asked ≡ Ok count)
-  asked_for file None count is = absurd (cc is)
-  asked_for file (Some asked) count is = (asked, refl, is)
+  input_for : (file : File) (o : Option ℤ) (count : ℤ) → time_by layout (Some file) o ≡ Ok count
+      → (input : ℤ) × (o ≡ Some input) × (instant_by layout.from layout.unit file input ≡ Ok count)
+  input_for file None count is = absurd (cc is)
+  input_for file (Some input) count is = (input, refl, is)
 
-  asked_in : (fields : List (List ℕ)) (n : ℕ) (file : File) (count : ℤ) → number_of files (zone_in layout.zone fields) ≡ Some n → slice_get files n ≡ Some file
-      → time_in layout files fields ≡ Ok count → (asked : ℤ) × (count_in layout fields ≡ Some asked) × (instant_by layout.from layout.unit file asked ≡ Ok count)
-  asked_in fields n file count number got is = asked_for file (count_in layout fields) count (rw (number, got) at is)
+  input_in : (fields : List (List ℕ)) (n : ℕ) (file : File) (count : ℤ) → number_of files (zone_in layout.zone fields) ≡ Some n → slice_get files n ≡ Some file
+      → time_in layout files fields ≡ Ok count → (input : ℤ) × (count_in layout fields ≡ Some input) × (instant_by layout.from layout.unit file input ≡ Ok count)
+  input_in fields n file count number got is = input_for file (count_in layout fields) count (rw (number, got) at is)
 
   -- the text of a row without a fault
-  have_text : (number : ℕ) (row_record : CsvRecord) → fault_by layout files most number row_record.fields ≡ None → (text : List ℕ) × IsTextBy layout files row_record text
+  have_text : (number : ℕ) (row_record : CsvRecord) → fault_by layout files most number row_record ≡ None → (text : List ℕ) × IsTextBy layout files row_record text
   have_text number row_record none =
       let zone = zone_in layout.zone row_record.fields in
       let time = time_in layout files row_record.fields in
-      let (named, says) = passed (nat_le number most) (is_closed row_record.fields) (has_count layout.count (length row_record.fields)) (is_named files zone) (is_some (told_count time)) (is_row_instant (option_map (second_of layout.unit) (told_count time)))
-      kind.TooManyRows kind.RowQuote kind.RowFields kind.RowZone (told_fault time) kind.RowRange none in
+      let (named, says) = passed (nat_le number most) (may_have layout.max_record (length row_record.own)) (is_closed row_record.fields) (has_count layout.count (length row_record.fields)) (is_named files zone) (is_some (ok_count time)) (is_row_instant (option_map (second_of layout.unit) (ok_count time)))
+      kind.TooManyRows kind.RowTooLong kind.RowQuote kind.RowFields kind.RowZone (err_fault time) kind.RowRange none in
       let (n, number) = numbered files zone named in
       let (file, got, called, is_known) = found files zone n number in
       let has = among files n file got in
       let (count, at) = the_count time says in
-      let (asked, said, means) = asked_in row_record.fields n file count number got at in
+      let (input, said, means) = input_in row_record.fields n file count number got at in
       let (state, answers) = All-contains IsKnown files file known has (second_of layout.unit count) in (
-        start_text layout row_record.own file.name asked ++ exchanged layout.delimiter (rest_by layout.from layout.unit count state),
+        start_text layout row_record.own file.name input ++ exchanged layout.delimiter (rest_by layout.style layout.from layout.unit count state),
         record {
           file = file;
           among = has;
           named = called;
-          asked = asked;
+          input = input;
           says = said;
           count = count;
           means = means;
@@ -87,12 +89,12 @@ module _ (layout : Layout) (files : List File) (most : ℕ) (known : All IsKnown
 
   -- the text of a row, with a fault or without
   have_row : (number : ℕ) (row_record : CsvRecord) → (text : List ℕ) × IsRowBy layout files most number row_record text
-  have_row number row_record = by_fault (fault_by layout files most number row_record.fields) refl where
-    by_fault : (fault : Option RowKind) → fault_by layout files most number row_record.fields ≡ fault → (text : List ℕ) × IsRowAt layout files fault row_record text
+  have_row number row_record = by_fault (fault_by layout files most number row_record) refl where
+    by_fault : (fault : Option RowKind) → fault_by layout files most number row_record ≡ fault → (text : List ℕ) × IsRowAt layout files fault row_record text
     by_fault None e = have_text number row_record e
     by_fault (Some fault) e = (faulty_text layout fault row_record, refl)
 
-  row_first : (number : ℕ) (row_record : CsvRecord) (row_records : List CsvRecord) (fault : Option RowKind) → ends_by layout files most number row_record.fields ≡ fault
+  row_first : (number : ℕ) (row_record : CsvRecord) (row_records : List CsvRecord) (fault : Option RowKind) → ends_by layout files most number row_record ≡ fault
       → ((texts : List (List ℕ)) × (last : Option RowKind) × RecordsConvertBy layout files most (number + 1) row_records texts last)
       → (texts : List (List ℕ)) × (last : Option RowKind) × RecordsConvertBy layout files most number (row_record ∷ row_records) texts last
   row_first number row_record row_records (Some k) e rest = ([], Some k, (sym e, refl))
@@ -103,7 +105,7 @@ module _ (layout : Layout) (files : List File) (most : ℕ) (known : All IsKnown
   -- what all records come to
   pub all_come : (number : ℕ) (row_records : List CsvRecord) → (texts : List (List ℕ)) × (last : Option RowKind) × RecordsConvertBy layout files most number row_records texts last
   all_come number [] = ([], None, (refl, refl))
-  all_come number (row_record ∷ row_records) = row_first number row_record row_records (ends_by layout files most number row_record.fields) refl (all_come (number + 1) row_records)
+  all_come number (row_record ∷ row_records) = row_first number row_record row_records (ends_by layout files most number row_record) refl (all_come (number + 1) row_records)
 
   more_by : (number : ℕ) (rs more : List CsvRecord) (rows : RowsOf) (fault : Option RowKind) → rows.fault ≡ fault → (are : AreRowsOf layout files most number rs rows)
       → (texts : List (List ℕ)) × (last : Option RowKind) × RecordsConvertBy layout files most number (rs ++ more) texts last × (others : List (List ℕ)) × (texts ≡ are.texts ++ others)
@@ -113,6 +115,6 @@ module _ (layout : Layout) (files : List File) (most : ℕ) (known : All IsKnown
       (are.texts ++ texts, last, come_after layout files most number rs more are.texts texts last (rw e at are.come) come, texts, refl)
 
   -- rows of the first records, and what all come to
-  pub come_to_more : (number : ℕ) (rs more : List CsvRecord) (rows : RowsOf) → (are : AreRowsOf layout files most number rs rows)
+  pub more_than : (number : ℕ) (rs more : List CsvRecord) (rows : RowsOf) → (are : AreRowsOf layout files most number rs rows)
       → (texts : List (List ℕ)) × (last : Option RowKind) × RecordsConvertBy layout files most number (rs ++ more) texts last × (others : List (List ℕ)) × (texts ≡ are.texts ++ others)
-  come_to_more number rs more rows are = more_by number rs more rows rows.fault refl are
+  more_than number rs more rows are = more_by number rs more rows rows.fault refl are

@@ -2,7 +2,7 @@
 use Rattle.std.proofs.Common.{◌≡◌, ◌<◌, ◌≤◌, ◌+◌, ℕ, suc, List, [], ◌∷◌, ◌++◌, length, get_or, drop, take, Option, Some, None, refl, sym, ap, ◌∙◌, append_assoc, arith}
 use Rattle.std.proofs.Math.Seq.{take-suc}
 use Rattle.std.proofs.lemmas.List.{append-nil, take-append-drop}
-use Rattle.zic_base.specs.declared.row_fault.RowFault.{RowFault}
+use Rattle.zic_plan.specs.Noted.{RowNote}
 use Rattle.zic_base.specs.declared.row_fault.RowKind.{RowKind}
 use Rattle.zic_convert.specs.code.Row.{RowsOf, empty_rows}
 use Rattle.zic_convert.specs.code.Pieces.{followed_by, joined}
@@ -91,4 +91,4 @@ module _ (pieces : List RowsOf) (i : ℕ) where
     next_fault = ap (λ (r : RowsOf). r.fault) next_is ∙ (before_none rows rows.fault refl).fault
 
     pub next_faults : (joined (take (i + 1) pieces)).faults ≡ (joined (take i pieces)).faults ++ rows.faults
-    next_faults = ap (λ (r : RowsOf). r.faults) next_is ∙ ap (λ (l : List RowFault). (joined (take i pieces)).faults ++ l) (before_none rows rows.fault refl).faults
+    next_faults = ap (λ (r : RowsOf). r.faults) next_is ∙ ap (λ (l : List RowNote). (joined (take i pieces)).faults ++ l) (before_none rows rows.fault refl).faults

@@ -1,23 +1,32 @@
 -- The rows of a column.
-use Rattle.std.specs.Prelude.{◌≡◌, ℕ, codes, List, [], ◌∷◌, ◌++◌, drop, length, Option}
+use Rattle.std.specs.Prelude.{◌≡◌, ℕ, ◌+◌, min, codes, List, [], ◌∷◌, ◌++◌, drop, length, Option, None, option_map}
 use Rattle.std.specs.List.{concat}
 use Rattle.csv.specs.Reading.{strip_bom}
 use Rattle.zic_columns.specs.Column.{AreColumnRecords}
 use Rattle.zic_columns.specs.Exchange.{exchanged}
 use Rattle.zic_columns.specs.Lines.{AreRecordsBy, delimited_texts_by}
 use Rattle.zic_columns.specs.Own.{CsvRecord, first_text}
+use Rattle.zic_columns.specs.Truncated.{truncated}
 use Rattle.zic_files.specs.File.{File}
 use Rattle.zic_plan.specs.Layout.{records_before}
+use Rattle.zic_plan.specs.declared.layout.AtFault.{AtFault}
+use Rattle.zic_plan.specs.declared.layout.AtFault.TheVariants as at
 use Rattle.zic_plan.specs.declared.layout.Header.{Header}
 use Rattle.zic_plan.specs.declared.layout.Header.TheVariants as header
 use Rattle.zic_plan.specs.declared.layout.Layout.{Layout}
+use Rattle.zic_plan.specs.declared.layout.Records.{Records}
+use Rattle.zic_plan.specs.declared.layout.Records.TheVariants as by
+use Rattle.zic_plan.specs.declared.plan.TheConstants.{MAX_BYTES}
 use Rattle.zic_plan.specs.declared.layout.RowStart.{RowStart}
 use Rattle.zic_plan.specs.declared.layout.RowStart.TheVariants as start
+use Rattle.zic_plan.specs.declared.layout.Style.{Style}
+use Rattle.zic_plan.specs.declared.layout.Style.TheVariants as styles
 use Rattle.zic_plan.specs.declared.layout.TimeFrom.{TimeFrom}
 use Rattle.zic_plan.specs.declared.layout.TimeFrom.TheVariants as from
 use Rattle.zic_base.specs.declared.row_fault.RowKind.{RowKind}
 use Rattle.zic_convert.specs.Rows.{RecordsConvertTo}
-use Rattle.zic_convert.specs.LayoutRows.{RecordsConvertBy}
+use Rattle.zic_plan.specs.Noted.{RowNote}
+use Rattle.zic_convert.specs.LayoutRows.{RecordsConvertBy, faults_by}
 
 -- The texts of a column's rows up to the first that has a fault, and that fault, or none. Rows count from 1, and there may be at most
 -- this number. The records are those of CSV with commas and double quotes, without a header row. A byte order mark at the start is none
@@ -33,12 +42,25 @@ pub record ConvertsBodyTo (files : List File) (most : ℕ) (column : List ℕ) (
   pub are : AreColumnRecords (strip_bom column) records
   pub rows : RecordsConvertTo files most 1 (drop 1 records) texts fault
 
+-- How many bytes of each line of a column are read, where a line that is too long is a row with a fault: four more than a line may have. So a
+-- line that is too long stays too long, also the first, of which a byte order mark may take three bytes.
+abbrev pub read_of_lines : AtFault → Records → Option ℕ → Option ℕ
+read_of_lines at.End mode most = None
+read_of_lines at.GoOn by.Csv most = None
+read_of_lines at.GoOn by.Lines most = option_map (λ most. min most MAX_BYTES + 4) most
+read_of_lines at.Reject by.Csv most = None
+read_of_lines at.Reject by.Lines most = option_map (λ most. min most MAX_BYTES + 4) most
+
+-- the column as it is read by a layout: whole, or its lines truncated
+abbrev pub read_by : Layout → List ℕ → List ℕ
+read_by layout column = truncated (read_of_lines layout.at_fault layout.records layout.max_record) column
+
 -- The records of a column that make rows by a layout, each with its own bytes: those of CSV with the layout's delimiter and double quotes,
 -- or of each line, as the layout says, but for the header, if there is one. A byte order mark at the start is none of the column, and a
--- line without a byte makes no record.
+-- line without a byte makes no record. Where lines that have too many bytes are rows with a fault, each line is truncated.
 pub record AreRowRecords (layout : Layout) (column : List ℕ) (row_records : List CsvRecord) : Type 0 where
   pub all : List CsvRecord
-  pub are : AreRecordsBy layout.records layout.delimiter (strip_bom column) all
+  pub are : AreRecordsBy layout.records layout.delimiter (strip_bom (read_by layout column)) all
   pub is : row_records ≡ drop (records_before layout.header) all
 
 -- The texts of a column's rows by a layout, up to the first that ends the run, and its fault, or none. Rows count from 1, and there may be
@@ -49,21 +71,27 @@ pub record ConvertsBy (files : List File) (layout : Layout) (most : ℕ) (column
   pub rows : RecordsConvertBy layout files most 1 row_records texts fault
 
 -- the line of names before rows that begin with a name and an instant, or a local time: own choice
-abbrev pub row_names : TimeFrom → List ℕ
-row_names from.Count = codes "zone,instant,local,offset,daylight,abbreviation" ++ 10 ∷ []
-row_names from.Rfc3339 = codes "zone,instant,local,offset,daylight,abbreviation" ++ 10 ∷ []
-row_names (from.Local choice) = codes "zone,local,instant,offset,daylight,abbreviation" ++ 10 ∷ []
+abbrev pub row_names : Style → TimeFrom → List ℕ
+row_names styles.Fields from.Count = codes "zone,instant,local,offset,daylight,abbreviation" ++ 10 ∷ []
+row_names styles.Fields from.Rfc3339 = codes "zone,instant,local,offset,daylight,abbreviation" ++ 10 ∷ []
+row_names styles.Fields (from.Local choice) = codes "zone,local,instant,offset,daylight,abbreviation" ++ 10 ∷ []
+row_names styles.Iso from.Count = codes "zone,instant,local,daylight,abbreviation" ++ 10 ∷ []
+row_names styles.Iso from.Rfc3339 = codes "zone,instant,local,daylight,abbreviation" ++ 10 ∷ []
+row_names styles.Iso (from.Local choice) = codes "zone,local,instant,time,daylight,abbreviation" ++ 10 ∷ []
 
--- a line, where a header is written and rows begin so
+-- the line, where a header is written and rows begin with names, and else nothing
 abbrev pub names_of : RowStart → Header → List ℕ → List ℕ
 names_of start.Fields header.First line = line
 names_of _ _ line = []
 
 -- the names of the fields that a row adds to its record: own choice
-abbrev pub added_names : TimeFrom → List ℕ
-added_names from.Count = codes ",local,offset,daylight,abbreviation"
-added_names from.Rfc3339 = codes ",local,offset,daylight,abbreviation"
-added_names (from.Local choice) = codes ",instant,offset,daylight,abbreviation"
+abbrev pub added_names : Style → TimeFrom → List ℕ
+added_names styles.Fields from.Count = codes ",local,offset,daylight,abbreviation"
+added_names styles.Fields from.Rfc3339 = codes ",local,offset,daylight,abbreviation"
+added_names styles.Fields (from.Local choice) = codes ",instant,offset,daylight,abbreviation"
+added_names styles.Iso from.Count = codes ",local,daylight,abbreviation"
+added_names styles.Iso from.Rfc3339 = codes ",local,daylight,abbreviation"
+added_names styles.Iso (from.Local choice) = codes ",instant,time,daylight,abbreviation"
 
 -- the own bytes of the header that is written, if one is, by those of all records
 abbrev pub own_header : Header → List (List ℕ) → List ℕ
@@ -72,17 +100,17 @@ own_header header.First texts = first_text texts
 own_header header.Skipped texts = []
 
 -- a column's header with those names, where rows begin with their records; a record has a byte or more
-abbrev pub header_of : RowStart → TimeFrom → ℕ → List ℕ → List ℕ
-header_of start.Record time delimiter (byte ∷ own) = (byte ∷ own) ++ (exchanged delimiter (added_names time) ++ 10 ∷ [])
-header_of _ time delimiter _ = []
+abbrev pub header_of : RowStart → Style → TimeFrom → ℕ → List ℕ → List ℕ
+header_of start.Record style time delimiter (byte ∷ own) = (byte ∷ own) ++ (exchanged delimiter (added_names style time) ++ 10 ∷ [])
+header_of _ style time delimiter _ = []
 
 -- what is written before a column is read: the line of names, or nothing
 abbrev pub names_line : Layout → List ℕ
-names_line layout = names_of layout.start layout.header (exchanged layout.delimiter (row_names layout.from))
+names_line layout = names_of layout.start layout.header (exchanged layout.delimiter (row_names layout.style layout.from))
 
 -- and once its header was read
 abbrev pub own_line : Layout → List ℕ → List ℕ
-own_line layout column = header_of layout.start layout.from layout.delimiter (own_header layout.header (delimited_texts_by layout.records layout.delimiter (strip_bom column)))
+own_line layout column = header_of layout.start layout.style layout.from layout.delimiter (own_header layout.header (delimited_texts_by layout.records layout.delimiter (strip_bom (read_by layout column))))
 
 -- The header that is written before the rows of a column: own choice. It is the line of names where rows begin with names,
 -- and else the column's own header, with the names of the fields that rows add. It is nothing where the column has none, or it is skipped.
@@ -95,3 +123,14 @@ pub record AreRowsOfColumn (files : List File) (most : ℕ) (column text : List 
   pub converts : ConvertsTo files most column texts fault
   pub text_is : text ≡ concat texts
   pub count_is : count ≡ length texts
+
+-- The text of a column's header and of its rows by a layout, up to the first that ends the run, how many rows there are, the fault that ends
+-- the run, or none, and what is noted of the rows before it that have one.
+pub record AreRowsByLayout (files : List File) (layout : Layout) (most : ℕ) (column text : List ℕ) (count : ℕ) (fault : Option RowKind) (faults : List RowNote) : Type 0 where
+  pub row_records : List CsvRecord
+  pub are : AreRowRecords layout column row_records
+  pub texts : List (List ℕ)
+  pub rows : RecordsConvertBy layout files most 1 row_records texts fault
+  pub text_is : text ≡ header_text layout column ++ concat texts
+  pub count_is : count ≡ length texts
+  pub faults_are : faults ≡ faults_by layout files most 1 row_records

@@ -8,7 +8,7 @@ use Rattle.zic_plan.specs.declared.layout.Layout.{Layout}
 use Rattle.zic_base.specs.declared.row_fault.RowKind.{RowKind}
 use Rattle.zic_convert.specs.Column.{ConvertsBodyTo, ConvertsBy, ConvertsTo}
 
--- By the files of a source a column converts to one list of texts, and one fault or none, also by each layout.
+-- By the files of a source a column converts to at most one list of texts, and one fault or none, also by each layout.
 pub record ColumnsConvertOnce : Type 0 where
   pub all : (files : List File) (most : ℕ) (column : List ℕ) (a b : List (List ℕ)) (fault other : Option RowKind) → AreSoundFiles files
       → ConvertsTo files most column a fault → ConvertsTo files most column b other → (a ≡ b) × (fault ≡ other)

@@ -31,11 +31,13 @@ abbrev pub is_closed : List (List ℕ) → Bool
 is_closed [] = false
 is_closed (field ∷ fields) = true
 
--- The checks of a row in order: there may be as many rows, the double quotes of its record are closed, its record has the right number of
--- fields, its zone is known, its field tells an instant, or has this fault, and a row may have that instant.
-abbrev pub row_checks : (may_be closed has_fields has_zone has_instant : Bool) → RowKind → (is_within : Bool) → List (Check RowKind)
-row_checks may_be closed has_fields has_zone has_instant fault is_within =
+-- The checks of a row in order: there may be as many rows, its record has no more bytes than it may have, the double quotes of its record
+-- are closed, its record has the right number of fields, its zone is known, its field has an instant, or has this fault, and a row may
+-- have that instant.
+abbrev pub row_checks : (may_be short closed has_fields has_zone has_instant : Bool) → RowKind → (is_within : Bool) → List (Check RowKind)
+row_checks may_be short closed has_fields has_zone has_instant fault is_within =
     check may_be kind.TooManyRows
+    ∷ check short kind.RowTooLong
     ∷ check closed kind.RowQuote
     ∷ check has_fields kind.RowFields
     ∷ check has_zone kind.RowZone
@@ -43,10 +45,10 @@ row_checks may_be closed has_fields has_zone has_instant fault is_within =
     ∷ check is_within kind.RowRange
     ∷ []
 
--- the checks of a record as the row of a number, where there is a greatest number of rows
+-- the checks of a record of any length as the row of a number, where there is a greatest number of rows
 abbrev pub checks : List File → ℕ → ℕ → List (List ℕ) → List (Check RowKind)
 checks files most number fields =
-    row_checks (nat_le number most) (is_closed fields) (length fields == 2) (is_named files (name_in fields)) (is_some (instant_in fields)) kind.RowInstant (is_row_instant (instant_in fields))
+    row_checks (nat_le number most) true (is_closed fields) (length fields == 2) (is_named files (name_in fields)) (is_some (instant_in fields)) kind.RowInstant (is_row_instant (instant_in fields))
 
 -- the fault of a row: of the first check that fails, or none
 abbrev pub fault_of : List File → ℕ → ℕ → List (List ℕ) → Option RowKind

@@ -1,5 +1,5 @@
 -- How the conversion of a column went: own choice.
-use Rattle.std.specs.Prelude.{◌≡◌, ◌⊎◌, ℕ, ◌-◌, List, ◌∷◌, ◌++◌, take, Option, Some, IfSome}
+use Rattle.std.specs.Prelude.{◌≡◌, ◌⊎◌, ℕ, ◌-◌, List, ◌∷◌, ◌++◌, take, Option, IfSome}
 use Rattle.std.specs.List.{concat}
 use Rattle.std.specs.Io.{StartsWith}
 use Rattle.std.specs.Io.KnownBytes.{Appends}
@@ -7,7 +7,8 @@ use Rattle.zic_columns.specs.Own.{CsvRecord}
 use Rattle.zic_counted.specs.Counts.{Counts}
 use Rattle.zic_files.specs.File.{File}
 use Rattle.zic_plan.specs.declared.layout.Layout.{Layout}
-use Rattle.zic_base.specs.declared.row_fault.RowFault.{RowFault}
+use Rattle.zic_base.specs.Growth.{Gains}
+use Rattle.zic_plan.specs.Noted.{RowNote}
 use Rattle.zic_base.specs.declared.row_fault.RowKind.{RowKind}
 use Rattle.zic_base.specs.declared.run_stop.RunStop.{RunStop}
 use Rattle.zic_base.specs.declared.run_stop.RunStop.TheVariants as stop
@@ -15,12 +16,12 @@ use Rattle.zic_convert.specs.Column.{AreRowRecords, header_text, names_line}
 use Rattle.zic_convert.specs.Convert.{WritesAllOf, WritesUpToOf}
 use Rattle.zic_convert.specs.LayoutRows.{RecordsConvertBy, faults_by}
 
--- what the writer held and holds, and the faults that the log had noted and has noted, where these are known
+-- what the writer held and holds, and what the log had noted of rows with a fault and has noted, where these are known
 pub record Output : Type 0 where
   pub held : Option (List ℕ)
   pub held' : Option (List ℕ)
-  pub log : Option (List RowFault)
-  pub log' : Option (List RowFault)
+  pub log : Option (List RowNote)
+  pub log' : Option (List RowNote)
 
 -- The reader and the writer of a conversion, before it and after it, the column that the reader had left, where it is known, and the output.
 pub record Run (R W : Type 0) : Type 0 where
@@ -31,10 +32,10 @@ pub record Run (R W : Type 0) : Type 0 where
   pub column : Option (List ℕ)
   pub output : Output
 
-abbrev pub output_of : {W L : Type 0} → (W → Option (List ℕ)) → (L → Option (List RowFault)) → Counts W → Counts W → L → L → Output
+abbrev pub output_of : {W L : Type 0} → (W → Option (List ℕ)) → (L → Option (List RowNote)) → Counts W → Counts W → L → L → Output
 output_of contents noted writer writer' log log' = record { held = contents writer.inner; held' = contents writer'.inner; log = noted log; log' = noted log' }
 
-abbrev pub run_of : {R W L : Type 0} → (R → Option (List ℕ)) → (W → Option (List ℕ)) → (L → Option (List RowFault))
+abbrev pub run_of : {R W L : Type 0} → (R → Option (List ℕ)) → (W → Option (List ℕ)) → (L → Option (List RowNote))
     → Counts R → Counts R → Counts W → Counts W → L → L → Run R W
 run_of remaining contents noted reader reader' writer writer' log log' = record {
   reader = reader;
@@ -45,9 +46,9 @@ run_of remaining contents noted reader reader' writer writer' log log' = record 
   output = output_of contents noted writer writer' log log';
 }
 
--- What a log has noted, where that is known, grew by these faults.
-abbrev pub Notes : Option (List RowFault) → Option (List RowFault) → List RowFault → Type 0
-Notes old new faults = IfSome old (λ before. new ≡ Some (before ++ faults))
+-- What a log has noted, where that is known, grew by these rows with a fault.
+abbrev pub Notes : Option (List RowNote) → Option (List RowNote) → List RowNote → Type 0
+Notes = Gains
 
 -- A header and all rows of these records were written, there are n rows, and their faults were noted.
 abbrev pub WritesRows : Layout → List File → ℕ → List ℕ → List CsvRecord → ℕ → Output → Type 0
@@ -60,7 +61,7 @@ EndsAtRow layout files most header row_records row kind out =
     WritesUpToOf header (RecordsConvertBy layout files most 1 row_records) row kind out.held out.held' × Notes out.log out.log' (faults_by layout files most 1 row_records)
 
 -- Some lines were written, of the header and the first rows, and the faults of these rows were noted, and no others. Nothing was written
--- after these lines, unless the writer failed: then perhaps a beginning of those that come next.
+-- after these lines, unless a failure of the writer ended the run: then perhaps a beginning of those that come next.
 pub record EndsAfterLines (layout : Layout) (files : List File) (most : ℕ) (header : List ℕ) (row_records : List CsvRecord) (why : RunStop) (out : Output) : Type 0 where
   pub texts : List (List ℕ)
   pub fault : Option RowKind
@@ -93,17 +94,16 @@ abbrev pub EndsBy : {R W : Type 0} → Layout → ℕ → RunStop → Run R W �
 EndsBy layout most why run files = IfSome run.column (λ column.
     (row_records : List CsvRecord) × AreRowRecords layout column row_records × EndsIn layout files most (header_text layout column) row_records why run.output × HasNames layout run.output)
 
--- The line of names could not be written: nothing was read of the column, no zone was asked for, and no fault was noted.
-pub record EndsAtNames {R W Z : Type 0} (layout : Layout) (why : RunStop) (run : Run R W) (zones zones' : Z) : Type 0 where
+-- The line of names could not be written: nothing was read of the column, and no fault was noted.
+pub record EndsAtNames {R W : Type 0} (layout : Layout) (why : RunStop) (run : Run R W) : Type 0 where
   pub is : why ≡ stop.WriteFailed
   pub unread : run.reader' ≡ run.reader
-  pub unasked : zones' ≡ zones
   pub unnoted : run.output.log' ≡ run.output.log
   pub part : List ℕ
   pub starts : StartsWith (names_line layout) part
   pub wrote : Appends run.output.held run.output.held' part
 
--- The zones grew as names were asked for, until the end or until memory was refused. By all files that rows may be made by then, `Ends`
+-- The zones grew as names were requested, until the end or until memory was refused. By all files that rows may be made by then, `Ends`
 -- holds.
 pub record EndsByZones {Z : Type 0} (Grows Breaks : Z → Z → Type 0) (MayBe : Z → List File → Type 0) (old new : Z) (why : RunStop) (Ends : List File → Type 0) : Type 0 where
   pub then : Z

@@ -1,7 +1,7 @@
 //! Some records of a piece, column by column.
 
 ghost use Rattle.std.specs.Prelude.{◌≡◌, ◌≤◌, All, map, take, IfOk, IfSome, OnOk};
-ghost use Rattle.zic_columns.specs.Record.{IsSplit, StandsIn, field_text};
+ghost use Rattle.zic_columns.specs.Record.{IsSplit, IsWithinPiece, field_text};
 ghost use Rattle.zic_columns.specs.declared.splits.TheConstants.{BATCH};
 ghost use Rattle.zic_zones.specs.Zones.{number_of};
 ghost use Rattle.zic_convert.specs.code.Batch.{AreTimes, IfTime, IsNamed, IsTimeIn};
@@ -14,11 +14,11 @@ use zic_plan::{Unit, ZoneFrom};
 use zic_rows::{RowTime, quick_time};
 use zic_zones::RowZones;
 
-/// The second of a time that says nothing. No row may have it.
+/// The second of a time that isn't known. No row may have it.
 pub(crate) const NO_TIME: i64 = i64::MIN;
 
 /// Columns of some records: where their fields stand, the numbers of their zones' files, and their
-/// times. `None` of a zone says that no file has the name, and a time of [`NO_TIME`] says nothing.
+/// times. A zone is `None` if no file has its name, and a time is [`NO_TIME`] if it isn't known.
 #[derive(Drop)]
 pub(crate) struct Batch {
     pub(crate) records: [Record; BATCH],
@@ -27,7 +27,7 @@ pub(crate) struct Batch {
 }
 
 impl Batch {
-    /// Returns columns that tell nothing.
+    /// Returns a batch without records.
     pub(crate) fn new() -> Batch {
         let span = Span { start: 0, end: 0 };
         let field = Field::Plain(span);
@@ -44,7 +44,7 @@ impl Batch {
         }
     }
 
-    /// Fills the columns after the first, whose first `count` records are of the piece.
+    /// Fills in the zones and times of the first `count` records, which are of the piece.
     pub(crate) fn fill(
         &mut self,
         alloc: Global,
@@ -116,7 +116,7 @@ fn find_field(
     piece: &[u8],
     field: Field,
 ) -> Result<Option<usize>, AllocError>
-    requires { StandsIn piece.now field }
+    requires { IsWithinPiece piece.now field }
     ensures { IfOk result (λ file. file ≡ number_of zones.now (field_text piece.now field)) }
 {
     match field {
@@ -146,7 +146,7 @@ fn read_times(
     }
 }
 
-/// Returns a time that says nothing.
+/// Returns a time that isn't known.
 #[inline(always)]
 fn no_time(unit: Unit) -> RowTime
     ensures { result.second ≡ NO_TIME }
@@ -158,11 +158,11 @@ fn no_time(unit: Unit) -> RowTime
     }
 }
 
-/// Returns the time that a field of a piece has in plain decimals, where a row may have it. One of
-/// [`NO_TIME`] says nothing.
+/// Reads the time of a field of a piece in plain decimals. Returns one of [`NO_TIME`] if the field isn't
+/// that, or no row may have it.
 #[inline(always)]
 fn read_time(piece: &[u8], field: Field, unit: Unit) -> RowTime
-    requires { StandsIn piece.now field }
+    requires { IsWithinPiece piece.now field }
     ensures { IfTime result (IsTimeIn unit piece.now field) }
 {
     let Field::Plain(span) = field else {

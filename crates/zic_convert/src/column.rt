@@ -26,7 +26,11 @@ pub struct ColumnRows {
 const MANY_ROWS: usize = 65_536;
 
 /// Makes the zones of files ready for a column of this length in bytes.
-fn zones_for(alloc: Global, files: &Files, len: usize) -> Result<SourceZones<'_>, AllocError>
+pub(crate) fn zones_for(
+    alloc: Global,
+    files: &Files,
+    len: usize,
+) -> Result<SourceZones<'_>, AllocError>
     ensures { IfOk result (λ zones. zones ≡ files.now) }
 {
     if len < MANY_ROWS {

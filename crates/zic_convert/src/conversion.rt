@@ -17,12 +17,14 @@ ghost use Rattle.zic_convert.specs.Run.{output_of, run_of};
 ghost use Rattle.zic_convert.specs.code.Halt.{IsCauseOfHalt, IsEnd, IsReadingStop, stop_of};
 ghost use Rattle.zic_convert.specs.code.Progress.{BeginsRows, ConvertsColumn, ConvertsRest};
 ghost use Rattle.zic_convert.specs.code.Progress.{EndsInColumn, EndsInRest, HaltsAtHead};
-ghost use Rattle.zic_convert.specs.code.Progress.{EndsAtTaking, TakesNext, own_line_in};
+ghost use Rattle.zic_convert.specs.code.Progress.{EndsAtTaking, TakesNext, longest_of, own_line_in};
 ghost use Rattle.zic_convert.specs.code.Row.{taken_rows};
 ghost use Rattle.zic_convert.specs.code.Written.{EndsInRecords, WritesRecords};
 
+use crate::faulty::aside;
 use crate::halt::Halt;
 use crate::laws::plain_columns_convert_alike;
+use crate::long::{end_at_long, longest_of, read_of_lines};
 use crate::opened::write_open_line;
 use crate::output::{flush, write_header, write_names};
 use crate::pieces::RowPieces;
@@ -32,15 +34,15 @@ use std::alloc::Global;
 use std::io::{Read, Write};
 use std::sync::Wait;
 use std::thread::Threads;
-use zic_base::{FaultLog, RunStop, Unnoted};
+use zic_base::RunStop;
 use zic_columns::laws::{
     column_records_are_read, records_by_are_exchanged, texts_by_are_exchanged,
 };
-use zic_columns::{Column, Exchanged, Round, Taken, Unread};
+use zic_columns::{Column, Exchanged, Round, Taken, Truncated, Unread};
 use zic_counted::Counted;
 use zic_files::Files;
 use zic_pieces::Gate;
-use zic_plan::{Header, Layout, Plan};
+use zic_plan::{Header, Layout, Plan, RowLog, Unnoted};
 use zic_tzif::laws::files_answer_once;
 use zic_zones::{SourceZones, Zones};
 
@@ -60,8 +62,8 @@ const PIECES_FOR_ONE: u64 = 3;
 /// The number of bytes that a record usually has.
 const USUAL_RECORD: u64 = 48;
 
-/// What a column is converted by, apart from its zones: threads, memory, how work is shared and how
-/// long the column may be, what the column has, and what workers pass before each piece.
+/// What a conversion runs with besides zones: the runtime, the allocator, the plan, the layout and the
+/// gate.
 #[derive(Drop)]
 pub struct Conversion<'a, T, G> {
     pub rt: &'a T,
@@ -82,19 +84,21 @@ fn round_len(plan: &Plan) -> usize {
     usual.clamp(SHORTEST_ROUND, LONGEST_ROUND) as usize
 }
 
-/// Takes the next round of a column, and makes the zones of its records ready, or the next open line.
-/// Returns what it took.
+/// Takes the next round of a column, and makes the zones of its records ready, or the next open line,
+/// or nothing where more bytes are in hand of a record that goes on than the layout allows and the run
+/// ends there. Returns what it took.
 ///
 /// # Errors
 ///
-/// `Unread` where the column can't be read on, before any zone is asked for, or `Memory`.
+/// `Unread` where the column can't be read on, before any zone is requested, or `Memory`.
 fn next_round<T, G, Z: Zones, R: Read>(
     conversion: &Conversion<'_, T, G>,
     zones: &mut Z,
     column: &mut Column<R>,
 ) -> Result<Taken, Halt>
     ensures takes { IfOk result
-        (TakesNext R.remaining conversion.now.plan.now.row_piece column.old column.new) }
+        (TakesNext R.remaining conversion.now.plan.now.row_piece
+        (longest_of conversion.now.layout.now) column.old column.new) }
     ensures grown { IfOk result (λ _. Z.grown zones.old zones.new) }
     ensures settled { IfOk result (λ _. All (Z.settled zones.new)
         (map (zone_in conversion.now.layout.now.zone) (records_of column.new.round))) }
@@ -102,7 +106,8 @@ fn next_round<T, G, Z: Zones, R: Read>(
 {
     let plan = conversion.plan;
     let size = plan.row_piece() as usize;
-    let taken = column.next_round(conversion.alloc, round_len(plan), size)?;
+    let longest = longest_of(conversion.layout);
+    let taken = column.next_round(conversion.alloc, round_len(plan), size, longest)?;
     zones.prepare(conversion.alloc, &conversion.layout.zone, &column.round())?;
     Ok(taken)
 }
@@ -121,7 +126,7 @@ struct NextRows<'a> {
 /// # Errors
 ///
 /// `Memory`, or what ends a round.
-fn convert_ready<T: Threads + Wait + Sync, G: Gate + Sync, Z: Zones, W: Write, L: FaultLog>(
+fn convert_ready<T: Threads + Wait + Sync, G: Gate + Sync, Z: Zones, W: Write, L: RowLog>(
     conversion: &Conversion<'_, T, G>,
     zones: &Z,
     round: Round<'_>,
@@ -131,6 +136,7 @@ fn convert_ready<T: Threads + Wait + Sync, G: Gate + Sync, Z: Zones, W: Write, L
 ) -> Result<u64, RunStop>
     requires first { next.now.first ≤ MAX_ROWS + 1 }
     requires some { next.now.taken.now ≡ Taken.End → ⊥ }
+    requires short { next.now.taken.now ≡ Taken.TooLong → ⊥ }
     requires few { length round ≤ MAX_ROUND_PIECES }
     requires cut { ArePiecesOf conversion.now.plan.now.row_piece round }
     ensures ok { IfOk result (WritesRecords conversion.now.layout.now (Z.known zones.now)
@@ -157,21 +163,14 @@ fn convert_ready<T: Threads + Wait + Sync, G: Gate + Sync, Z: Zones, W: Write, L
     convert_round(conversion, &pieces, writer, log)
 }
 
-/// Converts what is left of a column, round by round: takes a round, has its zones made ready, has it
-/// converted, and writes its rows before it reads on. An open line is taken by itself, between rounds.
-/// Returns the number of rows.
+/// Converts the rest of a column. The rows of each round are written before it reads on, and an open
+/// line is taken by itself, between rounds. Returns the number of rows.
 ///
 /// # Errors
 ///
-/// `Unread` where the column can't be read on, `Memory`, or what ends a round.
-fn convert_rounds<
-    T: Threads + Wait + Sync,
-    G: Gate + Sync,
-    Z: Zones,
-    R: Read,
-    W: Write,
-    L: FaultLog,
->(
+/// `Unread` where the column can't be read on, `Memory`, or what ends a round. A record that is longer
+/// than the layout allows and ends the run does so even where it isn't read to its end.
+fn convert_rounds<T: Threads + Wait + Sync, G: Gate + Sync, Z: Zones, R: Read, W: Write, L: RowLog>(
     conversion: &Conversion<'_, T, G>,
     zones: &mut Z,
     column: &mut Column<R>,
@@ -204,6 +203,10 @@ fn convert_rounds<
         if let Taken::End = taken {
             break 'rounds;
         }
+        if let Taken::TooLong = taken {
+            let most = conversion.plan.max_rows();
+            return Err(Halt::Stop(end_at_long(writer, most, count + 1)));
+        }
         let round = column.round();
         let next = NextRows {
             taken: &taken,
@@ -228,7 +231,7 @@ struct Begun<R: Read> {
 ///
 /// # Errors
 ///
-/// `Unread` where the column can't be read on.
+/// `Unread` where the column can't be read on, or the header is longer than the layout allows.
 fn begin_column<R: Read + Drop>(
     alloc: Global,
     plan: &Plan,
@@ -243,36 +246,39 @@ fn begin_column<R: Read + Drop>(
         ≡ own_header layout.now.header (texts_by layout.now.records (strip_bom bytes)))) }
 {
     let mut column = Column::new(alloc, reader, plan.max_bytes(), layout.records)?;
+    let (wanted, longest) = (round_len(plan), layout.max_record);
     match layout.header {
         Header::Absent => {
             let header = Vec::new(alloc);
             Ok(Begun { column, header })
         }
         Header::First => {
-            let header = column.pass_record(alloc, round_len(plan))?;
+            let header = column.pass_record(alloc, wanted, longest)?;
             Ok(Begun { column, header })
         }
         Header::Skipped => {
-            let _skipped = column.pass_record(alloc, round_len(plan))?;
+            let _skipped = column.pass_record(alloc, wanted, longest)?;
             let header = Vec::new(alloc);
             Ok(Begun { column, header })
         }
     }
 }
 
-/// Begins a column after its header, if it has one, and writes the header with names added before rows
-/// that begin with their records.
+/// Skips the header of a column, if it has one. Writes it with names added if rows begin with their
+/// records, and logs it if records are put aside.
 ///
 /// # Errors
 ///
 /// `Unread` where the column can't be read on, `Memory`, or `WriteFailed`.
-fn begin_rows<R: Read + Drop, W: Write>(
+pub(crate) fn begin_rows<R: Read + Drop, W: Write, L: RowLog>(
     alloc: Global,
     plan: &Plan,
     layout: &Layout,
     reader: R,
     writer: &mut Counted<W>,
+    log: &mut L,
 ) -> Result<Column<R>, Halt>
+    ensures noted { L.noted log.new ≡ L.noted log.old }
     ensures by { IfOk result (λ column. column.by ≡ layout.now.records) }
     ensures begins { IfOk result (λ column. IfSome (R.remaining reader)
         (λ bytes. BeginsRows layout.now bytes (unread R.remaining column))) }
@@ -284,6 +290,8 @@ fn begin_rows<R: Read + Drop, W: Write>(
         (R.remaining reader)) }
 {
     let Begun { column, header } = begin_column(alloc, plan, layout, reader)?;
+    let own = aside(alloc, layout, &header)?;
+    log.begin(&own);
     write_header(writer, layout, header)?;
     Ok(column)
 }
@@ -299,7 +307,7 @@ fn convert_rows<
     Z: Zones,
     R: Read + Drop,
     W: Write,
-    L: FaultLog,
+    L: RowLog,
 >(
     conversion: &Conversion<'_, T, G>,
     zones: &mut Z,
@@ -323,8 +331,17 @@ fn convert_rows<
     records_by_are_exchanged();
     texts_by_are_exchanged();
     let layout = conversion.layout;
-    let exchanged = Exchanged::new(reader, layout.delimiter.byte());
-    let mut column = begin_rows(conversion.alloc, conversion.plan, layout, exchanged, writer)?;
+    let most = conversion.plan.max_bytes();
+    let short = Truncated::new(reader, read_of_lines(layout), most);
+    let exchanged = Exchanged::new(short, layout.delimiter.byte());
+    let mut column = begin_rows(
+        conversion.alloc,
+        conversion.plan,
+        layout,
+        exchanged,
+        writer,
+        log,
+    )?;
     convert_rounds(conversion, zones, &mut column, writer, log)
 }
 
@@ -342,7 +359,7 @@ fn reading_stop<R>(reader: &Counted<R>, failures: u64, taken: u64, most: u64) ->
     RunStop::Memory
 }
 
-/// Returns how a conversion ends whose column had this outcome. The reader had counted `failures`
+/// Turns the outcome of a column into the result of its conversion. The reader had counted `failures`
 /// failures and `taken` bytes before, and may have taken `most` bytes since.
 ///
 /// The reader's own counts decide whether a read failed, or too many bytes were taken.
@@ -365,12 +382,13 @@ fn ended<R>(
 }
 
 /// Converts a column by a layout and by zones, and writes its header and its rows. Returns the number
-/// of rows, without the header.
+/// of rows, with those whose records are put aside, and without the header.
 ///
 /// The layout says which bytes stand between fields, of records and of rows; whether a record is one of
-/// CSV or each line is one; whether the first record is a header, which makes no row and isn't counted, and whether one is written; where a
-/// row's zone and its instant come from, and how many fields a record has; and how an instant is
-/// written, and what it counts. An instant is an optional `-` and 1 to 18 digits, and as many more as
+/// CSV or each line is one; whether the first record is a header, which makes no row and isn't counted,
+/// and whether one is written; where a row's zone and its instant come from, and how many fields a
+/// record has, and how many bytes; how an instant is written, and what it counts; and whether a row has
+/// local time and offset in two fields or in one. An instant is an optional `-` and 1 to 18 digits, and as many more as
 /// a fraction of a second has; or, by the layout's `from`, a date and a time of day with a UT offset.
 /// A row shows local time of its whole second, rounded down, and with that fraction. Or a record has,
 /// by `from`, a local time, a date and a time of day without an offset: its row has that local time and
@@ -381,13 +399,19 @@ fn ended<R>(
 /// is written, the line `zone,instant,local,offset,daylight,abbreviation`, with the layout's
 /// delimiter, is written before the column is read, or `zone,local,instant` and the same three. Where
 /// it begins with the record and a header is written, the column's own header comes first, with the
-/// names `local` or `instant`, `offset`, `daylight` and `abbreviation` added.
+/// names `local` or `instant`, `offset`, `daylight` and `abbreviation` added. In one field with its
+/// offset, a local time is `local`, or `time` after the instant of a local time, and no name `offset`
+/// stands there.
 ///
 /// As the layout's `at_fault` says, the first row with a fault ends the conversion, or rows with
-/// faults are written. Such a row has the instant or the local time as its record has it, and empty
-/// fields in the place of the other four; where the record has another number of fields than the
-/// layout's, or is a line whose double quotes are open at its end, the row is only the record's own
-/// bytes. The log takes note of the fault. A header that is such a line is one as any other.
+/// faults are written, or their records are put aside and nothing of them is written. A row with a
+/// fault that is written has the instant or the local time as its record has it, and empty fields in
+/// place of the others; where the record has another number of fields than the layout's, too many bytes,
+/// or is a line whose double quotes are open at its end, the row is only the record's own bytes. The log
+/// takes note of the fault, and of the record's own bytes where it is put aside. A header that is such a
+/// line is one as any other. Where each line is a record and the run goes on at faults, no more than four
+/// bytes of a line are read beyond the most that the layout allows, and the others are dropped: they
+/// are in no row and no note.
 ///
 /// The column is read in rounds. Before a round is converted, its zones are made ready. The plan's
 /// workers convert the pieces of a round, which have the number of records that the plan says, and
@@ -399,31 +423,33 @@ fn ended<R>(
 /// # Errors
 ///
 /// - `Row` at the first row that ends the conversion, with its number, from 1, and the first of its
-///   kinds: a row more than the plan allows, a line whose double quotes are open at its end, where each
-///   line is a record, a record of another number of fields than the layout's,
-///   a name that no file has, no instant, or a whole second out of range. All rows before it were
-///   written and flushed, and no failure of the writer was counted. Where rows with faults are
-///   written, only `TooManyRows` ends the conversion as `Row`.
+///   kinds: a row more than the plan allows, a record of more bytes than the layout allows, a line whose
+///   double quotes are open at its end, where each line is a record, a record of another number of fields than the layout's, a name that no file has,
+///   no instant or local time, a local time that no instant or more than one has, or a whole second out
+///   of range. All rows before it were written and flushed, and no failure of the writer was counted.
+///   Where rows with faults are written or their records put aside, only `TooManyRows` ends the
+///   conversion as `Row`, and of records of CSV also `RowTooLong`.
 /// - `ReadFailed` or `WriteFailed` where the reader or writer counted a failure. Each error of the
 ///   reader or writer ends the call, also one at which others try again, and so does a write that
 ///   takes no byte. A reader that ended is not read again. Where the line of names can't be written,
 ///   nothing is read of the column.
 /// - `ColumnTooLong` where the reader gave more bytes than the plan allows, or its count of bytes
 ///   stands at the greatest `u64`.
-/// - `Memory` where memory is refused. Where it is refused as zones are made ready, these are of no
-///   use.
+/// - `Memory` where memory is refused, or the header has more bytes than a record may have. Where memory
+///   is refused as zones are made ready, these are of no use.
 ///
-/// `Source` and `NoThread` are never returned. After every error other than `Row`, some lines were
-/// written, of the header and of the rows, and the faults of these rows were noted, and no others.
-/// Nothing was written after these lines, except after `WriteFailed`: then perhaps a beginning of
-/// those to come. How much of the column was read is open.
+/// `Source` and `NoThread` are never returned. After every error other than `Row`, the lines up to
+/// some line were written, of the header and of the rows; the faults of the rows up to there were
+/// noted, also of those whose records are put aside, and no others. Nothing was written after these
+/// lines, except after `WriteFailed`: then perhaps a beginning of those to come. How much of the column
+/// was read is open.
 pub fn convert_column<
     T: Threads + Wait + Sync,
     G: Gate + Sync,
     Z: Zones,
     R: Read,
     W: Write,
-    L: FaultLog,
+    L: RowLog,
 >(
     conversion: &Conversion<'_, T, G>,
     zones: &mut Z,
@@ -440,8 +466,8 @@ pub fn convert_column<
     ensures unfailed { IfOk result (λ _. HasFailedSince reader.new reader.old.failures → ⊥) }
     ensures flushed { IfOk result (λ _. writer.new.failures ≡ writer.old.failures) }
     ensures err { IfErr result (λ stop.
-        EndsAtNames conversion.now.layout.now stop (run_of R.remaining W.contents L.noted
-        reader.old reader.new writer.old writer.new log.old log.new) zones.old zones.new
+        (EndsAtNames conversion.now.layout.now stop (run_of R.remaining W.contents L.noted
+        reader.old reader.new writer.old writer.new log.old log.new) × (zones.new ≡ zones.old))
         ⊎ EndsByZones Z.grown Z.broken Z.may_be zones.old zones.new stop
         (EndsBy conversion.now.layout.now conversion.now.plan.now.max_rows stop (run_of R.remaining
         W.contents L.noted reader.old reader.new writer.old writer.new log.old log.new))) }
@@ -470,10 +496,10 @@ pub fn convert_column<
 /// `-` and 1 to 18 digits: seconds from 1970-01-01T00:00:00 UT without leap seconds, from
 /// -62,135,510,400 to 253,402,214,399.
 ///
-/// The column is read in rounds. A round is all whole records in hand, as soon as there are some
-/// pieces for each worker, or a read gives fewer than 64 KiB. The plan's workers convert the pieces
-/// of a round, which have the number of records that the plan says, and pass the gate before each.
-/// The calling thread is one of them. The rows of a round are written and flushed before the column
+/// The column is read in rounds. A round is all whole records of what one read gave and of what was
+/// in hand before it; where these have none, the column is read on. The plan's workers convert the
+/// pieces of a round, which have the number of records that the plan says, and pass the gate before
+/// each. The calling thread is one of them. The rows of a round are written and flushed before the column
 /// is read on. None of this changes an answer. Where all is converted, the reader's count of bytes
 /// rose by no more than the plan allows, and no failure of the writer was counted.
 ///

@@ -6,7 +6,7 @@ use zic_base::RunStop;
 /// The reason why a conversion ends early.
 #[derive(Drop)]
 pub(crate) enum Halt {
-    /// The column could not be read on; its reader tells why.
+    /// The column could not be read on; its reader says why.
     Unread,
     /// Another reason.
     Stop(RunStop),

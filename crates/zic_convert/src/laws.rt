@@ -7,8 +7,8 @@ use zic_columns::laws::{
 };
 use zic_tzif::laws::files_answer_once;
 
-/// States that by the files of a source a column converts to one list of texts, and one fault or
-/// none, also by each layout.
+/// States that by the files of a source a column converts to at most one list of texts, and one fault
+/// or none, also by each layout.
 pub fn columns_convert_once()
     ensures { ColumnsConvertOnce }
 {

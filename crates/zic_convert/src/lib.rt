@@ -1,4 +1,4 @@
-//! Converts a column of zone names and instants by zones. The tests stand in `program_tests`.
+//! Converts a column of zone names and instants by zones.
 #![tactic(auto)]
 
 mod batch;
@@ -7,8 +7,12 @@ mod conversion;
 mod faulty;
 mod halt;
 pub mod laws;
+mod local;
 mod log;
+mod long;
 mod lookup;
+mod memory;
+mod only;
 mod opened;
 mod output;
 mod piece;
@@ -21,3 +25,4 @@ mod spare;
 
 pub use column::{ColumnRows, rows_of_column};
 pub use conversion::{Conversion, convert, convert_column};
+pub use memory::{LayoutRows, rows_by_layout};

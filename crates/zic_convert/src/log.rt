@@ -1,14 +1,14 @@
-//! Notes of the faults of rows.
+//! Notes of rows with a fault.
 
 ghost use Rattle.zic_convert.specs.Run.{Notes};
 
-/// Takes note of faults.
-pub(crate) fn note_all<L: FaultLog>(log: &mut L, faults: &[RowFault])
+/// Takes note of rows with a fault.
+pub(crate) fn note_all<L: RowLog>(log: &mut L, faults: &[FaultyRow])
     ensures { Notes (L.noted log.old) (L.noted log.new) faults.now }
 {
     for fault in faults {
-        log.note(*fault);
+        log.note(fault);
     }
 }
 
-use zic_base::{FaultLog, RowFault};
+use zic_plan::{FaultyRow, RowLog};

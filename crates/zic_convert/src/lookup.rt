@@ -1,17 +1,20 @@
 //! Looks up what the row of a record shows, check by check.
 
 ghost use Rattle.std.specs.Prelude.{◌≡◌, ◌<◌, IfOk, IfSome, MatchOption, length, slice_get};
-ghost use Rattle.zic_columns.specs.Record.{IsSplit, StandsIn, field_text};
+ghost use Rattle.zic_columns.specs.Exchange.{exchanged};
+ghost use Rattle.zic_columns.specs.Record.{IsSplit, IsWithinPiece, field_text};
 ghost use Rattle.zic_rows.specs.Count.{count_of, second_of};
 ghost use Rattle.zic_rows.specs.Instant.{IsRowInstant};
 ghost use Rattle.zic_rows.specs.Local.{IsLocalSecond};
 ghost use Rattle.zic_plan.specs.declared.layout.TimeFrom.TheVariants as from;
 ghost use Rattle.zic_zones.specs.Resolved.{resolved};
+ghost use Rattle.zic_convert.specs.declared.lookup.FoundState.TheVariants as found;
 ghost use Rattle.zic_convert.specs.LayoutRows.{file_at, missing, moved};
 ghost use Rattle.zic_convert.specs.code.Batch.{AreTimesOf, IsCountFor, IsFile, IsLocal, IsLookup};
 ghost use Rattle.zic_convert.specs.code.Batch.{IsStateFor, count_at, count_of_times, wanted_by, zone_at};
 
 use crate::faulty::copy_field;
+use crate::only::look_up_only;
 use crate::piece::Piece;
 use std::alloc::{AllocError, Global};
 use zic_base::RowKind;
@@ -19,51 +22,57 @@ use zic_columns::{Field, Record, push_field};
 use zic_local::Unresolved;
 use zic_plan::{Disambiguation, TimeFrom, Unit};
 use zic_rows::{
-    FIRST_INSTANT, LAST_INSTANT, count_from, moment_of, parse_count, parse_local_time,
+    FIRST_INSTANT, LAST_INSTANT, StateText, count_from, moment_of, parse_count, parse_local_time,
     parse_rfc3339,
 };
 
-/// The counts of a record: the one that its field has, of an instant or of a local time, and the one
-/// of the instant.
+/// The counts of a record: `input` is the one in its field, of an instant or of a local time, and `count`
+/// that of the instant.
 #[derive(Clone, Copy, Drop)]
 pub(crate) struct Counts {
-    pub(crate) asked: i128,
+    pub(crate) input: i128,
     pub(crate) count: i128,
 }
 
-/// What was found for a record: the file of its zone, if there is one, its counts, or the fault of a
-/// row that has none, and the number of the state that the file shows at the whole second of the
-/// instant.
+/// The state that a file shows at an instant: by the number that the file gives it, or by its text.
 #[derive(Clone, Copy, Drop)]
-pub(crate) struct Lookup {
+pub(crate) enum FoundState<'s> {
+    Number(usize),
+    Text(&'s StateText),
+}
+
+/// What was found for a record: the file of its zone, if there is one, its counts, or the fault of a
+/// row that has none, and the state that the file shows at the whole second of the instant.
+#[derive(Clone, Copy, Drop)]
+pub(crate) struct Lookup<'s> {
     pub(crate) file: Option<usize>,
     pub(crate) times: Result<Counts, RowKind>,
-    pub(crate) state: usize,
+    pub(crate) state: FoundState<'s>,
 }
 
 /// Looks up the counts of a record and the state at its instant. `file` is the file of the record's
 /// zone.
-pub(crate) fn look_up(
+pub(crate) fn look_up<'s>(
     alloc: Global,
-    piece: &Piece<'_, '_>,
+    piece: &Piece<'_, 's>,
     given: &Record,
     file: Option<usize>,
-) -> Result<Lookup, AllocError>
+) -> Result<Lookup<'s>, AllocError>
     requires split { IsSplit piece.now.bytes.now (wanted_by piece.now.layout.now) given.now }
     requires file { file ≡ zone_at piece.now given.now }
     ensures { IfOk result (IsLookup piece.now given.now) }
 {
-    let asked = match piece.layout.from {
+    let input = match piece.layout.from {
         TimeFrom::Count => read_count(alloc, piece, given)?,
         TimeFrom::Rfc3339 => read_date_time(alloc, piece, given)?,
         TimeFrom::Local(_) => read_local_time(alloc, piece, given)?,
     };
-    let times = times_of(piece, file, asked);
-    Ok(Lookup {
-        file,
-        times,
-        state: state_of(piece, file, times),
-    })
+    if let Some(lookup) = look_up_only(piece, file, input) {
+        return Ok(lookup);
+    }
+    let times = times_of(piece, file, input);
+    let state = FoundState::Number(state_of(piece, file, times));
+    Ok(Lookup { file, times, state })
 }
 
 /// Returns the count that the field of a record's instant has, if it has one.
@@ -89,7 +98,7 @@ fn field_count(
     field: Field,
     unit: Unit,
 ) -> Result<Option<i128>, AllocError>
-    requires { StandsIn bytes.now field }
+    requires { IsWithinPiece bytes.now field }
     ensures { IfOk result (λ count. count ≡ count_of unit (field_text bytes.now field)) }
 {
     match field {
@@ -103,7 +112,7 @@ fn field_count(
 }
 
 /// Returns the count of the date and the time of day that the field of a record's instant has, if it
-/// has one. A space may stand in it and between fields: so it is put back in its place first.
+/// has one. A delimiter that is a space is swapped back first, since a space may stand in a date.
 fn read_date_time(
     alloc: Global,
     piece: &Piece<'_, '_>,
@@ -114,6 +123,9 @@ fn read_date_time(
     ensures { IfOk result (λ count. count ≡ count_at piece.now given.now) }
 {
     prove!(piece.layout.delimiter.byte() <= u8::MAX);
+    if let Some(text) = plain_field(piece, given.time) {
+        return Ok(parse_rfc3339(text, piece.layout.unit));
+    }
     let text = copy_field(alloc, piece, given.time)?;
     Ok(parse_rfc3339(&text, piece.layout.unit))
 }
@@ -132,8 +144,24 @@ fn read_local_time(
         (λ c. IsLocalSecond (second_of piece.now.layout.now.unit c))) }
 {
     prove!(piece.layout.delimiter.byte() <= u8::MAX);
+    if let Some(text) = plain_field(piece, given.time) {
+        return Ok(parse_local_time(text, piece.layout.unit));
+    }
     let text = copy_field(alloc, piece, given.time)?;
     Ok(parse_local_time(&text, piece.layout.unit))
+}
+
+/// Returns the text of a field without quotes where the delimiter is the comma: the piece has it as it
+/// is.
+fn plain_field<'a>(piece: &Piece<'a, '_>, field: Field) -> Option<&'a [u8]>
+    requires { IsWithinPiece piece.now.bytes.now field }
+    ensures { IfSome result (λ text. text.now
+        ≡ exchanged piece.now.layout.now.delimiter (field_text piece.now.bytes.now field)) }
+{
+    match field {
+        Field::Plain(span) if piece.layout.delimiter.byte() == b',' => Some(span.of(piece.bytes)),
+        _ => None,
+    }
 }
 
 /// Returns the counts of a record, by the file of its zone and the count that its field has.
@@ -144,21 +172,21 @@ fn read_local_time(
 fn times_of(
     piece: &Piece<'_, '_>,
     file: Option<usize>,
-    asked: Option<i128>,
+    input: Option<i128>,
 ) -> Result<Counts, RowKind>
     requires file { IsFile piece.now file }
-    requires sound { IfSome asked
+    requires sound { IfSome input
         (IsCountFor piece.now.layout.now.from piece.now.layout.now.unit) }
-    ensures { AreTimesOf piece.now.layout.now (file_at piece.now.zones.now file) asked result }
+    ensures { AreTimesOf piece.now.layout.now (file_at piece.now.zones.now file) input result }
 {
-    let Some(asked) = asked else {
+    let Some(input) = input else {
         return Err(missing(piece.layout.from));
     };
     let count = match (piece.layout.from, file) {
-        (TimeFrom::Local(choice), Some(file)) => meant(piece, file, asked, choice)?,
-        _ => asked,
+        (TimeFrom::Local(choice), Some(file)) => meant(piece, file, input, choice)?,
+        _ => input,
     };
-    Ok(Counts { asked, count })
+    Ok(Counts { input, count })
 }
 
 /// Returns the fault of a field that has no count.
@@ -213,7 +241,7 @@ fn row_second(count: i128, unit: Unit) -> Option<i64>
 /// where there is no file, or no row may have the instant.
 fn state_of(piece: &Piece<'_, '_>, file: Option<usize>, times: Result<Counts, RowKind>) -> usize
     requires { IsFile piece.now file }
-    ensures { IsStateFor piece.now file (count_of_times times) result }
+    ensures { IsStateFor piece.now file (count_of_times times) (found.Number result) }
 {
     let (Some(number), Ok(counts)) = (file, times) else {
         return 0;

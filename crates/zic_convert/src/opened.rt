@@ -1,38 +1,59 @@
 //! The rows of open lines.
 
-ghost use Rattle.std.specs.Prelude.{◌≡◌, ◌+◌, ◌≤◌, ◌∷◌, [], List, IfOk, IfErr, Some};
-ghost use Rattle.zic_columns.specs.Lines.{open_record};
+ghost use Rattle.std.specs.Prelude.{◌≡◌, ◌+◌, ◌≤◌, ◌∷◌, ◌++◌, [], List, IfOk, IfErr, Some};
+ghost use Rattle.zic_columns.specs.Exchange.{exchanged};
+ghost use Rattle.zic_columns.specs.Lines.{exchanged_record, open_record};
 ghost use Rattle.zic_files.specs.File.{File};
 ghost use Rattle.zic_plan.specs.declared.plan.TheConstants.{MAX_ROWS};
-ghost use Rattle.zic_convert.specs.LayoutRows.{fault_by};
-ghost use Rattle.zic_convert.specs.code.Row.{AreRowsOf, put_back};
+ghost use Rattle.zic_convert.specs.LayoutRows.{fault_by, unless_aside};
+ghost use Rattle.zic_convert.specs.code.Row.{AreRowsOf};
 ghost use Rattle.zic_convert.specs.code.Written.{EndsInRecords, WritesRecords};
 
 use crate::conversion::Conversion;
-use crate::faulty::{ends_run, push_own};
+use crate::faulty::{aside, ends_run, push_own};
 use crate::output::write_rows;
 use crate::row::Rows;
 use std::alloc::{AllocError, Global};
 use std::io::Write;
-use zic_base::{FaultLog, RowFault, RowKind, RunStop};
+use zic_base::{RowFault, RowKind, RunStop};
+use zic_columns::may_have;
 use zic_counted::Counted;
-use zic_plan::Layout;
+use zic_plan::{AtFault, FaultyRow, Layout, RowLog};
 use zic_rows::RowText;
 
-/// Returns the fault of an open line as the row of a number, where there is a greatest number of rows.
-fn open_kind(most: u64, number: u64) -> RowKind
-    ensures { (layout : Layout) (files : List File)
-        → fault_by layout files most number [] ≡ Some result }
+/// Returns the fault of an open line, the row of this number: `TooManyRows` if that is above `most`, else
+/// `RowTooLong` if the line is too long, else `RowQuote`. The line has the delimiter and the comma in each
+/// other's place.
+fn open_kind(layout: &Layout, most: u64, number: u64, line: &[u8]) -> RowKind
+    ensures { (files : List File) → fault_by layout.now files most number
+        (exchanged_record layout.now.delimiter (open_record line.now)) ≡ Some result }
 {
     if most < number {
         return RowKind::TooManyRows;
     }
+    if !may_have(layout.max_record, line.len()) {
+        return RowKind::RowTooLong;
+    }
     RowKind::RowQuote
+}
+
+/// Returns what an open line adds to the text of rows: its own bytes, unless it is put aside. The line
+/// has the delimiter and the comma in each other's place.
+fn open_text(alloc: Global, layout: &Layout, line: &[u8]) -> Result<Vec<u8>, AllocError>
+    ensures { IfOk result (λ text. text.items ≡ unless_aside layout.now.at_fault
+        (exchanged layout.now.delimiter line.now ++ 10 ∷ [])) }
+{
+    let mut text = Vec::new(alloc);
+    match layout.at_fault {
+        AtFault::Reject => {}
+        AtFault::End | AtFault::GoOn => push_own(&mut text, line, b"", layout.delimiter.byte())?,
+    }
+    Ok(text)
 }
 
 /// Returns the row of an open line, which has a fault, or the fault that ends the run there. The line is
 /// the row of this number, and has the delimiter and the comma in each other's place.
-fn open_row(
+pub(crate) fn open_row(
     alloc: Global,
     layout: &Layout,
     most: u64,
@@ -40,19 +61,20 @@ fn open_row(
     line: &[u8],
 ) -> Result<Rows, AllocError>
     ensures { IfOk result (λ rows. (files : List File) → AreRowsOf layout.now files most number
-        (put_back layout.now.delimiter (open_record line.now) ∷ []) rows) }
+        (exchanged_record layout.now.delimiter (open_record line.now) ∷ []) rows) }
 {
     let mut rows = Rows::new(alloc, RowText::new(alloc));
-    let kind = open_kind(most, number);
-    if ends_run(layout.at_fault, kind) {
+    let kind = open_kind(layout, most, number, line);
+    if ends_run(layout.at_fault, layout.records, kind) {
         rows.fault = Some(kind);
         return Ok(rows);
     }
-    let mut row = Vec::new(alloc);
-    push_own(&mut row, line, b"", layout.delimiter.byte())?;
-    rows.text.push(&row)?;
+    let text = open_text(alloc, layout, line)?;
+    rows.text.push(&text)?;
     rows.count = 1;
-    rows.faults.push(RowFault { row: number, kind })?;
+    let own = aside(alloc, layout, line)?;
+    let fault = RowFault { row: number, kind };
+    rows.faults.push(FaultyRow { fault, own })?;
     Ok(rows)
 }
 
@@ -62,7 +84,7 @@ fn open_row(
 /// # Errors
 ///
 /// `Row` where the fault ends the run, `Memory`, or `WriteFailed`.
-pub(crate) fn write_open_line<T, G, W: Write, L: FaultLog>(
+pub(crate) fn write_open_line<T, G, W: Write, L: RowLog>(
     conversion: &Conversion<'_, T, G>,
     line: &[u8],
     number: u64,
@@ -72,11 +94,11 @@ pub(crate) fn write_open_line<T, G, W: Write, L: FaultLog>(
     requires { number ≤ MAX_ROWS + 1 }
     ensures ok { IfOk result (λ count. (files : List File) → WritesRecords
         conversion.now.layout.now files conversion.now.plan.now.max_rows number
-        (put_back conversion.now.layout.now.delimiter (open_record line.now) ∷ [])
+        (exchanged_record conversion.now.layout.now.delimiter (open_record line.now) ∷ [])
         W.contents writer.old writer.new (L.noted log.old) (L.noted log.new) count) }
     ensures stop { IfErr result (λ why. (files : List File) → EndsInRecords
         conversion.now.layout.now files conversion.now.plan.now.max_rows number
-        (put_back conversion.now.layout.now.delimiter (open_record line.now) ∷ [])
+        (exchanged_record conversion.now.layout.now.delimiter (open_record line.now) ∷ [])
         W.contents writer.old writer.new (L.noted log.old) (L.noted log.new) why) }
 {
     let most = conversion.plan.max_rows();

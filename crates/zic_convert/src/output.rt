@@ -4,7 +4,7 @@ ghost use Rattle.std.specs.Prelude.{◌≡◌, ◌+◌, ◌^◌, ◌<◌, [], If
 ghost use Rattle.zic_columns.specs.Exchange.{exchanged};
 ghost use Rattle.zic_counted.specs.Written.{FailsWithin};
 ghost use Rattle.zic_plan.specs.declared.layout.RowStart.TheVariants as start;
-ghost use Rattle.zic_convert.specs.Column.{added_names, header_of, names_line, names_of, row_names};
+ghost use Rattle.zic_convert.specs.Column.{added_names, header_of, names_line, names_of};
 ghost use Rattle.zic_convert.specs.code.Pieces.{joined};
 ghost use Rattle.zic_convert.specs.code.Written.{EndsAtHead, EndsInPieces, IsStopAt, Wrote, WroteRows};
 
@@ -13,44 +13,41 @@ use crate::log::note_all;
 use crate::row::Rows;
 use std::alloc::AllocError;
 use std::io::Write;
-use zic_base::{FaultLog, RowKind, RunStop};
+use zic_base::{RowKind, RunStop};
 use zic_columns::exchange;
 use zic_counted::{Counted, WriteFailed};
-use zic_plan::{Header, Layout, RowStart, TimeFrom};
-
-/// Returns the line of names before rows that begin with a name and an instant, or a local time.
-fn row_names(from: TimeFrom) -> [u8; 48]
-    ensures { result ≡ row_names from }
-{
-    match from {
-        TimeFrom::Count | TimeFrom::Rfc3339 => {
-            *b"zone,instant,local,offset,daylight,abbreviation\n"
-        }
-        TimeFrom::Local(_) => *b"zone,local,instant,offset,daylight,abbreviation\n",
-    }
-}
+use zic_plan::{Header, Layout, RowLog, RowStart, Style, TimeFrom};
 
 /// Returns the names of the fields that a row adds to its record.
-fn added_names(from: TimeFrom) -> &'static [u8]
-    ensures { result.now ≡ added_names from }
+fn added_names(style: Style, from: TimeFrom) -> &'static [u8]
+    ensures { result.now ≡ added_names style from }
 {
-    match from {
-        TimeFrom::Count | TimeFrom::Rfc3339 => b",local,offset,daylight,abbreviation",
-        TimeFrom::Local(_) => b",instant,offset,daylight,abbreviation",
+    match (style, from) {
+        (Style::Fields, TimeFrom::Count | TimeFrom::Rfc3339) => {
+            b",local,offset,daylight,abbreviation"
+        }
+        (Style::Fields, TimeFrom::Local(_)) => b",instant,offset,daylight,abbreviation",
+        (Style::Iso, TimeFrom::Count | TimeFrom::Rfc3339) => b",local,daylight,abbreviation",
+        (Style::Iso, TimeFrom::Local(_)) => b",instant,time,daylight,abbreviation",
     }
 }
 
 /// Adds the names of the fields that a row adds to its record, and a newline, to the own bytes of a
 /// header, in which the delimiter and the comma stand in each other's place. Does nothing where
 /// there is no header.
-fn add_names(line: &mut Vec<u8>, from: TimeFrom, delimiter: u8) -> Result<(), AllocError>
+fn add_names(
+    line: &mut Vec<u8>,
+    style: Style,
+    from: TimeFrom,
+    delimiter: u8,
+) -> Result<(), AllocError>
     ensures { OnOk result (line.new.items
-        ≡ header_of start.Record from delimiter (exchanged delimiter line.old.items)) }
+        ≡ header_of start.Record style from delimiter (exchanged delimiter line.old.items)) }
 {
     if line.is_empty() {
         return Ok(());
     }
-    line.extend_from_slice(added_names(from))?;
+    line.extend_from_slice(added_names(style, from))?;
     put_back(line, 0, delimiter);
     line.push(b'\n')?;
     Ok(())
@@ -64,8 +61,8 @@ fn add_names(line: &mut Vec<u8>, from: TimeFrom, delimiter: u8) -> Result<(), Al
 ///
 /// Fails where memory is refused.
 fn header_line(layout: &Layout, own: Vec<u8>) -> Result<Vec<u8>, AllocError>
-    ensures { IfOk result (λ line. line.items ≡ header_of layout.now.start layout.now.from
-        layout.now.delimiter (exchanged layout.now.delimiter own.items)) }
+    ensures { IfOk result (λ line. line.items ≡ header_of layout.now.start layout.now.style
+        layout.now.from layout.now.delimiter (exchanged layout.now.delimiter own.items)) }
 {
     let mut line = own;
     match layout.start {
@@ -74,7 +71,8 @@ fn header_line(layout: &Layout, own: Vec<u8>) -> Result<Vec<u8>, AllocError>
             Ok(line)
         }
         RowStart::Record => {
-            add_names(&mut line, layout.from, layout.delimiter.byte())?;
+            let delimiter = layout.delimiter.byte();
+            add_names(&mut line, layout.style, layout.from, delimiter)?;
             Ok(line)
         }
     }
@@ -92,7 +90,7 @@ fn write_all<W: Write>(writer: &mut Counted<W>, bytes: &[u8]) -> Result<(), RunS
     }
 }
 
-/// Has the writer pass on what it holds back.
+/// Flushes the writer.
 pub(crate) fn flush<W: Write>(writer: &mut Counted<W>) -> Result<(), RunStop>
     ensures ok { OnOk result (Wrote W.contents writer.old writer.new []) }
     ensures err { IfErr result (λ stop. (stop ≡ RunStop.WriteFailed)
@@ -104,7 +102,7 @@ pub(crate) fn flush<W: Write>(writer: &mut Counted<W>) -> Result<(), RunStop>
     }
 }
 
-/// Returns a line where there is a header and rows begin with names, and else no bytes.
+/// Returns the line if a header is written and rows begin with names, else no bytes.
 fn names_of(start: RowStart, header: Header, line: &[u8]) -> &[u8]
     ensures { result.now ≡ names_of start header line.now }
 {
@@ -114,8 +112,29 @@ fn names_of(start: RowStart, header: Header, line: &[u8]) -> &[u8]
     }
 }
 
-/// Writes the line of names before rows that begin with a name and an instant, where the layout has a
-/// header. Doesn't flush.
+/// Writes this line, with the layout's delimiter, where the layout has a header and rows begin with
+/// names.
+///
+/// # Errors
+///
+/// `WriteFailed`.
+fn write_line<W: Write>(
+    writer: &mut Counted<W>,
+    layout: &Layout,
+    line: &mut [u8],
+) -> Result<(), RunStop>
+    ensures ok { OnOk result (Wrote W.contents writer.old writer.new (names_of layout.now.start
+        layout.now.header (exchanged layout.now.delimiter line.old))) }
+    ensures err { IfErr result (λ stop. (stop ≡ RunStop.WriteFailed)
+        × FailsWithin W.contents writer.old writer.new (names_of layout.now.start
+        layout.now.header (exchanged layout.now.delimiter line.old))) }
+{
+    exchange(line, layout.delimiter.byte());
+    write_all(writer, names_of(layout.start, layout.header, line))
+}
+
+/// Writes the line of names before rows that begin with a name and an instant, or a local time, where
+/// the layout has a header. Doesn't flush.
 ///
 /// # Errors
 ///
@@ -125,9 +144,24 @@ pub(crate) fn write_names<W: Write>(writer: &mut Counted<W>, layout: &Layout) ->
     ensures err { IfErr result (λ stop. (stop ≡ RunStop.WriteFailed)
         × FailsWithin W.contents writer.old writer.new (names_line layout.now)) }
 {
-    let mut line = row_names(layout.from);
-    exchange(&mut line, layout.delimiter.byte());
-    write_all(writer, names_of(layout.start, layout.header, &line))
+    match (layout.style, layout.from) {
+        (Style::Fields, TimeFrom::Count | TimeFrom::Rfc3339) => {
+            let mut line = *b"zone,instant,local,offset,daylight,abbreviation\n";
+            write_line(writer, layout, &mut line)
+        }
+        (Style::Fields, TimeFrom::Local(_)) => {
+            let mut line = *b"zone,local,instant,offset,daylight,abbreviation\n";
+            write_line(writer, layout, &mut line)
+        }
+        (Style::Iso, TimeFrom::Count | TimeFrom::Rfc3339) => {
+            let mut line = *b"zone,instant,local,daylight,abbreviation\n";
+            write_line(writer, layout, &mut line)
+        }
+        (Style::Iso, TimeFrom::Local(_)) => {
+            let mut line = *b"zone,local,instant,time,daylight,abbreviation\n";
+            write_line(writer, layout, &mut line)
+        }
+    }
 }
 
 /// Writes the column's own header before rows that begin with their records, by the header's own bytes
@@ -142,9 +176,10 @@ pub(crate) fn write_header<W: Write>(
     own: Vec<u8>,
 ) -> Result<(), RunStop>
     ensures ok { OnOk result (Wrote W.contents writer.old writer.new (header_of layout.now.start
-        layout.now.from layout.now.delimiter (exchanged layout.now.delimiter own.items))) }
+        layout.now.style layout.now.from layout.now.delimiter
+        (exchanged layout.now.delimiter own.items))) }
     ensures err { IfErr result (EndsAtHead W.contents writer.old writer.new (header_of
-        layout.now.start layout.now.from layout.now.delimiter
+        layout.now.start layout.now.style layout.now.from layout.now.delimiter
         (exchanged layout.now.delimiter own.items))) }
 {
     let Ok(line) = header_line(layout, own) else {
@@ -159,7 +194,7 @@ pub(crate) fn write_header<W: Write>(
 
 /// Has the writer pass on what it holds back, and returns the stop at a row that ends the run, or
 /// `WriteFailed`.
-fn stop_at<W: Write>(writer: &mut Counted<W>, row: u64, kind: RowKind) -> RunStop
+pub(crate) fn stop_at<W: Write>(writer: &mut Counted<W>, row: u64, kind: RowKind) -> RunStop
     ensures { IsStopAt W.contents writer.old writer.new row kind result }
 {
     match flush(writer) {
@@ -169,13 +204,14 @@ fn stop_at<W: Write>(writer: &mut Counted<W>, row: u64, kind: RowKind) -> RunSto
 }
 
 /// Writes the rows of pieces, one piece after another, up to the first that ends the run, notes
-/// their faults, flushes, and returns the number of rows. The first is the row of this number.
+/// their faults, flushes, has the log do so too, and returns the number of rows. The first is the row
+/// of this number.
 ///
 /// # Errors
 ///
 /// `Row` with the number and the kind of the fault that ends the run, once the rows before it are
 /// written and flushed, or `WriteFailed`.
-pub(crate) fn write_rows<W: Write, L: FaultLog>(
+pub(crate) fn write_rows<W: Write, L: RowLog>(
     writer: &mut Counted<W>,
     first: u64,
     pieces: &[Rows],
@@ -197,5 +233,6 @@ pub(crate) fn write_rows<W: Write, L: FaultLog>(
         }
     }
     flush(writer)?;
+    log.flush();
     Ok(count)
 }

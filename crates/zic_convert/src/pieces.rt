@@ -34,8 +34,8 @@ pub(crate) struct RowPieces<'a, 's> {
     most: u64,
     /// The number of records of a piece; the last may have fewer.
     size: u64,
-    /// Whether a piece with a row that ends the run stops the task. If not, its rows before that
-    /// row are its value.
+    /// Whether a row that ends the run stops the task. If not, the value of its piece is the rows before
+    /// it.
     stops: bool,
     /// Texts to write rows into.
     spare: &'a SpareTexts,

@@ -1,5 +1,6 @@
 //! The quick way to the text of a row, where all that it shows is at hand.
 
+ghost use Rattle.zic_columns.specs.Lines.{exchanged_record};
 ghost use Rattle.std.specs.Prelude.{◌≡◌, ◌≢◌, ◌++◌, ◌∷◌, ◌≤◌, [], IfOk, IfSome, IsSome, IsTrue, List, OnOk, Some, drop, length, slice_get, take, ℕ};
 ghost use Rattle.zic_columns.specs.Exchange.{exchanged};
 ghost use Rattle.zic_columns.specs.Record.{IsSplit, IsWithin, bytes_at, field_text, record_at};
@@ -8,13 +9,13 @@ ghost use Rattle.zic_zones.specs.States.{HasState};
 ghost use Rattle.zic_zones.specs.Zones.{zone_in};
 ghost use Rattle.zic_convert.specs.LayoutRows.{IsTextBy};
 ghost use Rattle.zic_convert.specs.code.Batch.{IsQuickRow, wanted_by, zone_at};
-ghost use Rattle.zic_convert.specs.code.Row.{field_start, put_back};
+ghost use Rattle.zic_convert.specs.code.Row.{field_start};
 
 use crate::piece::Piece;
 use std::alloc::AllocError;
 use zic_columns::{Field, Record, Span};
 use zic_plan::{RowStart, ZoneFrom};
-use zic_rows::{RowText, RowTime, StateText};
+use zic_rows::{RowRest, RowText, RowTime, StateText};
 use zic_zones::{RowStates, UNKNOWN};
 
 /// What is known of a record: the number of its zone's file, or `None` where no file has the name, its
@@ -98,8 +99,8 @@ fn push_zone(
     Ok(())
 }
 
-/// Appends what a row begins with, with commas, up to the last bytes of it that stand together in the
-/// piece, and returns where these stand.
+/// Appends the start of a row, with commas, but for its last part, which is to be copied from the piece.
+/// Returns where that part stands.
 #[inline(always)]
 fn push_front(
     text: &mut RowText,
@@ -109,7 +110,7 @@ fn push_front(
 ) -> Result<Span, AllocError>
     requires split { IsSplit piece.now.bytes.now (wanted_by piece.now.layout.now) given.now }
     requires row { IsQuickRow piece.now given.now row.now }
-    ensures stands { IfOk result (IsWithin piece.now.bytes.now) }
+    ensures within_bytes { IfOk result (IsWithin piece.now.bytes.now) }
     ensures text { IfOk result (λ span. text.new ++ bytes_at piece.now.bytes.now span
         ≡ text.old ++ field_start piece.now.layout.now.start
         (bytes_at piece.now.bytes.now given.now.own)
@@ -131,9 +132,9 @@ fn push_front(
     }
 }
 
-/// Puts the delimiter and commas back in their places, from a place of the text on.
+/// Swaps the delimiter and commas back, from an index of the text on.
 #[inline(always)]
-fn put_back(text: &mut RowText, start: usize, delimiter: u8)
+pub(crate) fn put_back(text: &mut RowText, start: usize, delimiter: u8)
     requires { start ≤ length text.old }
     ensures { text.new ≡ take start text.old ++ exchanged delimiter (drop start text.old) }
 {
@@ -154,14 +155,19 @@ pub(crate) fn push_quick(
     requires split { IsSplit piece.now.bytes.now (wanted_by piece.now.layout.now) given.now }
     requires row { IsQuickRow piece.now given.now row.now }
     ensures { OnOk result ((made : List ℕ) × (text.new ≡ text.old ++ made)
-        × IsTextBy piece.now.layout.now piece.now.zones.now (put_back
+        × IsTextBy piece.now.layout.now piece.now.zones.now (exchanged_record
         piece.now.layout.now.delimiter (record_at piece.now.bytes.now given.now)) made) }
 {
     // The name of a file has no byte that can stand between fields.
     piece.zones.are_sound();
     let start = text.len();
     let last = push_front(text, piece, given, row)?;
-    text.push_row(piece.bytes, last.start, last.end, row.time, row.text)?;
+    let rest = RowRest {
+        time: row.time,
+        state: row.text,
+        style: piece.layout.style,
+    };
+    text.push_row(piece.bytes, last.start, last.end, &rest)?;
     put_back(text, start, piece.layout.delimiter.byte());
     Ok(())
 }

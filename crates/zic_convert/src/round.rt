@@ -13,9 +13,10 @@ use crate::row::Rows;
 use std::io::Write;
 use std::sync::Wait;
 use std::thread::Threads;
-use zic_base::{FaultLog, RunStop};
+use zic_base::RunStop;
 use zic_counted::Counted;
 use zic_pieces::{Gate, TaskStop, run_task};
+use zic_plan::RowLog;
 
 /// Writes the rows of a round, by those of its pieces, notes their faults, and returns the number
 /// of rows.
@@ -23,7 +24,7 @@ use zic_pieces::{Gate, TaskStop, run_task};
 /// # Errors
 ///
 /// `Row` for the fault that ends the run, once the rows before it are written, or `WriteFailed`.
-fn write_round<W: Write, L: FaultLog>(
+fn write_round<W: Write, L: RowLog>(
     writer: &mut Counted<W>,
     pieces: &RowPieces<'_, '_>,
     rows: &[Rows],
@@ -44,7 +45,7 @@ fn write_round<W: Write, L: FaultLog>(
 /// # Errors
 ///
 /// As [`write_round`], and `Memory`.
-fn convert_again<T: Threads + Wait + Sync, W: Write, G: Gate + Sync, L: FaultLog>(
+fn convert_again<T: Threads + Wait + Sync, W: Write, G: Gate + Sync, L: RowLog>(
     conversion: &Conversion<'_, T, G>,
     pieces: &RowPieces<'_, '_>,
     writer: &mut Counted<W>,
@@ -80,7 +81,7 @@ fn convert_again<T: Threads + Wait + Sync, W: Write, G: Gate + Sync, L: FaultLog
 /// # Errors
 ///
 /// As [`write_round`], and `Memory`.
-pub(crate) fn convert_round<T: Threads + Wait + Sync, W: Write, G: Gate + Sync, L: FaultLog>(
+pub(crate) fn convert_round<T: Threads + Wait + Sync, W: Write, G: Gate + Sync, L: RowLog>(
     conversion: &Conversion<'_, T, G>,
     pieces: &RowPieces<'_, '_>,
     writer: &mut Counted<W>,

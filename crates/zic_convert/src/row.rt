@@ -1,22 +1,25 @@
 //! The rows of records.
 
+ghost use Rattle.zic_columns.specs.Lines.{exchanged_record};
 ghost use Rattle.std.specs.Prelude.{◌≡◌, ◌+◌, ◌^◌, ◌<◌, ◌≤◌, ◌++◌, ◌∷◌, ℤ, Some, None, IfOk, OnOk, MatchResult};
-ghost use Rattle.std.specs.Prelude.{ℕ, List, length};
+ghost use Rattle.std.specs.Prelude.{ℕ, true, List, length};
 ghost use Rattle.std.specs.Fmt.{signed_decimal};
 ghost use Rattle.zic_columns.specs.Own.{CsvRecord};
-ghost use Rattle.zic_columns.specs.Record.{IsSplit, StandsIn, bytes_at, field_text, record_at};
+ghost use Rattle.zic_columns.specs.Record.{IsSplit, IsWithinPiece, bytes_at, field_text, record_at};
+ghost use Rattle.zic_columns.specs.Round.{may_have};
 ghost use Rattle.zic_rows.specs.Count.{count_of, second_of};
 ghost use Rattle.zic_rows.specs.Instant.{IsRowInstant};
-ghost use Rattle.zic_zones.specs.Zones.{AnswersAt, IsShownAt, zone_in};
+ghost use Rattle.zic_zones.specs.Zones.{AnswersAt, zone_in};
 ghost use Rattle.zic_plan.specs.declared.layout.TimeFrom.TheVariants as from;
-ghost use Rattle.zic_convert.specs.LayoutRows.{IsTextBy, asked_text, rest_by};
+ghost use Rattle.zic_convert.specs.LayoutRows.{IsTextBy, input_text, rest_by};
 ghost use Rattle.zic_convert.specs.Rows.{is_row_instant};
-ghost use Rattle.zic_convert.specs.code.Batch.{AreColumns, AreStates, IsLookup, IsKnown, IsPen, IsQuickRow, IsRowQuery, IsSoundQuery, fault_at, records_of, wanted_by, zone_at};
-ghost use Rattle.zic_convert.specs.code.Row.{AreNext, AreRowsOf, empty_rows, field_start, put_back};
+ghost use Rattle.zic_convert.specs.code.Batch.{AreColumns, AreStates, IsFoundAt, IsLookup, IsKnown, IsPen, IsQuickRow, IsRowQuery, IsSoundQuery, fault_at, records_of, wanted_by, zone_at};
+ghost use Rattle.zic_convert.specs.code.Row.{AreNext, AreRowsOf, empty_rows, field_start};
 
 use crate::batch::Batch;
-use crate::faulty::{ends_run, push_faulty, put_back};
-use crate::lookup::{Counts, Lookup, look_up};
+use crate::faulty::{aside, ends_run, push_faulty, put_back};
+use crate::local::push_local;
+use crate::lookup::{Counts, FoundState, Lookup, look_up};
 use crate::piece::Piece;
 use crate::quick::{Known, QuickRow, push_quick};
 use crate::shown::ShownStates;
@@ -24,21 +27,21 @@ use itoa::Buffer;
 use std::alloc::{AllocError, Global};
 use std::marker::Model;
 use zic_base::{RowFault, RowKind, State};
-use zic_columns::{Field, Record};
-use zic_plan::{Layout, RowStart, TimeFrom, Unit};
+use zic_columns::{Field, Record, may_have};
+use zic_plan::{FaultyRow, Layout, RowStart, Style, TimeFrom, Unit};
 use zic_rows::{
     FIRST_INSTANT, LAST_INSTANT, RowText, RowWriter, is_plain, moment_of, push_local_time,
 };
 use zic_zones::RowStates;
 
 /// The rows of records up to the first that ends the run: their text, their number, its fault, and
-/// the faults of the rows before it.
+/// the rows before it that have a fault.
 #[derive(Drop)]
 pub(crate) struct Rows {
     pub(crate) text: RowText,
     pub(crate) count: u64,
     pub(crate) fault: Option<RowKind>,
-    pub(crate) faults: Vec<RowFault>,
+    pub(crate) faults: Vec<FaultyRow>,
 }
 
 impl Model for Rows {
@@ -82,14 +85,22 @@ impl RowPen {
 
     /// Shows the state of a file with this number, which the file shows at some second.
     #[inline(always)]
-    fn show(&mut self, piece: &Piece<'_, '_>, file: usize, state: usize)
+    fn show(&mut self, piece: &Piece<'_, '_>, file: usize, state: FoundState<'_>)
         requires within { file < length piece.now.zones.now }
-        requires shown { (second : ℤ) × IsShownAt piece.now.zones.now file second state }
+        requires shown { (second : ℤ) × IsFoundAt piece.now.zones.now file second state }
         requires pen { IsPen piece.now.zones.now self.old }
-        ensures shows { (second : ℤ) → IsShownAt piece.now.zones.now file second state
+        ensures shows { (second : ℤ) → IsFoundAt piece.now.zones.now file second state.entry
             → AnswersAt piece.now.zones.now file second self.new.writer }
         ensures pen { IsPen piece.now.zones.now self.new }
     {
+        let state = match state {
+            FoundState::Number(number) => number,
+            FoundState::Text(text) => {
+                self.writer.set_text(text);
+                self.file = None;
+                return;
+            }
+        };
         if self.file == Some(file) && self.state == state {
             return;
         }
@@ -99,11 +110,11 @@ impl RowPen {
     }
 }
 
-/// A file, and counts of which a row may have that of the instant.
+/// The file of a row's zone, and counts, of which that of the instant is in range.
 #[derive(Clone, Copy, Drop)]
-struct RowQuery {
-    file: usize,
-    counts: Counts,
+pub(crate) struct RowQuery {
+    pub(crate) file: usize,
+    pub(crate) counts: Counts,
 }
 
 /// Returns whether a row may have the whole second of a count.
@@ -119,14 +130,15 @@ fn is_in_range(count: i128, unit: Unit) -> bool
 ///
 /// # Errors
 ///
-/// The first fault of the row: a number above the greatest, no field, another number of fields, a name
-/// that no file has, no instant, or an instant that no row may have.
+/// The first fault of the row: a number above the greatest, more bytes than a record may have, no
+/// field, another number of fields, a name that no file has, no instant, or an instant that no row may
+/// have.
 #[inline(always)]
 fn query(
     piece: &Piece<'_, '_>,
     number: u64,
     given: &Record,
-    lookup: &Lookup,
+    lookup: &Lookup<'_>,
 ) -> Result<RowQuery, RowKind>
     requires split { IsSplit piece.now.bytes.now (wanted_by piece.now.layout.now) given.now }
     requires lookup { IsLookup piece.now given.now lookup.now }
@@ -135,6 +147,9 @@ fn query(
 {
     if piece.most < number {
         return Err(RowKind::TooManyRows);
+    }
+    if !may_have(piece.layout.max_record, given.own.of(piece.bytes).len()) {
+        return Err(RowKind::RowTooLong);
     }
     if given.count == 0 {
         return Err(RowKind::RowQuote);
@@ -163,14 +178,14 @@ fn push_count(
     given: &Record,
     count: i128,
 ) -> Result<(), AllocError>
-    requires stands { StandsIn piece.now.bytes.now given.now.time }
+    requires within_bytes { IsWithinPiece piece.now.bytes.now given.now.time }
     requires count { piece.now.layout.now.from ≡ from.Count → count_of piece.now.layout.now.unit
         (field_text piece.now.bytes.now given.now.time) ≡ Some count }
     ensures { OnOk result (text.new.items ≡ text.old.items ++ signed_decimal count) }
 {
     let layout = piece.layout;
-    let asked = (given.time, layout.from, layout.unit);
-    if let (Field::Plain(span), TimeFrom::Count, Unit::Second) = asked {
+    let input = (given.time, layout.from, layout.unit);
+    if let (Field::Plain(span), TimeFrom::Count, Unit::Second) = input {
         let field = span.of(piece.bytes);
         if is_plain(field) {
             return text.extend_from_slice(field);
@@ -181,7 +196,7 @@ fn push_count(
 
 /// Appends a comma and the text of the count that a record's field has: a local time, or decimals.
 #[inline(always)]
-fn push_asked(
+fn push_input(
     text: &mut Vec<u8>,
     piece: &Piece<'_, '_>,
     given: &Record,
@@ -189,15 +204,15 @@ fn push_asked(
 ) -> Result<(), AllocError>
     requires split { IsSplit piece.now.bytes.now (wanted_by piece.now.layout.now) given.now }
     requires query { IsRowQuery piece.now given.now query }
-    ensures { OnOk result (text.new.items ≡ text.old.items ++ 44 ∷ asked_text
-        piece.now.layout.now.from piece.now.layout.now.unit query.counts.asked) }
+    ensures { OnOk result (text.new.items ≡ text.old.items ++ 44 ∷ input_text
+        piece.now.layout.now.from piece.now.layout.now.unit query.counts.input) }
 {
     if let TimeFrom::Local(_) = piece.layout.from {
-        return push_local_time(text, query.counts.asked, piece.layout.unit);
+        return push_local_time(text, query.counts.input, piece.layout.unit);
     }
     prove!(piece.layout.delimiter.byte() <= u8::MAX);
     text.push(b',')?;
-    push_count(text, piece, given, query.counts.asked)
+    push_count(text, piece, given, query.counts.input)
 }
 
 /// Appends what the row of a record begins with, with commas.
@@ -213,19 +228,19 @@ fn push_start(
     ensures { OnOk result (text.new.items ≡ text.old.items ++ field_start
         piece.now.layout.now.start (bytes_at piece.now.bytes.now given.now.own)
         (zone_in piece.now.layout.now.zone (record_at piece.now.bytes.now given.now).fields)
-        (asked_text piece.now.layout.now.from piece.now.layout.now.unit query.counts.asked)) }
+        (input_text piece.now.layout.now.from piece.now.layout.now.unit query.counts.input)) }
 {
     match piece.layout.start {
         RowStart::Record => text.extend_from_slice(given.own.of(piece.bytes)),
         RowStart::Fields => {
             text.extend_from_slice(piece.zones.name(query.file))?;
-            push_asked(text, piece, given, query)
+            push_input(text, piece, given, query)
         }
     }
 }
 
 /// Appends what follows in a row, with commas: the local time of an instant, or the instant of a local
-/// time, and the state.
+/// time, and the state, in the layout's style.
 #[inline(always)]
 fn push_rest(
     text: &mut Vec<u8>,
@@ -235,15 +250,18 @@ fn push_rest(
 ) -> Result<(), AllocError>
     requires { IsRowInstant (second_of layout.now.unit count) }
     ensures writer { writer.new ≡ writer.old }
-    ensures text { OnOk result (text.new.items ≡ text.old.items ++ rest_by layout.now.from
-        layout.now.unit count writer.old) }
+    ensures text { OnOk result (text.new.items ≡ text.old.items ++ rest_by layout.now.style
+        layout.now.from layout.now.unit count writer.old) }
 {
     if let TimeFrom::Local(_) = layout.from {
         text.push(b',')?;
         text.extend_from_slice(Buffer::new().format(count).as_bytes())?;
-        return writer.push_state(text);
+        return match layout.style {
+            Style::Fields => writer.push_state(text),
+            Style::Iso => writer.push_counted_rest(text, count, layout.unit, Style::Iso),
+        };
     }
-    writer.push_counted_rest(text, count, layout.unit)
+    writer.push_counted_rest(text, count, layout.unit, layout.style)
 }
 
 /// Appends the text of the row of a record, with the delimiter put back. Where memory runs out, a part
@@ -262,7 +280,7 @@ fn push_row(
         (second_of piece.now.layout.now.unit query.counts.count) writer.old }
     ensures writer { writer.new ≡ writer.old }
     ensures text { OnOk result ((row : List ℕ) × (text.new.items ≡ text.old.items ++ row)
-        × IsTextBy piece.now.layout.now piece.now.zones.now (put_back
+        × IsTextBy piece.now.layout.now piece.now.zones.now (exchanged_record
         piece.now.layout.now.delimiter (record_at piece.now.bytes.now given.now)) row) }
 {
     // The name of a file has no byte that can stand between fields.
@@ -275,7 +293,7 @@ fn push_row(
 }
 
 impl Rows {
-    /// Returns no rows, whose text is to come into a text that is given, in place of what that holds.
+    /// Returns an empty list of rows, which reuses a text.
     pub(crate) fn new(alloc: Global, mut text: RowText) -> Rows
         ensures { result ≡ empty_rows }
     {
@@ -300,15 +318,54 @@ impl Rows {
         requires split { IsSplit piece.now.bytes.now (wanted_by piece.now.layout.now) given.now }
         requires row { IsQuickRow piece.now given.now row.now }
         requires may { piece.now.first + self.old.count ≤ piece.now.most }
+        requires short { may_have piece.now.layout.now.max_record
+            (length (bytes_at piece.now.bytes.now given.now.own)) ≡ true }
         requires fits { piece.now.first + self.old.count + 1 < 2 ^ 64 }
         ensures { OnOk result (AreNext piece.now.layout.now piece.now.zones.now piece.now.most
-            (piece.now.first + self.old.count) (put_back piece.now.layout.now.delimiter
+            (piece.now.first + self.old.count) (exchanged_record piece.now.layout.now.delimiter
             (record_at piece.now.bytes.now given.now)) self.old self.new) }
     {
         // No name of a file and no instant has a byte that can stand between fields.
         piece.zones.are_sound();
         prove!(piece.layout.delimiter.byte() <= u8::MAX);
         push_quick(&mut self.text, piece, given, row)?;
+        self.count += 1;
+        Ok(())
+    }
+
+    /// Adds the row of a record without a fault, at whose instant the file shows this state.
+    #[inline(always)]
+    fn add_row(
+        &mut self,
+        piece: &Piece<'_, '_>,
+        given: &Record,
+        query: RowQuery,
+        state: FoundState<'_>,
+        pen: &mut RowPen,
+    ) -> Result<(), AllocError>
+        requires split { IsSplit piece.now.bytes.now (wanted_by piece.now.layout.now) given.now }
+        requires query { IsRowQuery piece.now given.now query }
+        requires state { IsFoundAt piece.now.zones.now query.file
+            (second_of piece.now.layout.now.unit query.counts.count) state }
+        requires fits { self.old.count + 1 < 2 ^ 64 }
+        requires pen { IsPen piece.now.zones.now pen.old }
+        ensures pen { IsPen piece.now.zones.now pen.new }
+        ensures row { OnOk result ((row : List ℕ) × (self.new ≡ record self.old {
+          text = self.old.text ++ row;
+          count = self.old.count + 1;
+        })
+            × IsTextBy piece.now.layout.now piece.now.zones.now (exchanged_record
+            piece.now.layout.now.delimiter (record_at piece.now.bytes.now given.now)) row) }
+    {
+        let shown = (piece.layout.from, piece.layout.style, state);
+        if let (TimeFrom::Local(_), Style::Fields, FoundState::Text(text)) = shown {
+            push_local(&mut self.text, piece, given, query, text)?;
+        } else {
+            pen.show(piece, query.file, state);
+            pen.row.clear();
+            push_row(&mut pen.row, piece, given, query, &mut pen.writer)?;
+            self.text.push(&pen.row)?;
+        }
         self.count += 1;
         Ok(())
     }
@@ -330,7 +387,7 @@ impl Rows {
         requires pen { IsPen piece.now.zones.now pen.old }
         ensures pen { IsPen piece.now.zones.now pen.new }
         ensures next { OnOk result (AreNext piece.now.layout.now piece.now.zones.now piece.now.most
-            (piece.now.first + self.old.count) (put_back piece.now.layout.now.delimiter
+            (piece.now.first + self.old.count) (exchanged_record piece.now.layout.now.delimiter
             (record_at piece.now.bytes.now given.now)) self.old self.new) }
     {
         // No name of a file and no instant has a byte that can stand between fields.
@@ -339,19 +396,17 @@ impl Rows {
         let lookup = look_up(pen.alloc, piece, given, file)?;
         let number = piece.first + self.count;
         match query(piece, number, given, &lookup) {
-            Ok(query) => {
-                pen.show(piece, query.file, lookup.state);
-                pen.row.clear();
-                push_row(&mut pen.row, piece, given, query, &mut pen.writer)?;
-            }
-            Err(kind) if ends_run(piece.layout.at_fault, kind) => {
+            Ok(query) => return self.add_row(piece, given, query, lookup.state, pen),
+            Err(kind) if ends_run(piece.layout.at_fault, piece.layout.records, kind) => {
                 self.fault = Some(kind);
                 return Ok(());
             }
             Err(kind) => {
                 pen.row.clear();
                 push_faulty(pen.alloc, &mut pen.row, piece, kind, given)?;
-                self.faults.push(RowFault { row: number, kind })?;
+                let own = aside(pen.alloc, piece.layout, given.own.of(piece.bytes))?;
+                let fault = RowFault { row: number, kind };
+                self.faults.push(FaultyRow { fault, own })?;
             }
         }
         self.text.push(&pen.row)?;
@@ -376,12 +431,13 @@ impl Rows {
         requires pen { IsPen piece.now.zones.now pen.old }
         ensures pen { IsPen piece.now.zones.now pen.new }
         ensures next { OnOk result (AreNext piece.now.layout.now piece.now.zones.now piece.now.most
-            (piece.now.first + self.old.count) (put_back piece.now.layout.now.delimiter
+            (piece.now.first + self.old.count) (exchanged_record piece.now.layout.now.delimiter
             (record_at piece.now.bytes.now given.now)) self.old self.new) }
     {
         let counts = matches!(piece.layout.from, TimeFrom::Count);
+        let short = may_have(piece.layout.max_record, given.own.of(piece.bytes).len());
         match known.row(states) {
-            Some(row) if counts && piece.first + self.count <= piece.most => {
+            Some(row) if counts && short && piece.first + self.count <= piece.most => {
                 self.add_quick(piece, given, &row)
             }
             _ => self.add_checked(piece, given, known.zone, pen),

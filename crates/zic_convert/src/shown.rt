@@ -11,7 +11,7 @@ use zic_columns::{BATCH, Record};
 use zic_rows::RowTime;
 use zic_zones::{RowStates, UNKNOWN};
 
-/// The numbers of the states that files show at the times of records. [`UNKNOWN`] says nothing.
+/// The numbers of the states that files show at the times of records; [`UNKNOWN`] if one isn't known.
 #[derive(Drop)]
 pub(crate) struct ShownStates<'s> {
     pub(crate) states: RowStates<'s>,
@@ -19,7 +19,7 @@ pub(crate) struct ShownStates<'s> {
 }
 
 impl<'s> ShownStates<'s> {
-    /// Returns numbers that say nothing.
+    /// Returns numbers that are all [`UNKNOWN`].
     pub(crate) fn new(states: RowStates<'s>) -> ShownStates<'s>
         ensures { result.states ≡ states.entry }
     {
@@ -53,7 +53,7 @@ impl<'s> ShownStates<'s> {
 }
 
 /// Returns the number of the state that a file shows at a time, where the record has as many fields as
-/// it must have. [`UNKNOWN`] says nothing.
+/// it must have; [`UNKNOWN`] if it isn't known.
 #[inline(always)]
 fn state_number(
     piece: &Piece<'_, '_>,

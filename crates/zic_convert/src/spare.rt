@@ -1,12 +1,12 @@
-//! Texts of rows that were written, kept with their room for rows to come.
+//! A pool of texts: those of rows that were written are reused in the next round.
 
 use crate::row::Rows;
 use std::alloc::{AllocError, Global};
 use std::sync::Mutex;
 use zic_rows::RowText;
 
-/// The longest text that is kept, in bytes.
-const LONGEST_KEPT: usize = 1_048_576;
+/// The longest text that is put aside, in bytes.
+const LONGEST_SPARE: usize = 1_048_576;
 
 /// Texts whose rows were written, for the rows of the next round: a text that is new has its room cleared
 /// first. Several threads may take texts at a time, and none waits for another.
@@ -23,17 +23,17 @@ impl SpareTexts {
         }
     }
 
-    /// Returns a text with room for rows, whatever it holds: one that was kept, or a new one with room
+    /// Returns a text with room for rows, whatever it holds: one that was put aside, or a new one with room
     /// for as many bytes where none was, or another thread is at the texts just now.
     pub(crate) fn take(&self, alloc: Global, room: usize) -> Result<RowText, AllocError> {
-        match self.kept() {
+        match self.at_hand() {
             Some(text) => Ok(text),
             None => RowText::with_capacity(alloc, room),
         }
     }
 
-    /// Returns a text that was kept, if one is at hand.
-    fn kept(&self) -> Option<RowText> {
+    /// Returns a text that was put aside, if there is one.
+    fn at_hand(&self) -> Option<RowText> {
         let mut texts = self.texts.try_lock()?;
         texts.pop()
     }
@@ -46,7 +46,7 @@ impl SpareTexts {
         };
         texts.clear();
         for rows in written {
-            if rows.text.len() <= LONGEST_KEPT && texts.push(rows.text).is_err() {
+            if rows.text.len() <= LONGEST_SPARE && texts.push(rows.text).is_err() {
                 return;
             }
         }

@@ -12,7 +12,7 @@ use std::marker::Model;
 /// failures and the bytes that reads gave. Both counts stay at the greatest `u64` once they reach
 /// it.
 ///
-/// It tells a failure of the reader or writer from one of memory: `read_to_end`, say, answers an
+/// It distinguishes a failure of the reader or writer from one of memory: `read_to_end`, say, answers an
 /// error for both. Take `failures` before such a call, and ask [`Counted::has_failed_since`] after
 /// it. An error with no failure came from no read, write or flush. An error at which callers try
 /// again, as [`io::ErrorKind::Interrupted`], is a failure too.

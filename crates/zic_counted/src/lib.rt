@@ -1,5 +1,4 @@
-//! A reader or writer that counts its failures, and writes through it. The tests stand in
-//! `program_tests`.
+//! A reader or writer that counts its failures, and writes through it.
 #![tactic(auto)]
 
 mod counted;

@@ -20,8 +20,8 @@ use Rattle.zic_tzif.specs.Block.{type_in, is_type_record, type_records, names_in
 use Rattle.zic_tzif.specs.Reading.{IsFile, checks, content_in}
 use Rattle.zic_tzif.proofs.Passed.{each_passes}
 use Rattle.zic_tzif.proofs.ReadAgree.{found}
-use Rattle.zic_tzif.proofs.ReadKept.{types_kept}
-use Rattle.zic_dump.specs.Changes.{told}
+use Rattle.zic_tzif.proofs.ReadContent.{types_read}
+use Rattle.zic_dump.specs.Changes.{shown_for}
 use Rattle.zic_dump.specs.code.Offsets.{HaveOffsets}
 
 -- ---- of types
@@ -52,7 +52,7 @@ given content t state types (inr footer) =
     of_string f t state (limits_of content.version content.text f footer.1.1) f.dst refl footer.1.2
 
 answer_offset : (content : Content) (t : ℤ) (answer : Option Shown) → All (IsLocalType content.names) content.types → Answers content t answer
-    → unsigned_abs (told answer).offset ≤ FARTHEST_FILE_OFFSET
+    → unsigned_abs (shown_for answer).offset ≤ FARTHEST_FILE_OFFSET
 answer_offset content t None types answers = omega arith
 answer_offset content t (Some state) types answers = given content t state types answers
 
@@ -63,6 +63,6 @@ have_offsets octets content file =
     let designated : list_all (λ r. is_designated (names_in octets) (type_in r).place) (type_records octets) ≡ true =
     each_passes (checks octets) file.passes 12 none (omega arith) in
     let records : list_all is_type_record (type_records octets) ≡ true = each_passes (checks octets) file.passes 13 none (omega arith) in
-    let kept : All (IsLocalType (content_in octets).names) (content_in octets).types = types_kept (names_in octets) (type_records octets) designated records in
-    let types : All (IsLocalType content.names) content.types = subst (λ (c : Content). All (IsLocalType c.names) c.types) (sym file.says) kept in
+    let unchanged : All (IsLocalType (content_in octets).names) (content_in octets).types = types_read (names_in octets) (type_records octets) designated records in
+    let types : All (IsLocalType content.names) content.types = subst (λ (c : Content). All (IsLocalType c.names) c.types) (sym file.says) unchanged in
     λ t answer. answer_offset content t answer types

@@ -9,7 +9,7 @@ use Rattle.zic_tzif.specs.Content.{Content}
 use Rattle.zic_tzif.specs.Answer.{Answers}
 use Rattle.zic_tzif.specs.Laws.{FilesSayOne}
 use Rattle.zic_tzif.proofs.AnswerLemmas.{one_answer}
-use Rattle.zic_dump.specs.Changes.{Change, IsLocalAt, IsNext, AreChanges, told}
+use Rattle.zic_dump.specs.Changes.{Change, IsLocalAt, IsNext, AreChanges, shown_for}
 use Rattle.zic_dump.specs.Text.{IsDump, change_line, head_text}
 use Rattle.zic_dump.specs.Years.{Between, year_instant}
 
@@ -48,8 +48,8 @@ module _ (one_civil : NameOneCivil) where
         let instant = one_instant first last c d is other in
         let answers = subst (λ (t : ℤ). Answers content t c.answer) instant is.answers in
         let answer = one_answer content d.instant c.answer d.answer answers other.answers in
-        let at = subst (λ (t : ℤ). IsLocalAt t (told c.answer) c.local) instant is.local in
-        let local = one_local d.instant (told d.answer) c.local d.local (subst (λ (a : Option Shown). IsLocalAt d.instant (told a) c.local) answer at) other.local in
+        let at = subst (λ (t : ℤ). IsLocalAt t (shown_for c.answer) c.local) instant is.local in
+        let local = one_local d.instant (shown_for d.answer) c.local d.local (subst (λ (a : Option Shown). IsLocalAt d.instant (shown_for a) c.local) answer at) other.local in
         ap (λ (t : ℤ). change t c.answer c.local) instant ∙ ap (λ (a : Option Shown). change d.instant a c.local) answer
         ∙ ap (λ (l : Civil). change d.instant d.answer l) local
 

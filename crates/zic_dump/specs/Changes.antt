@@ -15,9 +15,9 @@ pub record Change : Type 0 where
 
 -- The state that is shown for an answer. Local time that a file leaves open is shown as the
 -- placeholder `-00` at UT: zdump(8), RFC 9636, 3.2.
-abbrev pub told : Option Shown → Shown
-told (Some state) = state
-told None = record { offset = pos 0; daylight = false; name = codes "-00" }
+abbrev pub shown_for : Option Shown → Shown
+shown_for (Some state) = state
+shown_for None = record { offset = pos 0; daylight = false; name = codes "-00" }
 
 -- this is local time of a state at an instant
 pub record IsLocalAt (instant : ℤ) (s : Shown) (local : Civil) : Type 0 where
@@ -26,7 +26,7 @@ pub record IsLocalAt (instant : ℤ) (s : Shown) (local : Civil) : Type 0 where
 
 -- the change has the local time of its instant
 abbrev pub HasLocalTime : Change → Type 0
-HasLocalTime c = IsLocalAt c.instant (told c.answer) c.local
+HasLocalTime c = IsLocalAt c.instant (shown_for c.answer) c.local
 
 -- the answer at the instant isn't that of a second before
 pub record ChangesAt (content : Content) (t : ℤ) : Type 0 where

@@ -9,7 +9,7 @@ use Rattle.zic_calendar.specs.declared.civil_time.Civil.{Civil}
 use Rattle.zic_tzif.specs.Content.{Content}
 use Rattle.zic_tzif.specs.Answer.{Answers}
 use Rattle.zic_tzif.specs.Reading.{IsFile}
-use Rattle.zic_dump.specs.Changes.{Change, told, AreChanges}
+use Rattle.zic_dump.specs.Changes.{Change, shown_for, AreChanges}
 use Rattle.zic_dump.specs.Years.{Between, year_instant}
 
 -- hours, minutes and seconds, two digits each, after the first with this before them; seconds that
@@ -85,14 +85,14 @@ line_text local s = date_text local ++ 9 ∷ (time_text local ++ 9 ∷ (state_te
 
 -- the line of a change: local time right after it, and what is shown from then on
 abbrev pub change_line : Change → List ℕ
-change_line c = line_text c.local (told c.answer)
+change_line c = line_text c.local (shown_for c.answer)
 
 -- the lines before those of the changes: an empty one, one with the file's path, and what is shown
 -- before all changes
 abbrev pub head_text : List ℕ → Option Shown → List ℕ
 head_text path before =
     10 ∷ (codes "TZ="
-    ++ (quoted path ++ 10 ∷ 45 ∷ 9 ∷ 45 ∷ 9 ∷ (state_text (told before) ++ 10 ∷ [])))
+    ++ (quoted path ++ 10 ∷ 45 ∷ 9 ∷ 45 ∷ 9 ∷ (state_text (shown_for before) ++ 10 ∷ [])))
 
 -- the text for the bytes of a file at a path, and the years whose changes are listed
 pub record IsDump (path bytes : List ℕ) (years : Between) (text : List ℕ) : Type 0 where

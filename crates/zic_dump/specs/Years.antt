@@ -11,7 +11,7 @@ pub record Between : Type 0 where
 abbrev pub between : ℕ → ℕ → Between
 between from to = record { from = from; to = to }
 
--- years that may be asked for, the first not after the second
+-- years that may be given, the first not after the second
 pub record IsYears (years : Between) : Type 0 where
   pub low : FIRST_YEAR ≤ years.from
   pub order : years.from ≤ years.to

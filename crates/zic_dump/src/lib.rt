@@ -1,5 +1,4 @@
-//! The changes of local time that a TZif file answers, as the text of `zdump -i` (zdump(8)). The
-//! tests stand in `program_tests`.
+//! The changes of local time that a TZif file answers, as the text of `zdump -i` (zdump(8)).
 #![tactic(auto)]
 
 mod changes;

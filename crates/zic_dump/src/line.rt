@@ -8,7 +8,7 @@ ghost use Rattle.zic_base.specs.Digits.{two_digits};
 ghost use Rattle.zic_base.specs.State.{shown};
 ghost use Rattle.zic_base.specs.declared.limit.TheConstants.{FARTHEST_FILE_OFFSET};
 ghost use Rattle.zic_tzif.specs.Answer.{answered};
-ghost use Rattle.zic_dump.specs.Changes.{Change, told, HasLocalTime, IsLocalAt};
+ghost use Rattle.zic_dump.specs.Changes.{Change, shown_for, HasLocalTime, IsLocalAt};
 ghost use Rattle.zic_dump.specs.Text.{change_line, line_text, head_text, date_text, time_text, clock_text, is_placeholder, zdump_offset, escaped, quoted, is_word, name_text, state_text};
 ghost use Rattle.zic_dump.specs.code.Listed.{IsListed};
 ghost use Rattle.zic_dump.specs.code.Written.{IsWritten, text_with};
@@ -20,13 +20,13 @@ use zic_tzif::Answer;
 
 /// Returns the lines before those of changes, for a file at a path that answers this before them.
 pub(crate) fn head(alloc: Global, path: &str, before: &Answer<'_>) -> Result<Vec<u8>, AllocError>
-    requires { unsigned_abs (told (answered before.now)).offset ≤ FARTHEST_FILE_OFFSET }
+    requires { unsigned_abs (shown_for (answered before.now)).offset ≤ FARTHEST_FILE_OFFSET }
     ensures { IfOk result (λ text. text.items ≡ head_text path.now (answered before.now)) }
 {
     let mut text = Vec::from_slice(alloc, b"\nTZ=")?;
     push_quoted(&mut text, path.as_bytes())?;
     text.extend_from_slice(b"\n-\t-\t")?;
-    push_state(alloc, &mut text, &told(before))?;
+    push_state(alloc, &mut text, &shown_for(before))?;
     text.push(b'\n')?;
     Ok(text)
 }
@@ -39,11 +39,11 @@ pub(crate) fn push_change(
     answer: &Answer<'_>,
 ) -> Result<(), AllocError>
     requires listed { IsListed t }
-    requires offset { unsigned_abs (told (answered answer.now)).offset ≤ FARTHEST_FILE_OFFSET }
+    requires offset { unsigned_abs (shown_for (answered answer.now)).offset ≤ FARTHEST_FILE_OFFSET }
     ensures { OnOk result ((c : Change) × (c.instant ≡ t) × (c.answer ≡ answered answer.now)
         × HasLocalTime c × (text.new.items ≡ text.old.items ++ change_line c)) }
 {
-    let state = told(answer);
+    let state = shown_for(answer);
     let local = local_time(t, &state);
     push_line(alloc, text, &local, &state)
 }
@@ -99,8 +99,8 @@ fn push_local(text: &mut Vec<u8>, local: &Civil) -> Result<(), AllocError>
 }
 
 /// Returns what is shown for an answer.
-fn told<'a>(answer: &Answer<'a>) -> State<'a>
-    ensures { shown result ≡ told (answered answer.now) }
+fn shown_for<'a>(answer: &Answer<'a>) -> State<'a>
+    ensures { shown result ≡ shown_for (answered answer.now) }
 {
     match answer {
         Answer::Known(state) => *state,

@@ -1,5 +1,6 @@
 -- The explanations of errors.
-use Rattle.std.specs.Prelude.{◌≡◌, ◌≢◌, ◌≤◌, ◌⊎◌, ℕ, List, [], ◌∷◌, ◌++◌, codes, length, nat_eq, All}
+use denote.Bor.{Bor}
+use Rattle.std.specs.Prelude.{◌≡◌, ◌≢◌, ◌≤◌, ◌<◌, ◌*◌, ◌⊎◌, ℕ, Option, Some, None, List, [], ◌∷◌, ◌++◌, codes, length, nat_eq, All}
 use Rattle.std.specs.List.{Contains}
 use Rattle.std.specs.Str.{chars}
 use Rattle.strsim.specs.Edits.{levenshtein_row}
@@ -16,7 +17,9 @@ section title (byte ∷ lines) = codes "\n" ++ title ++ codes ":\n" ++ (byte ∷
 abbrev pub explanation_text : Entry → List ℕ
 explanation_text entry =
     entry.name.now ++ codes "\n\n" ++ entry.says.now
-    ++ section (codes "Expected") entry.expected.now ++ entry.examples.now
+    ++ section (codes "Expected") entry.expected.now
+    ++ section (codes "The examples use") entry.setup.now ++ section (codes "Wrong") entry.wrong.now
+    ++ section (codes "It prints") entry.prints.now ++ section (codes "Right") entry.right.now
     ++ section (codes "Usual cause") entry.cause.now
 
 -- the line of an error in the list of all
@@ -46,6 +49,16 @@ pub record IsNearest (entries : List Entry) (name nearest : List ℕ) : Type 0 w
   pub has_name : HasName entries nearest entry
   pub least : All (λ other. edits name nearest ≤ edits name other.name.now) entries
 
+-- fewer than a third of a name have to be edited: own choice
+abbrev pub IsNear : List ℕ → List ℕ → Type 0
+IsNear name near = edits name near * 3 < length near
+
+-- the nearest name, where it is near; of no entries there is none
+abbrev pub IsNearName : List Entry → List ℕ → Option (Bor (List ℕ)) → Type 0
+IsNearName entries name (Some near) = IsNearest entries name near.now × IsNear name near.now
+IsNearName entries name None =
+    (entries ≡ []) ⊎ ((nearest : List ℕ) × IsNearest entries name nearest × (length nearest ≤ edits name nearest * 3))
+
 -- what is expected and what people usually meant
 abbrev pub expectation_text : Entry → List ℕ
 expectation_text entry =
@@ -60,5 +73,5 @@ IsExpectation entries name text =
 -- why there is no explanation: no error has the name, or memory ran out
 abbrev pub IsUnexplained : List Entry → List ℕ → Unexplained → Type 0
 IsUnexplained entries name (NoError nearest) =
-    HasNoName entries name × IsNearest entries name nearest.now
+    HasNoName entries name × IsNearName entries name nearest
 IsUnexplained entries name Memory = Unit

@@ -1,3 +1,2 @@
-pub mod code
 pub mod Explanation
-pub mod Place
+pub mod Shown

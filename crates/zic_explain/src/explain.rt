@@ -2,7 +2,7 @@
 
 ghost use Rattle.std.specs.Prelude.{◌≡◌, ◌<◌, ◌++◌, length, string_bytes, IfOk, IfErr, IfSome, IfNone, OnOk};
 ghost use Rattle.std.specs.List.{flat_map};
-ghost use Rattle.zic_explain.specs.Explanation.{section, explanation_text, index_line, IsExplanation, IsExpectation, IsUnexplained, HasName, HasNoName, IsNearest};
+ghost use Rattle.zic_explain.specs.Explanation.{section, explanation_text, index_line, IsExplanation, IsExpectation, IsUnexplained, HasName, HasNoName, IsNearest, IsNearName};
 
 use crate::entry::Entry;
 use std::alloc::{AllocError, Global};
@@ -13,8 +13,8 @@ use strsim::levenshtein;
 pub enum Unexplained {
     /// No error has the name.
     NoError {
-        /// The name of an error that is nearest to it.
-        nearest: &'static str,
+        /// The name of an error that is nearest to it, if that is near.
+        nearest: Option<&'static str>,
     },
     /// Memory ran out.
     Memory,
@@ -37,19 +37,18 @@ impl From<AllocError> for Unexplained {
 ///
 /// No entry has the name, or memory ran out.
 pub fn explanation(alloc: Global, entries: &[Entry], name: &str) -> Result<String, Unexplained>
-    requires { 0 < length entries.now }
     ensures ok { IfOk result (λ text. IsExplanation entries.now name.now (string_bytes text)) }
     ensures err { IfErr result (IsUnexplained entries.now name.now) }
 {
     match find(entries, name) {
         Some(entry) => Ok(text_of(alloc, &entry)?),
         None => Err(Unexplained::NoError {
-            nearest: nearest(alloc, entries, name)?,
+            nearest: near_name(alloc, entries, name)?,
         }),
     }
 }
 
-/// Returns the sections that tell what is expected, and what people usually meant, where an error
+/// Returns the sections that say what is expected, and what people usually meant, where an error
 /// has this name, or an empty text where none has it.
 pub fn expectation(alloc: Global, entries: &[Entry], name: &str) -> Result<String, AllocError>
     ensures { IfOk result (λ lines. IsExpectation entries.now name.now (string_bytes lines)) }
@@ -86,6 +85,26 @@ fn find(entries: &[Entry], name: &str) -> Option<Entry>
     None
 }
 
+/// Returns the name that takes the fewest edits from this name, unless that is a third of it or more.
+fn near_name(
+    alloc: Global,
+    entries: &[Entry],
+    name: &str,
+) -> Result<Option<&'static str>, AllocError>
+    ensures { IfOk result (IsNearName entries.now name.now) }
+{
+    if entries.is_empty() {
+        return Ok(None);
+    }
+    let nearest = nearest(alloc, entries, name)?;
+    let edits = levenshtein(alloc, name, nearest)?;
+    if edits.saturating_mul(3) < nearest.len() {
+        Ok(Some(nearest))
+    } else {
+        Ok(None)
+    }
+}
+
 /// Returns the name that takes the fewest edits from this name.
 #[tactic(auto, using(crate::proofs::Names::first_name))]
 fn nearest(alloc: Global, entries: &[Entry], name: &str) -> Result<&'static str, AllocError>
@@ -104,14 +123,17 @@ fn nearest(alloc: Global, entries: &[Entry], name: &str) -> Result<&'static str,
     Ok(nearest)
 }
 
-/// Returns what is told of an error.
+/// Returns the explanation of an error.
 fn text_of(alloc: Global, entry: &Entry) -> Result<String, AllocError>
     ensures { IfOk result (λ text. string_bytes text ≡ explanation_text entry.now) }
 {
     let mut text = String::new(alloc);
     push_all(&mut text, &[entry.name, "\n\n", entry.says])?;
     push_section(&mut text, "Expected", entry.expected)?;
-    text.push_str(entry.examples)?;
+    push_section(&mut text, "The examples use", entry.setup)?;
+    push_section(&mut text, "Wrong", entry.wrong)?;
+    push_section(&mut text, "It prints", entry.prints)?;
+    push_section(&mut text, "Right", entry.right)?;
     push_section(&mut text, "Usual cause", entry.cause)?;
     Ok(text)
 }

@@ -1,21 +1,13 @@
-//! The texts that explain the errors of the program, by their names. They are those of
-//! docs/errors.txt, of which docs/ERRORS.md is made too. The tests stand in `program_tests`.
+//! The texts that explain the errors of the program, by their names, and how words and lines are shown.
+//! The texts are those of docs/errors.txt, of which docs/ERRORS.md is made too.
 #![tactic(auto)]
 
 mod entry;
 mod explain;
-mod faulty;
-mod fields;
-mod form;
-mod place;
-mod record;
+mod other_texts;
 mod shown;
-mod texts;
-mod zones;
+mod source_texts;
 
 pub use entry::{Entry, entries};
 pub use explain::{Unexplained, expectation, explanation, index};
-pub use place::{QuotedLines, line_place, quote_place, row_place};
-pub use record::RecordForm;
-pub use shown::shown_word;
-pub use zones::nearest_zone;
+pub use shown::{Span, push_bytes, push_line_end, push_shown, shown_word};

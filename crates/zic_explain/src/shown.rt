@@ -1,10 +1,8 @@
 //! A line as it stands, with a part of it underlined, and words without control characters.
 
 ghost use Rattle.std.specs.Prelude.{All, IfOk, IsTrue, OnOk, string_bytes};
-ghost use Rattle.zic_explain.specs.Place.{IsHarmless, IsShown};
-ghost use Rattle.zic_explain.specs.code.Shown.{StaysShown};
+ghost use Rattle.zic_explain.specs.Shown.{IsHarmless, IsShown, StaysShown};
 
-use crate::fields::Span;
 use std::alloc::{AllocError, Global};
 
 /// The greatest number of bytes that are shown of a line or a record.
@@ -12,6 +10,15 @@ const WIDTH: usize = 200;
 
 /// The number of bytes that are shown before an underlined part that doesn't fit otherwise.
 const BEFORE: usize = 40;
+
+/// A part of a line or a record, from a byte up to another.
+#[derive(Clone, Copy, Debug)]
+pub struct Span {
+    /// The index of its first byte.
+    pub start: usize,
+    /// The index after its last byte.
+    pub end: usize,
+}
 
 /// Returns a word as it is shown to people. One that has control characters is shown in ASCII, with
 /// each other byte as `\x1b`, so that a terminal takes none for a command.
@@ -30,7 +37,7 @@ pub fn shown_word(alloc: Global, word: &str) -> Result<String, AllocError>
     Ok(shown)
 }
 
-/// Tells whether a word has no control characters: those of ASCII, and those that are encoded in two
+/// Returns whether a word has no control characters: those of ASCII, and those that are encoded in two
 /// bytes of which the first is 0xc2.
 fn is_harmless(word: &str) -> bool
     ensures { IsTrue result → All IsHarmless word.now }
@@ -41,8 +48,13 @@ fn is_harmless(word: &str) -> bool
 }
 
 /// Adds a line, cut where it is long, and a line with `^` below the part of it. Bytes that a
-/// terminal could take for a command, or that aren't ASCII, are shown as `\x1b`.
-pub(crate) fn push_shown(text: &mut String, line: &[u8], part: Span) -> Result<(), AllocError>
+/// terminal could take for a command, or that aren't ASCII, are shown as `\x1b`. The contract says
+/// that all is shown; where the line is cut and the marks are is tested.
+///
+/// # Errors
+///
+/// Memory ran out.
+pub fn push_shown(text: &mut String, line: &[u8], part: Span) -> Result<(), AllocError>
     ensures { OnOk result (StaysShown (string_bytes text.old) (string_bytes text.new)) }
 {
     let start = if part.end <= WIDTH {
@@ -69,13 +81,18 @@ pub(crate) fn push_shown(text: &mut String, line: &[u8], part: Span) -> Result<(
 }
 
 /// Ends a line.
-pub(crate) fn push_line_end(text: &mut String) -> Result<(), AllocError>
+///
+/// # Errors
+///
+/// Memory ran out.
+pub fn push_line_end(text: &mut String) -> Result<(), AllocError>
     ensures { OnOk result (StaysShown (string_bytes text.old) (string_bytes text.new)) }
 {
     push_ascii(text, b'\n')
 }
 
-/// Adds what stands below the bytes of a line from `start` on, up to the end of the part.
+/// Adds what stands below the bytes of a line from `start` on, up to the end of the part. A part of no
+/// bytes has one mark.
 fn push_underline(
     text: &mut String,
     window: &[u8],
@@ -84,9 +101,10 @@ fn push_underline(
 ) -> Result<(), AllocError>
     ensures { OnOk result (StaysShown (string_bytes text.old) (string_bytes text.new)) }
 {
+    let end = part.end.max(part.start.saturating_add(1));
     let mut at = start;
     for byte in window {
-        if at >= part.end {
+        if at >= end {
             return Ok(());
         }
         let mark = match *byte {
@@ -97,7 +115,7 @@ fn push_underline(
         push_repeated(text, mark, width(*byte))?;
         at = at.saturating_add(1);
     }
-    Ok(())
+    push_repeated(text, b'^', (at <= part.start) as usize)
 }
 
 /// Adds what is shown of a byte some times.
@@ -118,8 +136,13 @@ fn width(byte: u8) -> usize {
     }
 }
 
-/// Adds what is shown of bytes.
-pub(crate) fn push_bytes(text: &mut String, bytes: &[u8]) -> Result<(), AllocError>
+/// Adds bytes as they are shown: those that a terminal could take for a command, or that aren't ASCII,
+/// as `\x1b`.
+///
+/// # Errors
+///
+/// Memory ran out.
+pub fn push_bytes(text: &mut String, bytes: &[u8]) -> Result<(), AllocError>
     ensures { OnOk result (StaysShown (string_bytes text.old) (string_bytes text.new)) }
 {
     for byte in bytes {

@@ -7,7 +7,7 @@ use std::io::{Read, Seek, SeekFrom};
 /// A path that opens the file of standard input anew.
 const INPUT: &str = "/dev/stdin";
 
-/// What the system tells of the open file of standard input.
+/// What the system says of the open file of standard input.
 const INPUT_INFO: &str = "/proc/self/fdinfo/0";
 
 /// The number of bytes that are read at once.
@@ -24,7 +24,7 @@ pub(crate) fn column_start<R: Files + AllocGlobal>(rt: &R) -> Option<u64> {
 }
 
 /// Returns what is shown of a record in the file of standard input from this offset on; `None` where
-/// it can't be read. No more of the column is kept.
+/// it can't be read. No more of the column is stored.
 pub(crate) fn find_record<R: Files + AllocGlobal>(
     rt: &R,
     start: u64,

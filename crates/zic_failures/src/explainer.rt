@@ -1,17 +1,21 @@
 //! Explains a failure, by the request and by what was read.
 
 use crate::column::{column_start, find_record};
+use crate::expected::Expected;
+use crate::reason::{unread, unwritten};
 use crate::refused::refused_file;
 use crate::scan::{Found, Sought};
 use std::alloc::{AllocError, Global};
 use std::fs::Files;
 use std::slice;
-use zic_base::RowKind;
-use zic_command_line::{Request, Zones};
-use zic_explain::{
-    RecordForm, entries, expectation, line_place, nearest_zone, quote_place, row_place, shown_word,
-};
+use zic_base::{Kind, RowKind};
+use zic_command_line::{Building, Request, Zones};
+use zic_explain::{entries, expectation, shown_word};
 use zic_io::Failure;
+use zic_places::{
+    RecordForm, TextLine, bad_abbreviation, first_name, line_place, nearest_rules, nearest_zone,
+    quote_place, row_place,
+};
 use zic_plan::{Header, Layout, Records, ZoneFrom};
 
 /// Explains the failure of a request.
@@ -19,16 +23,18 @@ use zic_plan::{Header, Layout, Records, ZoneFrom};
 pub struct Explainer {
     /// The words that name sources or a file, as they are shown to people.
     words: Vec<String>,
-    /// The texts of the sources, which the caller adds once all of them are read.
-    pub texts: Vec<Vec<u8>>,
+    /// The texts of the sources.
+    texts: Vec<Vec<u8>>,
+    /// Whether each text is a source of its own.
+    are_apart: bool,
     /// Where standard input begins in its file, if it is one.
     start: Option<u64>,
     /// The number of records before the rows of the column: 1 for a header, else 0.
     before: u64,
     /// Where a record of the column ends.
     records: Records,
-    /// Where the records of the column have the zone and the instant of a row.
-    form: RecordForm,
+    /// What the records of the column have.
+    expected: Expected,
     /// The folder of the files of zones, if one has them.
     folder: Option<String>,
 }
@@ -43,35 +49,54 @@ impl Explainer {
         Ok(Explainer {
             words: words_of(rt.alloc(), request)?,
             texts: Vec::new(rt.alloc()),
+            are_apart: matches!(request, Request::Diff { .. }),
             start: column_start(rt),
             before: records_before(request),
             records: records_of(request),
-            form: form_of(request),
+            expected: expected_of(request),
             folder: folder_of(request)?,
         })
     }
 
-    /// Returns the lines that explain a failure, without the last line end. They may be none.
+    /// Takes the layout of the column, where its header says which fields are read.
+    pub fn read_by(&mut self, layout: &Layout) {
+        self.expected = expected_by(layout);
+    }
+
+    /// Returns the lines that explain a failure of a request over sources of these texts, without the last
+    /// line end. They may be none.
     ///
     /// # Errors
     ///
     /// Fails where memory is refused.
     pub fn explanation<R: Files + AllocGlobal>(
-        &self,
+        mut self,
         rt: &R,
         failure: &Failure,
+        texts: Vec<Vec<u8>>,
     ) -> Result<String, AllocError> {
         let alloc = rt.alloc();
+        self.texts = texts;
         let record = self.record(rt, failure);
-        let mut text = self.place(alloc, failure, record.as_ref())?;
+        let mut text = self.place(rt, failure, record.as_ref())?;
         let mut reason = self.refused(rt, failure, record.as_ref())?;
         if reason.is_empty() {
-            let entries = entries(alloc)?;
-            reason = expectation(alloc, &entries, name_of(failure))?;
+            reason = self.sections(alloc, failure)?;
         }
         text.push_str(reason.as_str())?;
         let _ = text.pop();
         Ok(text)
+    }
+
+    /// Returns the sections that say what is expected.
+    fn sections(&self, alloc: Global, failure: &Failure) -> Result<String, AllocError> {
+        let entries = entries(alloc)?;
+        match failure {
+            Failure::Row { kind, .. }
+            | Failure::Rows { kind, .. }
+            | Failure::Rejected { kind, .. } => { self.expected.sections(alloc, &entries, *kind) }
+            _ => expectation(alloc, &entries, name_of(failure)),
+        }
     }
 
     /// Returns the lines that say why the file of a zone that a failure names is refused, if it is.
@@ -86,32 +111,75 @@ impl Explainer {
         };
         match (failure, record) {
             (Failure::UnknownZone(name), _) => refused_file(rt, folder.as_str(), name.as_bytes()),
-            (Failure::Row { kind, .. } | Failure::Rows { kind, .. }, Some(record))
-                if *kind == RowKind::RowZone => { refused_file(rt, folder.as_str(), &record.zone) }
+            (
+                Failure::Row { kind, .. }
+                | Failure::Rows { kind, .. }
+                | Failure::Rejected { kind, .. },
+                Some(record),
+            ) if *kind == RowKind::RowZone => { refused_file(rt, folder.as_str(), &record.zone) }
             _ => Ok(String::new(rt.alloc())),
         }
     }
 
-    /// Returns the lines that say where a failure is, if it is at a place.
-    fn place(
+    /// Returns the lines that say where a failure is, if it is at a place, and which name is nearest where
+    /// one is unknown.
+    fn place<R: Files + AllocGlobal>(
         &self,
-        alloc: Global,
+        rt: &R,
         failure: &Failure,
         record: Option<&Found>,
     ) -> Result<String, AllocError> {
+        let alloc = rt.alloc();
         let path = self.word(0);
         match failure {
-            Failure::Line { line, kind } => { line_place(alloc, *kind, path, self.text(0), *line) }
+            Failure::Line { line, kind } => self.line_place(alloc, *kind, 0, *line),
             Failure::TextLine { text, line, kind } => {
-                let text = text.saturating_sub(1) as usize;
-                line_place(alloc, *kind, self.word(text), self.text(text), *line)
+                self.line_place(alloc, *kind, text.saturating_sub(1) as usize, *line)
             }
             Failure::File(_) => format!(in alloc; "--> {path}\n"),
-            Failure::Row { row, kind } | Failure::Rows { row, kind, .. } => {
-                self.row_place(alloc, *kind, *row, record)
-            }
+            Failure::Row { row, kind }
+            | Failure::Rows { row, kind, .. }
+            | Failure::Rejected { row, kind, .. } => { self.row_place(alloc, *kind, *row, record) }
+            Failure::UnknownZone(name) => nearest_zone(alloc, self.text(0), name.as_bytes()),
+            Failure::CannotRead(path) => unread(rt, path.as_str()),
+            Failure::CannotWrite(path) => unwritten(rt, path.as_str()),
             _ => Ok(String::new(alloc)),
         }
+    }
+
+    /// Returns the lines that say where the fault of a line is, what it is about, and which line or name
+    /// it is to be compared with.
+    fn line_place(
+        &self,
+        alloc: Global,
+        kind: Kind,
+        text: usize,
+        line: u64,
+    ) -> Result<String, AllocError> {
+        let mut place = line_place(alloc, kind, self.word(text), self.text(text), line)?;
+        let (texts, index) = match self.texts.get(text) {
+            Some(alone) if self.are_apart => (slice::from_ref(alone), 0),
+            _ => (&self.texts[..], text),
+        };
+        let at = TextLine { text: index, line };
+        let related = match kind {
+            Kind::UnknownRules => nearest_rules(alloc, texts, at)?,
+            Kind::BadAbbreviation => bad_abbreviation(alloc, texts, at)?,
+            Kind::DuplicateName => match first_name(alloc, texts, at)? {
+                Some(first) if self.are_apart => self.given_first(alloc, text, first.line)?,
+                Some(first) => self.given_first(alloc, first.text, first.line)?,
+                None => return Ok(place),
+            },
+            _ => return Ok(place),
+        };
+        place.push_str(related.as_str())?;
+        Ok(place)
+    }
+
+    /// Returns a line that says where a name is given first.
+    fn given_first(&self, alloc: Global, text: usize, line: u64) -> Result<String, AllocError> {
+        let path = self.word(text);
+        format!(in alloc; "The name is given in {path}:{line} first.\n")
     }
 
     /// Returns the lines that say where the fault of a row is, and which zone's name is nearest.
@@ -123,9 +191,9 @@ impl Explainer {
         record: Option<&Found>,
     ) -> Result<String, AllocError> {
         let Some(record) = record else {
-            return row_place(alloc, kind, row, self.form, None);
+            return row_place(alloc, kind, row, self.expected.form, None);
         };
-        let mut place = row_place(alloc, kind, row, self.form, Some(&record.text[..]))?;
+        let mut place = row_place(alloc, kind, row, self.expected.form, Some(&record.text[..]))?;
         if let Some(lines) = record.lines {
             place.push_str(quote_place(alloc, lines)?.as_str())?;
         }
@@ -140,14 +208,15 @@ impl Explainer {
     /// again.
     fn record<R: Files + AllocGlobal>(&self, rt: &R, failure: &Failure) -> Option<Found> {
         let row = match failure {
-            Failure::Row { row, .. } | Failure::Rows { row, .. } => *row,
+            Failure::Row { row, .. } | Failure::Rows { row, .. } | Failure::Rejected { row, .. } =>
+                *row,
             _ => return None,
         };
         let sought = Sought {
             number: self.before.saturating_add(row),
             records: self.records,
-            delimiter: self.form.delimiter,
-            zone: self.form.zone,
+            delimiter: self.expected.form.delimiter,
+            zone: self.expected.form.zone,
         };
         find_record(rt, self.start?, sought)
     }
@@ -185,17 +254,17 @@ fn records_of(request: &Request) -> Records {
     }
 }
 
-/// Returns where the records of the column have the zone and the instant of a row.
-fn form_of(request: &Request) -> RecordForm {
+/// Returns what the records of the column have.
+fn expected_of(request: &Request) -> Expected {
     match request {
-        Request::Convert(order) => form_by(&order.layout),
-        _ => form_by(&Layout::plain(Header::Absent)),
+        Request::Convert(order) => expected_by(&order.layout),
+        _ => expected_by(&Layout::plain(Header::Absent)),
     }
 }
 
-/// Returns where the records of a column of this layout have the zone and the instant of a row.
-fn form_by(layout: &Layout) -> RecordForm {
-    RecordForm {
+/// Returns what the records of a column of this layout have.
+fn expected_by(layout: &Layout) -> Expected {
+    let form = RecordForm {
         zone: match &layout.zone {
             ZoneFrom::Field(index) => Some(*index),
             ZoneFrom::Name(_) => None,
@@ -204,6 +273,11 @@ fn form_by(layout: &Layout) -> RecordForm {
         from: layout.from,
         unit: layout.unit,
         delimiter: layout.delimiter.byte(),
+    };
+    Expected {
+        form,
+        count: layout.count,
+        max_record: layout.max_record,
     }
 }
 
@@ -235,7 +309,7 @@ fn named_in(request: &Request) -> &[String] {
             Zones::Source(source) => slice::from_ref(source),
             Zones::Tree(_) => &[],
         },
-        Request::Build { sources, .. }
+        Request::Build(Building { sources, .. })
         | Request::Verify { sources, .. }
         | Request::Diff { sources, .. } => sources,
         Request::Show { file, .. } | Request::ShowLocal { file, .. } | Request::Dump { file, .. } =>
@@ -249,6 +323,7 @@ fn name_of(failure: &Failure) -> &'static str {
     match failure {
         Failure::Line { kind, .. } | Failure::TextLine { kind, .. } => kind.name(),
         Failure::Row { kind, .. } | Failure::Rows { kind, .. } => kind.name(),
+        Failure::Rejected { kind, .. } => kind.name(),
         Failure::ColumnTooLong => "ColumnTooLong",
         Failure::File(reason) => reason.name(),
         Failure::CannotRead(_) => "cannot read PATH",

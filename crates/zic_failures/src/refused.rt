@@ -32,7 +32,7 @@ pub(crate) fn refused_file<R: Files + AllocGlobal>(
     }
 }
 
-/// Tells whether what has the name of a zone in a folder is no regular file.
+/// Returns whether what has the name of a zone in a folder is no regular file.
 fn is_special<R: Files + AllocGlobal>(
     rt: &R,
     folder: &str,

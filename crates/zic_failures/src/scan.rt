@@ -1,13 +1,13 @@
 //! The search for a record of a column, byte by byte, which keeps of it only what is shown.
 
 use std::alloc::{AllocError, Global};
-use zic_explain::QuotedLines;
+use zic_places::QuotedLines;
 use zic_plan::Records;
 
-/// The greatest number of bytes that are kept of a record.
+/// The greatest number of bytes that are stored of a record.
 const LONGEST_TEXT: usize = 1_024;
 
-/// The greatest number of bytes that are kept of a zone's name. No zone has a name of as many.
+/// The greatest number of bytes that are stored of a zone's name. No zone has a name of as many.
 const LONGEST_NAME: usize = 256;
 
 /// Where in a column a record is sought, and what of it is shown.

@@ -8,25 +8,27 @@ use Rattle.zic_io.specs.Failing.{run_failure}
 use Rattle.zic_io.specs.declared.failure.Failure.{Failure}
 use Rattle.zic_plan.specs.Plan.{Limits}
 use Rattle.zic_plan.specs.declared.layout.Layout.{Layout}
-use Rattle.zic_file_commands.specs.Converting.{HasZone, IsFailureOfNames, IsFailureOfRows, IsZoneAsked, zones_of}
+use Rattle.zic_file_commands.specs.Converting.{HasZone, IsFailureOfNames, IsFailureOfRows, IsZoneRequested, zones_of}
 
-module _ {Z : Type 0} (grown broken : Z → Z → Type 0) (asked_for : Z → List ℕ → Z → Type 0) (may_be : Z → List File → Type 0) (joins : (a b c : Z) → grown a b → grown b c → grown a c)
-    (narrows : (a b : Z) (files : List File) → grown a b → may_be b files → may_be a files) (zones mid new : Z) (grew : grown zones mid) (layout : Layout) (asked : IsZoneAsked layout.zone (zones_of grown broken asked_for may_be zones mid))
+module _ {Z : Type 0} (grown broken : Z → Z → Type 0) (requests : Z → List ℕ → Z → Type 0) (may_be : Z → List File → Type 0) (joins : (a b c : Z) → grown a b → grown b c → grown a c)
+    (narrows : (a b : Z) (files : List File) → grown a b → may_be b files → may_be a files) (zones mid new : Z) (grew : grown zones mid) (layout : Layout) (requested : IsZoneRequested layout.zone (zones_of grown broken requests may_be zones mid))
     (has : (files : List File) → may_be mid files → HasZone files layout.zone) {R W : Type 0} (run : Run R W) (why : RunStop) (failure : Failure) (is : failure ≡ run_failure why 1) where
   -- the line of names can't be written
-  pub names_fail : (most : ℕ) → IsCauseOf most run.reader run.reader' run.writer run.writer' why → EndsAtNames layout why run mid new → IsFailureOfNames layout run (zones_of grown broken asked_for may_be zones new) failure
-  names_fail most cause names = record {
-    is = is ∙ ap (λ (stop : RunStop). run_failure stop 1) names.is;
-    grown = subst (grown zones) (sym names.unasked) grew;
-    alone = subst (λ (z : Z). IsZoneAsked layout.zone (zones_of grown broken asked_for may_be zones z)) (sym names.unasked) asked;
-    has_zone = λ files may. has files (subst (λ (z : Z). may_be z files) names.unasked may);
-    ends = record { is = refl; unread = names.unread; unasked = refl; unnoted = names.unnoted; part = names.part; starts = names.starts; wrote = names.wrote };
-    failed = subst (λ (stop : RunStop). IsCauseOf most run.reader run.reader' run.writer run.writer' stop) names.is cause;
+  pub names_fail : (most : ℕ) → IsCauseOf most run.reader run.reader' run.writer run.writer' why → EndsAtNames layout why run × (new ≡ mid) → IsFailureOfNames layout run (zones_of grown broken requests may_be zones new) failure
+  names_fail most cause (names, unrequested) = record {
+    grown = subst (grown zones) (sym unrequested) grew;
+    alone = subst (λ (z : Z). IsZoneRequested layout.zone (zones_of grown broken requests may_be zones z)) (sym unrequested) requested;
+    has_zone = λ files may. has files (subst (λ (z : Z). may_be z files) unrequested may);
+    fails = record {
+      is = is ∙ ap (λ (stop : RunStop). run_failure stop 1) names.is;
+      ends = record { is = refl; unread = names.unread; unnoted = names.unnoted; part = names.part; starts = names.starts; wrote = names.wrote };
+      failed = subst (λ (stop : RunStop). IsCauseOf most run.reader run.reader' run.writer run.writer' stop) names.is cause;
+    };
   }
 
   -- the conversion ends early
   pub rows_fail : (plan : Limits) → IsCauseOf plan.max_bytes run.reader run.reader' run.writer run.writer' why
-      → EndsByZones grown broken may_be mid new why (EndsBy layout plan.max_rows why run) → IsFailureOfRows plan layout run (zones_of grown broken asked_for may_be zones new) failure
+      → EndsByZones grown broken may_be mid new why (EndsBy layout plan.max_rows why run) → IsFailureOfRows plan layout run (zones_of grown broken requests may_be zones new) failure
   rows_fail plan cause rows = record {
     stop = why;
     is = is;

@@ -3,13 +3,13 @@ use Rattle.std.proofs.Common.{◌≡◌, ◌≤◌, ℕ, ℤ, List, [], ◌∷�
 use Rattle.std.specs.Prelude.{unsigned_abs}
 use Rattle.zic_base.specs.State.{Shown}
 use Rattle.zic_base.specs.declared.limit.TheConstants.{FARTHEST_FILE_OFFSET}
-use Rattle.zic_dump.specs.Changes.{told}
+use Rattle.zic_dump.specs.Changes.{shown_for}
 use Rattle.zic_local.specs.LocalTime.{HaveOffsets}
 use Rattle.zic_tzif.specs.Answer.{Answers}
 use Rattle.zic_tzif.specs.Content.{Content}
 
 -- the UT offset of what a file answers
-pub near_answer : (content : Content) → HaveOffsets content → (t : ℤ) (answer : Option Shown) → Answers content t answer → unsigned_abs (told answer).offset ≤ FARTHEST_FILE_OFFSET
+pub near_answer : (content : Content) → HaveOffsets content → (t : ℤ) (answer : Option Shown) → Answers content t answer → unsigned_abs (shown_for answer).offset ≤ FARTHEST_FILE_OFFSET
 near_answer content near t None answers = omega arith
 near_answer content near t (Some state) answers = near t state.offset (record { state = state; answers = answers; is = refl })
 

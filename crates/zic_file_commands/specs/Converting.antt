@@ -20,7 +20,7 @@ abbrev pub HasZone : List File → ZoneFrom → Type 0
 HasZone files (zone.Field index) = Unit {0}
 HasZone files (zone.Name name) = is_named files (string_bytes name) ≡ true
 
--- why there is no zone for all rows: no file has its name, and the failure tells that name, unless memory ran out
+-- why there is no zone for all rows: no file has its name, and the failure has that name, unless memory ran out
 abbrev pub IsFailureOfZone : List File → ZoneFrom → Failure → Type 0
 IsFailureOfZone files (zone.Field index) failure = ⊥
 IsFailureOfZone files (zone.Name name) failure =
@@ -38,57 +38,61 @@ pub record IsUntouched {R W : Type 0} (run : Run R W) : Type 0 where
   pub unwritten : run.writer' ≡ run.writer
   pub unnoted : run.output.log' ≡ run.output.log
 
--- The zones of a conversion, before it and after it: how zones grow as names are asked for and break as memory is refused, what may come of
--- them where one name alone is asked for, and the files that rows may be made by.
-pub record ZonesAsked (Z : Type 0) : Type 1 where
+-- The zones of a conversion, before it and after it: how zones grow as names are requested and break as memory is refused, what they may be
+-- where one name alone is requested, and the files that rows may be made by.
+pub record ZonesRequested (Z : Type 0) : Type 1 where
   pub grown : Z → Z → Type 0
   pub broken : Z → Z → Type 0
-  pub asked_for : Z → List ℕ → Z → Type 0
+  pub requests : Z → List ℕ → Z → Type 0
   pub may_be : Z → List File → Type 0
   pub zones : Z
   pub zones' : Z
 
-abbrev pub zones_of : {Z : Type 0} → (Grown Broken : Z → Z → Type 0) → (Z → List ℕ → Z → Type 0) → (Z → List File → Type 0) → Z → Z → ZonesAsked Z
-zones_of Grown Broken AskedFor MayBe zones zones' = record { grown = Grown; broken = Broken; asked_for = AskedFor; may_be = MayBe; zones = zones; zones' = zones' }
+abbrev pub zones_of : {Z : Type 0} → (Grown Broken : Z → Z → Type 0) → (Z → List ℕ → Z → Type 0) → (Z → List File → Type 0) → Z → Z → ZonesRequested Z
+zones_of Grown Broken Requests MayBe zones zones' = record { grown = Grown; broken = Broken; requests = Requests; may_be = MayBe; zones = zones; zones' = zones' }
 
--- no zone was asked for but the one that all rows are to be in, if there is to be one
-abbrev pub IsZoneAsked : {Z : Type 0} → ZoneFrom → ZonesAsked Z → Type 0
-IsZoneAsked (zone.Field index) asked = asked.zones' ≡ asked.zones
-IsZoneAsked (zone.Name name) asked = asked.asked_for asked.zones (string_bytes name) asked.zones'
+-- no zone was requested but the one that all rows are to be in, if there is to be one
+abbrev pub IsZoneRequested : {Z : Type 0} → ZoneFrom → ZonesRequested Z → Type 0
+IsZoneRequested (zone.Field index) requested = requested.zones' ≡ requested.zones
+IsZoneRequested (zone.Name name) requested = requested.requests requested.zones (string_bytes name) requested.zones'
 
--- Why zones have none for all rows: memory was refused as the zone was asked for, or by all files that rows may be made by then, there is
+-- Why zones have none for all rows: memory was refused as the zone was requested, or by all files that rows may be made by then, there is
 -- none.
-abbrev pub IsFailureOfZones : {Z : Type 0} → ZoneFrom → ZonesAsked Z → Failure → Type 0
-IsFailureOfZones (zone.Field index) asked failure = ⊥
-IsFailureOfZones (zone.Name name) asked failure =
-    ((failure ≡ failures.Memory) × asked.broken asked.zones asked.zones')
-    ⊎ (asked.grown asked.zones asked.zones' × ((files : List File) → asked.may_be asked.zones' files → IsFailureOfZone files (zone.Name name) failure))
+abbrev pub IsFailureOfZones : {Z : Type 0} → ZoneFrom → ZonesRequested Z → Failure → Type 0
+IsFailureOfZones (zone.Field index) requested failure = ⊥
+IsFailureOfZones (zone.Name name) requested failure =
+    ((failure ≡ failures.Memory) × requested.broken requested.zones requested.zones')
+    ⊎ (requested.grown requested.zones requested.zones' × ((files : List File) → requested.may_be requested.zones' files → IsFailureOfZone files (zone.Name name) failure))
 
--- the zones have none for all rows; nothing was read or written, and no other zone was asked for
-pub record IsFailureWithoutZone {R W Z : Type 0} (layout : Layout) (run : Run R W) (asked : ZonesAsked Z) (failure : Failure) : Type 0 where
+-- the zones have none for all rows; nothing was read or written, and no other zone was requested
+pub record IsFailureWithoutZone {R W Z : Type 0} (layout : Layout) (run : Run R W) (requested : ZonesRequested Z) (failure : Failure) : Type 0 where
   pub untouched : IsUntouched run
-  pub alone : IsZoneAsked layout.zone asked
-  pub of_zones : IsFailureOfZones layout.zone asked failure
+  pub alone : IsZoneRequested layout.zone requested
+  pub of_zones : IsFailureOfZones layout.zone requested failure
 
--- the zones have one for all rows, if there is to be one, no other zone was asked for, and the writer failed at the line of names
-pub record IsFailureOfNames {R W Z : Type 0} (layout : Layout) (run : Run R W) (asked : ZonesAsked Z) (failure : Failure) : Type 0 where
+-- a failure of the writer was counted at the line of names
+pub record FailsAtNames {R W : Type 0} (layout : Layout) (run : Run R W) (failure : Failure) : Type 0 where
   pub is : failure ≡ failures.CannotWriteRows
-  pub grown : asked.grown asked.zones asked.zones'
-  pub alone : IsZoneAsked layout.zone asked
-  pub has_zone : (files : List File) → asked.may_be asked.zones' files → HasZone files layout.zone
-  pub ends : EndsAtNames layout stop.WriteFailed run asked.zones' asked.zones'
+  pub ends : EndsAtNames layout stop.WriteFailed run
   pub failed : HasFailedSince run.writer' run.writer.failures
 
--- The conversion of the column ended early. It never ends for a fault of a source, so it doesn't matter how many texts are told.
-pub record IsFailureOfRows {R W Z : Type 0} (plan : Limits) (layout : Layout) (run : Run R W) (asked : ZonesAsked Z) (failure : Failure) : Type 0 where
+-- the zones have one for all rows, if there is to be one, no other zone was requested, and the line of names can't be written
+pub record IsFailureOfNames {R W Z : Type 0} (layout : Layout) (run : Run R W) (requested : ZonesRequested Z) (failure : Failure) : Type 0 where
+  pub grown : requested.grown requested.zones requested.zones'
+  pub alone : IsZoneRequested layout.zone requested
+  pub has_zone : (files : List File) → requested.may_be requested.zones' files → HasZone files layout.zone
+  pub fails : FailsAtNames layout run failure
+
+-- The conversion of the column ended early. It never ends for a fault of a source, so the number of texts doesn't matter.
+pub record IsFailureOfRows {R W Z : Type 0} (plan : Limits) (layout : Layout) (run : Run R W) (requested : ZonesRequested Z) (failure : Failure) : Type 0 where
   pub stop : RunStop
   pub is : failure ≡ run_failure stop 1
   pub cause : IsCauseOf plan.max_bytes run.reader run.reader' run.writer run.writer' stop
-  pub ends : EndsByZones asked.grown asked.broken asked.may_be asked.zones asked.zones' stop (λ files. HasZone files layout.zone × EndsBy layout plan.max_rows stop run files)
+  pub ends : EndsByZones requested.grown requested.broken requested.may_be requested.zones requested.zones' stop (λ files. HasZone files layout.zone × EndsBy layout plan.max_rows stop run files)
 
 -- why zones don't convert a column by a layout
-abbrev pub IsFailureOfConvert : {R W Z : Type 0} → Limits → Layout → Run R W → ZonesAsked Z → Failure → Type 0
-IsFailureOfConvert plan layout run asked failure =
-    IsFailureWithoutZone layout run asked failure
-    ⊎ IsFailureOfNames layout run asked failure
-    ⊎ IsFailureOfRows plan layout run asked failure
+abbrev pub IsFailureOfConvert : {R W Z : Type 0} → Limits → Layout → Run R W → ZonesRequested Z → Failure → Type 0
+IsFailureOfConvert plan layout run requested failure =
+    IsFailureWithoutZone layout run requested failure
+    ⊎ IsFailureOfNames layout run requested failure
+    ⊎ IsFailureOfRows plan layout run requested failure

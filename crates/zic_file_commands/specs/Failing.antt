@@ -1,4 +1,4 @@
--- Why the commands that tell what a file says give up.
+-- Why the commands that print what a file says fail.
 use Rattle.std.specs.Prelude.{◌≡◌, ◌⊎◌, ℕ, List, Option}
 use Rattle.zic_counted.specs.Counts.{Counts}
 use Rattle.zic_tzif.specs.Reading.{IsFault}
@@ -15,8 +15,8 @@ IsFailureOfFile bytes failure =
 
 -- why `show` and `dump` give up: the bytes are no file, and nothing is written, or this output of
 -- theirs can't be written
-abbrev pub IsFailureOfTelling : {W : Type 0} → (W → Option (List ℕ)) → List ℕ → (List ℕ → Type 0)
+abbrev pub IsFailureOfPrinting : {W : Type 0} → (W → Option (List ℕ)) → List ℕ → (List ℕ → Type 0)
     → Counts W → Counts W → Failure → Type 0
-IsFailureOfTelling contents bytes IsOutput old new failure =
+IsFailureOfPrinting contents bytes IsOutput old new failure =
     (IsFailureOfFile bytes failure × (new ≡ old))
     ⊎ IsFailureOfOutput contents IsOutput old new failure

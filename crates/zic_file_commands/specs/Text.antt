@@ -6,7 +6,7 @@ use Rattle.zic_base.specs.State.{Shown}
 use Rattle.zic_tzif.specs.Content.{Content}
 use Rattle.zic_tzif.specs.Answer.{Answers}
 use Rattle.zic_tzif.specs.Reading.{IsFile}
-use Rattle.zic_local.specs.LocalTime.{Tells}
+use Rattle.zic_local.specs.LocalTime.{AnswersLocal}
 use Rattle.zic_local.specs.declared.local_instants.Gap.{Gap}
 use Rattle.zic_local.specs.declared.local_instants.LocalInstants.{LocalInstants}
 use Rattle.zic_local.specs.declared.local_instants.LocalInstants.TheVariants as instants
@@ -52,6 +52,6 @@ AreLines content instants.Unspecified lines = lines ≡ codes "unspecified" ++ 1
 pub record IsShowingLocal (bytes : List ℕ) (local : ℤ) (lines : List ℕ) : Type 0 where
   pub content : Content
   pub is_file : IsFile bytes content
-  pub told : LocalInstants
-  pub tells : Tells content local told
-  pub are_lines : AreLines content told lines
+  pub found : LocalInstants
+  pub is_found : AnswersLocal content local found
+  pub are_lines : AreLines content found lines

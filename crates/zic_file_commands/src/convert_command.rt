@@ -4,22 +4,21 @@ ghost use Rattle.std.specs.Prelude.{◌≤◌, ◌+◌, ◌≡◌, List, IfOk, I
 ghost use Rattle.zic_convert.specs.Run.{run_of};
 ghost use Rattle.zic_counted.specs.Counts.{HasFailedSince};
 ghost use Rattle.zic_file_commands.specs.Converting.{Converts, HasZone};
-ghost use Rattle.zic_file_commands.specs.Converting.{IsFailureOfConvert, IsFailureOfZones, IsZoneAsked, zones_of};
+ghost use Rattle.zic_file_commands.specs.Converting.{IsFailureOfConvert, IsFailureOfZones, IsZoneRequested, zones_of};
 ghost use Rattle.zic_files.specs.File.{File};
 
 use std::alloc::Global;
 use std::io::{Read, Write};
 use std::sync::Wait;
 use std::thread::Threads;
-use zic_base::FaultLog;
 use zic_convert::{Conversion, convert_column};
 use zic_counted::Counted;
 use zic_io::{Failure, run_failure, unknown_zone};
 use zic_pieces::Gate;
-use zic_plan::ZoneFrom;
+use zic_plan::{RowLog, ZoneFrom};
 use zic_zones::Zones;
 
-/// Converts a column by a layout and zones. Before anything else, the zones are asked for the one that
+/// Converts a column by a layout and zones. Before anything else, the zones are requested for the one that
 /// all rows are to be in, if there is one, and for no other until the line of names is written. Returns
 /// the number of rows, without the header.
 ///
@@ -30,7 +29,7 @@ use zic_zones::Zones;
 /// - `CannotWriteRows` before the column is read where the line of names can't be written.
 /// - The first fault of a row that ends the run; a column that can't be read or is too long; rows that
 ///   can't be written; or memory ran out. All rows before one that has a fault are written.
-pub fn convert<T: Threads + Wait + Sync, G: Gate + Sync, Z: Zones, R: Read, W: Write, L: FaultLog>(
+pub fn convert<T: Threads + Wait + Sync, G: Gate + Sync, Z: Zones, R: Read, W: Write, L: RowLog>(
     conversion: &Conversion<'_, T, G>,
     zones: &mut Z,
     reader: &mut Counted<R>,
@@ -49,7 +48,7 @@ pub fn convert<T: Threads + Wait + Sync, G: Gate + Sync, Z: Zones, R: Read, W: W
     ensures err { IfErr result (IsFailureOfConvert conversion.now.plan.now conversion.now.layout.now
         (run_of R.remaining W.contents L.noted reader.old reader.new writer.old writer.new
         log.old log.new)
-        (zones_of Z.grown Z.broken Z.asked_for Z.may_be zones.old zones.new)) }
+        (zones_of Z.grown Z.broken Z.requests Z.may_be zones.old zones.new)) }
 {
     find_zone(conversion.alloc, zones, &conversion.layout.zone)?;
     match convert_column(conversion, zones, reader, writer, log) {
@@ -59,8 +58,8 @@ pub fn convert<T: Threads + Wait + Sync, G: Gate + Sync, Z: Zones, R: Read, W: W
     }
 }
 
-/// Tells whether there is the zone that all rows are to be in, if they are to be in one. The zones are
-/// asked for no other.
+/// Returns whether there is the zone that all rows are to be in, if they are to be in one. The zones are
+/// requested for no other.
 ///
 /// # Errors
 ///
@@ -70,9 +69,9 @@ fn find_zone<Z: Zones>(alloc: Global, zones: &mut Z, zone: &ZoneFrom) -> Result<
     ensures ok { (files : List File) → Z.may_be zones.new files
         → OnOk result (HasZone files zone.now) }
     ensures err { IfErr result (IsFailureOfZones zone.now
-        (zones_of Z.grown Z.broken Z.asked_for Z.may_be zones.old zones.new)) }
-    ensures asked { IsZoneAsked zone.now
-        (zones_of Z.grown Z.broken Z.asked_for Z.may_be zones.old zones.new) }
+        (zones_of Z.grown Z.broken Z.requests Z.may_be zones.old zones.new)) }
+    ensures requested { IsZoneRequested zone.now
+        (zones_of Z.grown Z.broken Z.requests Z.may_be zones.old zones.new) }
 {
     let ZoneFrom::Name(name) = zone else {
         return Ok(());

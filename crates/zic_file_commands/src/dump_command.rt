@@ -2,7 +2,7 @@
 
 ghost use Rattle.std.specs.Prelude.{OnOk, IfErr};
 ghost use Rattle.zic_dump.specs.Text.{IsDump};
-ghost use Rattle.zic_file_commands.specs.Failing.{IsFailureOfTelling};
+ghost use Rattle.zic_file_commands.specs.Failing.{IsFailureOfPrinting};
 ghost use Rattle.zic_io.specs.Output.{WritesOutput};
 
 use std::alloc::Global;
@@ -12,7 +12,7 @@ use zic_dump::Years;
 use zic_io::{Failure, write_output};
 
 /// Writes the text of `zdump -i` for the bytes of a file at a path: what the file answers at the
-/// start of the first year, and each change up to the start of the second.
+/// start of the first year, and each change after it, up to and including the start of the second.
 ///
 /// # Errors
 ///
@@ -28,7 +28,7 @@ pub fn dump<W: Write>(
     ensures ok { OnOk result
         (WritesOutput W.contents (IsDump path.now bytes.now years.now) writer.old writer.new) }
     ensures err { IfErr result
-        (IsFailureOfTelling W.contents bytes.now (IsDump path.now bytes.now years.now)
+        (IsFailureOfPrinting W.contents bytes.now (IsDump path.now bytes.now years.now)
         writer.old writer.new) }
 {
     let text = zic_dump::dump(alloc, path, bytes, years)?;

@@ -1,5 +1,5 @@
-//! The commands that read compiled files: convert a column of instants by zones, and tell what a file
-//! says of an instant, or its changes of local time. The tests stand in `program_tests`. A module has
+//! The commands that read compiled files: convert a column of instants by zones, and print what a file
+//! says of an instant, or its changes of local time. A module has
 //! the word `command` where the function that it is named for may not share its name.
 #![tactic(auto)]
 

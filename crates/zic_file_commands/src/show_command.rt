@@ -3,9 +3,9 @@
 ghost use Rattle.std.specs.Prelude.{◌≡◌, ◌≤◌, unsigned_abs, IfOk, IfErr, OnOk};
 ghost use Rattle.zic_base.specs.State.{shown};
 ghost use Rattle.zic_base.specs.declared.limit.TheConstants.{FARTHEST_FILE_OFFSET};
-ghost use Rattle.zic_dump.specs.Changes.{told};
+ghost use Rattle.zic_dump.specs.Changes.{shown_for};
 ghost use Rattle.zic_tzif.specs.Answer.{answered};
-ghost use Rattle.zic_file_commands.specs.Failing.{IsFailureOfFile, IsFailureOfTelling};
+ghost use Rattle.zic_file_commands.specs.Failing.{IsFailureOfFile, IsFailureOfPrinting};
 ghost use Rattle.zic_io.specs.Output.{WritesOutput};
 ghost use Rattle.zic_file_commands.specs.Text.{answer_line, state_line, IsShowing};
 
@@ -32,7 +32,7 @@ pub fn show<W: Write>(
     ensures ok { OnOk result
         (WritesOutput W.contents (IsShowing bytes.now instant) writer.old writer.new) }
     ensures err { IfErr result
-        (IsFailureOfTelling W.contents bytes.now (IsShowing bytes.now instant)
+        (IsFailureOfPrinting W.contents bytes.now (IsShowing bytes.now instant)
         writer.old writer.new) }
 {
     let line = line_of(alloc, bytes, instant)?;
@@ -52,7 +52,7 @@ fn line_of(alloc: Global, bytes: &[u8], instant: i64) -> Result<Vec<u8>, Failure
 
 /// Returns the line for what a file answers.
 pub(crate) fn answer_line(alloc: Global, answer: &Answer<'_>) -> Result<Vec<u8>, AllocError>
-    requires { unsigned_abs (told (answered answer.now)).offset ≤ FARTHEST_FILE_OFFSET }
+    requires { unsigned_abs (shown_for (answered answer.now)).offset ≤ FARTHEST_FILE_OFFSET }
     ensures { IfOk result (λ line. line.items ≡ answer_line (answered answer.now)) }
 {
     match answer {

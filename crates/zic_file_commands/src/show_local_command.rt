@@ -2,10 +2,10 @@
 
 ghost use Rattle.std.specs.Prelude.{◌≡◌, ◌≤◌, ℤ, unsigned_abs, IfOk, IfErr, OnOk};
 ghost use Rattle.zic_base.specs.declared.limit.TheConstants.{FARTHEST_FILE_OFFSET};
-ghost use Rattle.zic_file_commands.specs.Failing.{IsFailureOfFile, IsFailureOfTelling};
+ghost use Rattle.zic_file_commands.specs.Failing.{IsFailureOfFile, IsFailureOfPrinting};
 ghost use Rattle.zic_file_commands.specs.Text.{AreLines, IsInstantLine, IsShowingLocal, gap_line};
 ghost use Rattle.zic_io.specs.Output.{WritesOutput};
-ghost use Rattle.zic_local.specs.LocalTime.{HaveOffsets, Tells};
+ghost use Rattle.zic_local.specs.LocalTime.{HaveOffsets, AnswersLocal};
 
 use crate::show_command::answer_line;
 use itoa::Buffer;
@@ -37,7 +37,7 @@ pub fn show_local<W: Write>(
     ensures ok { OnOk result
         (WritesOutput W.contents (IsShowingLocal bytes.now local.now) writer.old writer.new) }
     ensures err { IfErr result
-        (IsFailureOfTelling W.contents bytes.now (IsShowingLocal bytes.now local.now)
+        (IsFailureOfPrinting W.contents bytes.now (IsShowingLocal bytes.now local.now)
         writer.old writer.new) }
 {
     let lines = lines_of(alloc, bytes, local)?;
@@ -52,18 +52,18 @@ fn lines_of(alloc: Global, bytes: &[u8], local: &LocalTime) -> Result<Vec<u8>, F
     let zone = read(alloc, bytes)?;
     // The UT offsets of a file are within 25:59:59.
     instants_are_near();
-    let told = instants(&zone, local.seconds());
-    let lines = lines_for(alloc, &zone, told)?;
+    let found = instants(&zone, local.seconds());
+    let lines = lines_for(alloc, &zone, found)?;
     Ok(lines)
 }
 
 /// Returns the lines for the instants of a local time.
-fn lines_for(alloc: Global, zone: &Zone, told: LocalInstants) -> Result<Vec<u8>, AllocError>
+fn lines_for(alloc: Global, zone: &Zone, found: LocalInstants) -> Result<Vec<u8>, AllocError>
     requires offsets { HaveOffsets zone.now }
-    requires tells { (local : ℤ) × Tells zone.now local told }
-    ensures { IfOk result (λ lines. AreLines zone.now told lines.items) }
+    requires is_found { (local : ℤ) × AnswersLocal zone.now local found }
+    ensures { IfOk result (λ lines. AreLines zone.now found lines.items) }
 {
-    match told {
+    match found {
         LocalInstants::One(t) => instant_line(alloc, zone, t),
         LocalInstants::Gap(gap) => gap_line(alloc, &gap),
         LocalInstants::Fold(fold) => {

@@ -17,7 +17,7 @@ use Rattle.zic_files.specs.declared.name_index.NameIndex.{NameIndex}
 use Rattle.zic_files.specs.File.{FileImage, File, no_image, file_of}
 use Rattle.zic_files.specs.Fit.{IsFit}
 use Rattle.zic_files.specs.Sound.{IsSoundFile, AreSoundFiles}
-use Rattle.zic_files.specs.code.Kept.{AreKept}
+use Rattle.zic_files.specs.code.Entries.{AreEntries}
 use Rattle.zic_files.specs.code.NameIndex.{AreNumbersUpTo, AreNumbersOf}
 use Rattle.zic_files.proofs.Numbers.{numbers_now}
 
@@ -54,11 +54,11 @@ zones_more : (images more : List FileImage) (entries : List Entry) → All (λ (
 zones_more images more entries zones =
     All-weaker (λ (e : Entry). e.zone < length images) (λ e. e.zone < length (images ++ more)) (λ e lt. omega (arith, lt, length-append images more)) entries zones
 
-pub kept_more : (images more : List FileImage) (entries : List Entry) (names : NameIndex) → AreKept images entries names → AreKept (images ++ more) entries names
-kept_more images more entries names kept = record {
-  zones = zones_more images more entries kept.zones;
-  numbers = kept.numbers;
-  sound = subst AreSoundFiles (sym (files_more images more entries kept.zones)) kept.sound;
+pub entries_more : (images more : List FileImage) (entries : List Entry) (names : NameIndex) → AreEntries images entries names → AreEntries (images ++ more) entries names
+entries_more images more entries names entries_are = record {
+  zones = zones_more images more entries entries_are.zones;
+  numbers = entries_are.numbers;
+  sound = subst AreSoundFiles (sym (files_more images more entries entries_are.zones)) entries_are.sound;
 }
 
 -- ---- one more file
@@ -69,7 +69,7 @@ sound_added files file sound one others = record {
   names_differ = all_pairs_push (λ (a b : File). a.name ≢ b.name) files file sound.names_differ others;
 }
 
-module _ (images : List FileImage) (entries : List Entry) (names : NameIndex) (kept : AreKept images entries names) (images' more : List FileImage) (grown : images' ≡ images ++ more) where
+module _ (images : List FileImage) (entries : List Entry) (names : NameIndex) (entries_are : AreEntries images entries names) (images' more : List FileImage) (grown : images' ≡ images ++ more) where
   module _ (name : List ℕ) (image : FileImage) (zone : ℕ) (got : slice_get images' zone ≡ Some image) where
     abbrev entry : Entry
     entry = record { name = name; zone = zone }
@@ -85,30 +85,30 @@ module _ (images : List FileImage) (entries : List Entry) (names : NameIndex) (k
     files_added entries' added =
         ap (map (file_of images')) added
         ∙ map-append (file_of images') entries (entry ∷ [])
-        ∙ ap (λ (files : List File). files ++ file_of images' entry ∷ []) (ap (λ (l : List FileImage). map (file_of l) entries) grown ∙ files_more images more entries kept.zones)
+        ∙ ap (λ (files : List File). files ++ file_of images' entry ∷ []) (ap (λ (l : List FileImage). map (file_of l) entries) grown ∙ files_more images more entries entries_are.zones)
         ∙ ap (λ (f : File). map (file_of images) entries ++ f ∷ []) file_added
 
     -- the fields with the entry
-    pub kept_added : (entries' : List Entry) (now : NameIndex) (n : ℕ) → entries' ≡ entries ++ entry ∷ [] → IsSoundFile file → All (λ (f : File). f.name ≢ name) (map (file_of images) entries)
-        → n ≡ length entries → AreNumbersUpTo entries' (n + 1) now → AreKept images' entries' now
-    kept_added entries' now n added one others long numbers =
+    pub entries_added : (entries' : List Entry) (now : NameIndex) (n : ℕ) → entries' ≡ entries ++ entry ∷ [] → IsSoundFile file → All (λ (f : File). f.name ≢ name) (map (file_of images) entries)
+        → n ≡ length entries → AreNumbersUpTo entries' (n + 1) now → AreEntries images' entries' now
+    entries_added entries' now n added one others long numbers =
         let within : zone < length images' = slice_get_within images' zone image got in
-        let before : All (λ (e : Entry). e.zone < length images') entries = rw grown (zones_more images more entries kept.zones) in
+        let before : All (λ (e : Entry). e.zone < length images') entries = rw grown (zones_more images more entries entries_are.zones) in
         record {
           zones = rw added (All-push (λ (e : Entry). e.zone < length images') entries entry before within);
           numbers = numbers_now entries entry entries' n added long now numbers;
-          sound = subst AreSoundFiles (sym (files_added entries' added)) (sound_added (map (file_of images) entries) file kept.sound one others);
+          sound = subst AreSoundFiles (sym (files_added entries' added)) (sound_added (map (file_of images) entries) file entries_are.sound one others);
         }
 
   -- the fields without it
   pub files_refused : (entries' : List Entry) → entries' ≡ entries → map (file_of images') entries' ≡ map (file_of images) entries
-  files_refused entries' same = rw (grown, same) (files_more images more entries kept.zones)
+  files_refused entries' same = rw (grown, same) (files_more images more entries entries_are.zones)
 
-  pub kept_refused : (entries' : List Entry) (now : NameIndex) → entries' ≡ entries → AreNumbersOf entries now → AreKept images' entries' now
-  kept_refused entries' now same numbers = record {
-    zones = rw (grown, same) (zones_more images more entries kept.zones);
+  pub entries_refused : (entries' : List Entry) (now : NameIndex) → entries' ≡ entries → AreNumbersOf entries now → AreEntries images' entries' now
+  entries_refused entries' now same numbers = record {
+    zones = rw (grown, same) (zones_more images more entries entries_are.zones);
     numbers = rw same numbers;
-    sound = subst AreSoundFiles (sym (files_refused entries' same)) kept.sound;
+    sound = subst AreSoundFiles (sym (files_refused entries' same)) entries_are.sound;
   }
 
 -- ---- what holds where memory is refused

@@ -17,7 +17,7 @@ use Rattle.zic_files.specs.File.{FileImage, File}
 use Rattle.zic_files.specs.Fit.{AreFit, IsFit, IsUnfit}
 use Rattle.zic_files.specs.Sound.{AreSoundFiles}
 use Rattle.zic_base.specs.Growth.{Gains}
-use Rattle.zic_files.specs.Tree.{Adds, AreOfName, GrowsBy, Reply, AreAsked, IsSettled, AreFilesOfReplies, reply_of, Learnt, IsLearntFrom, files_named}
+use Rattle.zic_files.specs.Tree.{Adds, AreOfName, GrowsBy, Reply, AreRequestedOnce, IsSettled, AreFilesOfReplies, reply_of, Learnt, IsLearntFrom, files_named}
 use Rattle.zic_files.specs.code.Tree.{IsAtMostOne, IsImageOf, AreOfNames}
 
 -- ---- names
@@ -65,15 +65,15 @@ named_among : (replies : List Reply) (name : List ℕ) → (Contains (map (λ (r
 named_among replies name none = λ k d lt is.
     none (subst (Contains (map (λ (r : Reply). r.name) replies)) is (into_map (λ (r : Reply). r.name) replies (get_or replies k d) (Contains-get_or replies k d lt)))
 
-module _ (replies : List Reply) (learnt : Learnt) (from : IsLearntFrom replies learnt) (reply : Reply) (proper : is_name reply.name ≡ true) (new : Contains learnt.asked reply.name → ⊥) where
+module _ (replies : List Reply) (learnt : Learnt) (from : IsLearntFrom replies learnt) (reply : Reply) (proper : is_name reply.name ≡ true) (new : Contains learnt.requested reply.name → ⊥) where
   differ : All (λ (r : Reply). r.name ≢ reply.name) replies
-  differ = named_among replies reply.name (subst (λ (asked : List (List ℕ)). Contains asked reply.name → ⊥) from.asked new)
+  differ = named_among replies reply.name (subst (λ (requested : List (List ℕ)). Contains requested reply.name → ⊥) from.requested new)
 
   -- a new name is asked for
-  pub asked_more : AreAsked (replies ++ reply ∷ [])
-  asked_more = record {
-    named = All-push (λ (r : Reply). is_name r.name ≡ true) replies reply from.files.asked.named proper;
-    once = all_pairs_push (λ (a b : Reply). a.name ≢ b.name) replies reply from.files.asked.once differ;
+  pub requested_more : AreRequestedOnce (replies ++ reply ∷ [])
+  requested_more = record {
+    named = All-push (λ (r : Reply). is_name r.name ≡ true) replies reply from.files.requested.named proper;
+    once = all_pairs_push (λ (a b : Reply). a.name ≢ b.name) replies reply from.files.requested.once differ;
   }
 
 pub name_of : (replies : List Reply) (name : List ℕ) → Contains (map (λ (r : Reply). r.name) replies) name → Any (λ (r : Reply). r.name ≡ name) replies
@@ -84,17 +84,17 @@ name_of (r ∷ replies) name (suc k, lt, is) =
     (suc rest.0, rest.1, let within = rest.2 in omega (arith, within), rest.3, rest.4)
 
 -- the name was asked for, as what is learnt tells
-pub settled_before : (replies : List Reply) (learnt : Learnt) (name : List ℕ) → IsLearntFrom replies learnt → Contains learnt.asked name → IsSettled replies name
+pub settled_before : (replies : List Reply) (learnt : Learnt) (name : List ℕ) → IsLearntFrom replies learnt → Contains learnt.requested name → IsSettled replies name
 settled_before replies learnt name from has proper =
-    let among = subst (λ (asked : List (List ℕ)). Contains asked name) from.asked has in
+    let among = subst (λ (requested : List (List ℕ)). Contains requested name) from.requested has in
     name_of replies name among
 
 -- no more is asked
 pub nothing_more : (replies : List Reply) (learnt : Learnt) → IsLearntFrom replies learnt → IsLearntFrom (replies ++ []) learnt
 nothing_more replies learnt from = subst (λ (rs : List Reply). IsLearntFrom rs learnt) (sym (append-nil replies)) from
 
-pub asked_nothing_more : (replies : List Reply) (learnt : Learnt) → IsLearntFrom replies learnt → AreAsked (replies ++ [])
-asked_nothing_more replies learnt from = subst AreAsked (sym (append-nil replies)) from.files.asked
+pub requested_nothing_more : (replies : List Reply) (learnt : Learnt) → IsLearntFrom replies learnt → AreRequestedOnce (replies ++ [])
+requested_nothing_more replies learnt from = subst AreRequestedOnce (sym (append-nil replies)) from.files.requested
 
 pub settled_nothing_more : (replies : List Reply) (name : List ℕ) → IsSettled replies name → IsSettled (replies ++ []) name
 settled_nothing_more replies name settled = subst (λ (rs : List Reply). IsSettled rs name) (sym (append-nil replies)) settled
@@ -103,11 +103,11 @@ pub settled_last : (replies : List Reply) (reply : Reply) (name : List ℕ) → 
 settled_last replies reply name is proper = Any-push (λ (r : Reply). r.name ≡ name) replies reply is
 
 -- nothing yet
-pub learnt_nothing : (learnt : Learnt) → learnt.asked ≡ [] → learnt.files ≡ [] → IsLearntFrom [] learnt
+pub learnt_nothing : (learnt : Learnt) → learnt.requested ≡ [] → learnt.files ≡ [] → IsLearntFrom [] learnt
 learnt_nothing learnt none none₂ = record {
-  asked = none;
+  requested = none;
   files = subst (λ (files : List File). AreFilesOfReplies [] files) (sym none₂) (record {
-    asked = record { named = λ k d lt. absurd (omega (arith, lt)); once = λ i j d lt within. absurd (omega (arith, within)) };
+    requested = record { named = λ k d lt. absurd (omega (arith, lt)); once = λ i j d lt within. absurd (omega (arith, within)) };
     sound = record { each = λ k d lt. absurd (omega (arith, lt)); names_differ = λ i j d lt within. absurd (omega (arith, within)) };
     fit = λ k d lt. absurd (omega (arith, lt));
     given = λ k d lt. absurd (omega (arith, lt));
@@ -117,24 +117,24 @@ learnt_nothing learnt none none₂ = record {
 
 -- ---- files
 
-pub of_names_more : (asked : List (List ℕ)) (name : List ℕ) (files : List File) → AreOfNames asked files → AreOfNames (asked ++ name ∷ []) files
-of_names_more asked name files are =
-    All-weaker (λ (f : File). Contains asked f.name) (λ f. Contains (asked ++ name ∷ []) f.name) (λ f has. Contains-append_left asked (name ∷ []) f.name has) files are
+pub of_names_more : (requested : List (List ℕ)) (name : List ℕ) (files : List File) → AreOfNames requested files → AreOfNames (requested ++ name ∷ []) files
+of_names_more requested name files are =
+    All-weaker (λ (f : File). Contains requested f.name) (λ f. Contains (requested ++ name ∷ []) f.name) (λ f has. Contains-append_left requested (name ∷ []) f.name has) files are
 
-of_names_push : (asked : List (List ℕ)) (file : File) (files : List File) → AreOfNames asked files → Contains asked file.name → AreOfNames asked (files ++ file ∷ [])
-of_names_push asked file files are has = All-push (λ (f : File). Contains asked f.name) files file are has
+of_names_push : (requested : List (List ℕ)) (file : File) (files : List File) → AreOfNames requested files → Contains requested file.name → AreOfNames requested (files ++ file ∷ [])
+of_names_push requested file files are has = All-push (λ (f : File). Contains requested f.name) files file are has
 
 -- a file is added, or memory is refused
-pub of_names_either : {E : Type 0} (asked : List (List ℕ)) (file : File) (files now : List File) (result : Result (Unit {0}) E) → IfOk result (λ _. now ≡ files ++ file ∷ [])
-    → IfErr result (λ _. now ≡ files) → AreOfNames asked files → Contains asked file.name → AreOfNames asked now
-of_names_either asked file files now (Ok x) added same are has = subst (AreOfNames asked) (sym added) (of_names_push asked file files are has)
-of_names_either asked file files now (Err e) added same are has = subst (AreOfNames asked) (sym same) are
+pub of_names_either : {E : Type 0} (requested : List (List ℕ)) (file : File) (files now : List File) (result : Result (Unit {0}) E) → IfOk result (λ _. now ≡ files ++ file ∷ [])
+    → IfErr result (λ _. now ≡ files) → AreOfNames requested files → Contains requested file.name → AreOfNames requested now
+of_names_either requested file files now (Ok x) added same are has = subst (AreOfNames requested) (sym added) (of_names_push requested file files are has)
+of_names_either requested file files now (Err e) added same are has = subst (AreOfNames requested) (sym same) are
 
-pub of_others : (asked : List (List ℕ)) (name : List ℕ) (files : List File) → AreOfNames asked files → (Contains asked name → ⊥) → All (λ (f : File). f.name ≢ name) files
-of_others asked name files are new = All-weaker (λ (f : File). Contains asked f.name) (λ f. f.name ≢ name) (λ f has is. new (subst (Contains asked) is has)) files are
+pub of_others : (requested : List (List ℕ)) (name : List ℕ) (files : List File) → AreOfNames requested files → (Contains requested name → ⊥) → All (λ (f : File). f.name ≢ name) files
+of_others requested name files are new = All-weaker (λ (f : File). Contains requested f.name) (λ f. f.name ≢ name) (λ f has is. new (subst (Contains requested) is has)) files are
 
-pub last_asked : (asked : List (List ℕ)) (name : List ℕ) → Contains (asked ++ name ∷ []) name
-last_asked asked name = Contains-append_right asked (name ∷ []) name (0, omega arith, refl)
+pub last_requested : (requested : List (List ℕ)) (name : List ℕ) → Contains (requested ++ name ∷ []) name
+last_requested requested name = Contains-append_right requested (name ∷ []) name (0, omega arith, refl)
 
 not_both : (octets : Option (List ℕ)) → IfSome octets (λ bytes. AreFit bytes → ⊥) → IsSomeAnd octets AreFit → ⊥
 not_both None none some = some
@@ -171,7 +171,7 @@ pub fits_of : (reply : Reply) (image : Option FileImage) → IsImageOf reply ima
 fits_of reply None is = tt
 fits_of reply (Some image) is = is.2
 
-module _ (replies : List Reply) (learnt now : Learnt) (from : IsLearntFrom replies learnt) (reply : Reply) (proper : is_name reply.name ≡ true) (new : Contains learnt.asked reply.name → ⊥)
+module _ (replies : List Reply) (learnt now : Learnt) (from : IsLearntFrom replies learnt) (reply : Reply) (proper : is_name reply.name ≡ true) (new : Contains learnt.requested reply.name → ⊥)
     (image : Option FileImage) (is : IsImageOf reply image) where
   all_more : All (λ (r : Reply). IsSomeAnd r.octets AreFit → Any (λ (f : File). f.name ≡ r.name) (learnt.files ++ files_named reply.name image)) (replies ++ reply ∷ [])
   all_more =
@@ -182,12 +182,12 @@ module _ (replies : List Reply) (learnt now : Learnt) (from : IsLearntFrom repli
       (has_pushed reply learnt.files image is)
 
   -- one reply more
-  pub learnt_more : now.asked ≡ learnt.asked ++ reply.name ∷ [] → now.files ≡ learnt.files ++ files_named reply.name image → AreSoundFiles now.files
+  pub learnt_more : now.requested ≡ learnt.requested ++ reply.name ∷ [] → now.files ≡ learnt.files ++ files_named reply.name image → AreSoundFiles now.files
       → IsLearntFrom (replies ++ reply ∷ []) now
-  learnt_more asked files sound = record {
-    asked = asked ∙ ap (λ (names : List (List ℕ)). names ++ reply.name ∷ []) from.asked ∙ sym (map-append (λ (r : Reply). r.name) replies (reply ∷ []));
+  learnt_more requested files sound = record {
+    requested = requested ∙ ap (λ (names : List (List ℕ)). names ++ reply.name ∷ []) from.requested ∙ sym (map-append (λ (r : Reply). r.name) replies (reply ∷ []));
     files = record {
-      asked = asked_more replies learnt from reply proper new;
+      requested = requested_more replies learnt from reply proper new;
       sound = sound;
       fit = subst (All (λ (f : File). IsFit f.image.content)) (sym files) (fit_pushed learnt.files reply.name image from.files.fit (fits_of reply image is));
       given = subst (All (λ (f : File). Contains (replies ++ reply ∷ []) (reply_of f))) (sym files) (given_pushed replies reply learnt.files image from.files.given is);
@@ -204,49 +204,49 @@ one_of_name : (name : List ℕ) (reply : Reply) → reply.name ≡ name → AreO
 one_of_name name reply is = All-push (λ (r : Reply). r.name ≡ name) [] reply (none_of_name name) is
 
 -- the tree was asked for a new name, or for none
-pub asked_at_most : (replies : List Reply) (learnt : Learnt) → IsLearntFrom replies learnt → (name : List ℕ) → is_name name ≡ true → (Contains learnt.asked name → ⊥)
-    → (old now : Option (List Reply)) → IsAtMostOne old now name → (more : List Reply) × Gains old now more × AreAsked (replies ++ more) × AreOfName name more
-asked_at_most replies learnt from name proper new old now (inl gains) = ([], gains, asked_nothing_more replies learnt from, none_of_name name)
-asked_at_most replies learnt from name proper new old now (inr (reply, gains, is)) = (
+pub requested_at_most : (replies : List Reply) (learnt : Learnt) → IsLearntFrom replies learnt → (name : List ℕ) → is_name name ≡ true → (Contains learnt.requested name → ⊥)
+    → (old now : Option (List Reply)) → IsAtMostOne old now name → (more : List Reply) × Gains old now more × AreRequestedOnce (replies ++ more) × AreOfName name more
+requested_at_most replies learnt from name proper new old now (inl gains) = ([], gains, requested_nothing_more replies learnt from, none_of_name name)
+requested_at_most replies learnt from name proper new old now (inr (reply, gains, is)) = (
   reply ∷ [],
   gains,
-  asked_more replies learnt from reply (subst (λ (n : List ℕ). is_name n ≡ true) (sym is) proper) (subst (λ (n : List ℕ). Contains learnt.asked n → ⊥) (sym is) new),
+  requested_more replies learnt from reply (subst (λ (n : List ℕ). is_name n ≡ true) (sym is) proper) (subst (λ (n : List ℕ). Contains learnt.requested n → ⊥) (sym is) new),
   one_of_name name reply is,
 )
 
-module _ {E : Type 0} (replies : List Reply) (learnt now : Learnt) (from : IsLearntFrom replies learnt) (name : List ℕ) (proper : is_name name ≡ true) (new : Contains learnt.asked name → ⊥)
-    (image : Option FileImage) (old gave : Option (List Reply)) (told : (reply : Reply) × Gains old gave (reply ∷ []) × (reply.name ≡ name) × IsImageOf reply image) where
+module _ {E : Type 0} (replies : List Reply) (learnt now : Learnt) (from : IsLearntFrom replies learnt) (name : List ℕ) (proper : is_name name ≡ true) (new : Contains learnt.requested name → ⊥)
+    (image : Option FileImage) (old gave : Option (List Reply)) (facts : (reply : Reply) × Gains old gave (reply ∷ []) × (reply.name ≡ name) × IsImageOf reply image) where
   -- the reply is kept
-  pub kept_if_ok : (result : Result (Unit {0}) E) → IfOk result (λ _. now.asked ≡ learnt.asked ++ name ∷ []) → IfOk result (λ _. now.files ≡ learnt.files ++ files_named name image)
+  pub entries_if_ok : (result : Result (Unit {0}) E) → IfOk result (λ _. now.requested ≡ learnt.requested ++ name ∷ []) → IfOk result (λ _. now.files ≡ learnt.files ++ files_named name image)
       → IfOk result (λ _. AreSoundFiles now.files)
       → IfOk result (λ _. (reply : Reply) × Gains old gave (reply ∷ []) × IsLearntFrom (replies ++ reply ∷ []) now × (reply.name ≡ name))
-  kept_if_ok (Ok x) asked files sound =
-      let (reply, gains, is, made) = told in (
+  entries_if_ok (Ok x) requested files sound =
+      let (reply, gains, is, made) = facts in (
         reply,
         gains,
-        learnt_more replies learnt now from reply (subst (λ (n : List ℕ). is_name n ≡ true) (sym is) proper) (subst (λ (n : List ℕ). Contains learnt.asked n → ⊥) (sym is) new)
-            image made (subst (λ (n : List ℕ). now.asked ≡ learnt.asked ++ n ∷ []) (sym is) asked) (subst (λ (n : List ℕ). now.files ≡ learnt.files ++ files_named n image) (sym is) files) sound,
+        learnt_more replies learnt now from reply (subst (λ (n : List ℕ). is_name n ≡ true) (sym is) proper) (subst (λ (n : List ℕ). Contains learnt.requested n → ⊥) (sym is) new)
+            image made (subst (λ (n : List ℕ). now.requested ≡ learnt.requested ++ n ∷ []) (sym is) requested) (subst (λ (n : List ℕ). now.files ≡ learnt.files ++ files_named n image) (sym is) files) sound,
         is,
       )
-  kept_if_ok (Err e) asked files sound = tt
+  entries_if_ok (Err e) requested files sound = tt
 
   -- or memory is refused
-  pub asked_if_err : (result : Result (Unit {0}) E) → IfErr result (λ _. (more : List Reply) × Gains old gave more × AreAsked (replies ++ more) × AreOfName name more)
-  asked_if_err (Ok x) = tt
-  asked_if_err (Err e) = asked_at_most replies learnt from name proper new old gave (inr (told.0, told.1, told.2))
+  pub requested_if_err : (result : Result (Unit {0}) E) → IfErr result (λ _. (more : List Reply) × Gains old gave more × AreRequestedOnce (replies ++ more) × AreOfName name more)
+  requested_if_err (Ok x) = tt
+  requested_if_err (Err e) = requested_at_most replies learnt from name proper new old gave (inr (facts.0, facts.1, facts.2))
 
 -- the name is settled once the tree was asked for it
 pub settled_if_ok : {E : Type 0} (replies : List Reply) (now : Learnt) (name : List ℕ) (old gave : Option (List Reply)) (result : Result (Unit {0}) E)
     → IfOk result (λ _. (reply : Reply) × Gains old gave (reply ∷ []) × IsLearntFrom (replies ++ reply ∷ []) now × (reply.name ≡ name))
     → IfOk result (λ _. (more : List Reply) × Gains old gave more × IsLearntFrom (replies ++ more) now × IsSettled (replies ++ more) name × AreOfName name more)
 settled_if_ok replies now name old gave (Ok x) (reply, gains, from, is) = (reply ∷ [], gains, from, settled_last replies reply name is, one_of_name name reply is)
-settled_if_ok replies now name old gave (Err e) told = tt
+settled_if_ok replies now name old gave (Err e) facts = tt
 
 -- the name was added
-pub added_if_ok : {E : Type 0} (learnt now : Learnt) (name : List ℕ) → is_name name ≡ true → (Contains learnt.asked name → ⊥) → (image : Option FileImage) (result : Result (Unit {0}) E)
-    → IfOk result (λ _. now.asked ≡ learnt.asked ++ name ∷ []) → IfOk result (λ _. now.files ≡ learnt.files ++ files_named name image) → IfOk result (λ _. Adds name learnt now)
-added_if_ok learnt now name proper new image (Ok x) asked files = record { named = proper; first = new; image = image; asked = asked; files = files }
-added_if_ok learnt now name proper new image (Err e) asked files = tt
+pub added_if_ok : {E : Type 0} (learnt now : Learnt) (name : List ℕ) → is_name name ≡ true → (Contains learnt.requested name → ⊥) → (image : Option FileImage) (result : Result (Unit {0}) E)
+    → IfOk result (λ _. now.requested ≡ learnt.requested ++ name ∷ []) → IfOk result (λ _. now.files ≡ learnt.files ++ files_named name image) → IfOk result (λ _. Adds name learnt now)
+added_if_ok learnt now name proper new image (Ok x) requested files = record { named = proper; first = new; image = image; requested = requested; files = files }
+added_if_ok learnt now name proper new image (Err e) requested files = tt
 
 pub grown_if_ok : {E : Type 0} (old now : Learnt) (name : List ℕ) (result : Result (Unit {0}) E) → IfOk result (λ _. Adds name old now) → IfOk result (λ _. GrowsBy name old now)
 grown_if_ok old now name (Ok x) added = inr added

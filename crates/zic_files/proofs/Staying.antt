@@ -11,7 +11,7 @@ use Rattle.zic_tzif.specs.Reading.{IsFile}
 use Rattle.zic_files.specs.File.{File}
 use Rattle.zic_files.specs.Fit.{AreFit, IsFit}
 use Rattle.zic_files.specs.Sound.{IsSoundFile}
-use Rattle.zic_files.specs.Tree.{AreAsked, AreFilesOfReplies, IsSettled, Reply, reply_of}
+use Rattle.zic_files.specs.Tree.{AreRequestedOnce, AreFilesOfReplies, IsSettled, Reply, reply_of}
 
 -- a reply of each name
 one_at : (xs : List Reply) (i j : ℕ) (a b : Reply) → AllPairs (λ (r s : Reply). r.name ≢ s.name) xs → i < j → j < length xs → get_or xs i a ≡ a → get_or xs j b ≡ b → a.name ≡ b.name → a ≡ b
@@ -62,14 +62,14 @@ fit_of replies files are file has =
     (file.image.content, (sound_of replies files are file has).read, All-contains (λ (f : File). IsFit f.image.content) files file are.fit has)
 
 -- what is among the files of replies, where one of them gives it
-kept_of : FilesSayOne → (replies all : List Reply) (files others : List File) → AreFilesOfReplies replies files → AreFilesOfReplies all others → AreAsked all → ((r : Reply) → Contains replies r → Contains all r)
+entries_of : FilesSayOne → (replies all : List Reply) (files others : List File) → AreFilesOfReplies replies files → AreFilesOfReplies all others → AreRequestedOnce all → ((r : Reply) → Contains replies r → Contains all r)
     → (file : File) → Contains others file → Contains replies (reply_of file) → Contains files file
-kept_of one replies all files others are are_all asked within file has given =
+entries_of one replies all files others are are_all requested within file has given =
     let fit = fit_of all others are_all file has in
     let found = some_among files file.name (All-contains (λ (r : Reply). IsSomeAnd r.octets AreFit → Any (λ (f : File). f.name ≡ r.name) files) replies (reply_of file) are.all given fit) in
     let other = found.0 in
     let given_other = within (reply_of other) (given_of replies files are other found.1) in
-    let same = one_of_name all (reply_of other) (reply_of file) asked.once given_other (within (reply_of file) given) found.2 in
+    let same = one_of_name all (reply_of other) (reply_of file) requested.once given_other (within (reply_of file) given) found.2 in
     let is = same_file one other file same (sound_of replies files are other found.1).read (sound_of all others are_all file has).read in
     subst (Contains files) is found.1
 
@@ -81,14 +81,14 @@ module _ (one : FilesSayOne) (replies more : List Reply) (files others : List Fi
       let found = some_among others file.name
       (All-contains (λ (r : Reply). IsSomeAnd r.octets AreFit → Any (λ (f : File). f.name ≡ r.name) others) (replies ++ more) (reply_of file) are_more.all given fit) in
       let other = found.0 in
-      let same = one_of_name (replies ++ more) (reply_of other) (reply_of file) are_more.asked.once (given_of (replies ++ more) others are_more other found.1) given found.2 in
+      let same = one_of_name (replies ++ more) (reply_of other) (reply_of file) are_more.requested.once (given_of (replies ++ more) others are_more other found.1) given found.2 in
       let is = same_file one other file same (sound_of (replies ++ more) others are_more other found.1).read (sound_of replies files are file has).read in
       subst (Contains others) is found.1
 
   pub settled : Contains others file → IsSettled replies file.name → Contains files file
   settled has known =
       let sound = sound_of (replies ++ more) others are_more file has in
-      let asked = reply_among replies file.name (known sound.named) in
-      let same = one_of_name (replies ++ more) asked.0 (reply_of file) are_more.asked.once (Contains-append_left replies more asked.0 asked.1)
-      (given_of (replies ++ more) others are_more file has) asked.2 in
-      kept_of one replies (replies ++ more) files others are are_more are_more.asked (λ r among. Contains-append_left replies more r among) file has (subst (Contains replies) same asked.1)
+      let requested = reply_among replies file.name (known sound.named) in
+      let same = one_of_name (replies ++ more) requested.0 (reply_of file) are_more.requested.once (Contains-append_left replies more requested.0 requested.1)
+      (given_of (replies ++ more) others are_more file has) requested.2 in
+      entries_of one replies (replies ++ more) files others are are_more are_more.requested (λ r among. Contains-append_left replies more r among) file has (subst (Contains replies) same requested.1)

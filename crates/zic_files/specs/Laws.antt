@@ -1,7 +1,7 @@
 -- Laws about the files of a tree.
 use Rattle.std.specs.Prelude.{List, ◌++◌, Contains}
 use Rattle.zic_files.specs.File.{File}
-use Rattle.zic_files.specs.Tree.{AreAsked, AreFilesOfReplies, IsSettled, Reply}
+use Rattle.zic_files.specs.Tree.{AreRequestedOnce, AreFilesOfReplies, IsSettled, Reply}
 
 -- The files of replies stay as they are, whatever a tree replies to other names: they are among the files of more replies, and of these
 -- all that have a settled name are among the first.
@@ -11,6 +11,6 @@ pub record FilesStay : Type 0 where
   pub settled : (replies more : List Reply) (files others : List File) → AreFilesOfReplies replies files → AreFilesOfReplies (replies ++ more) others
       → (file : File) → Contains others file → IsSettled replies file.name → Contains files file
 
--- No replies that a tree was asked for are without files. So what holds by all files of replies is never said of none.
+-- No replies of a tree are without files. So what holds by all files of replies is never said of none.
 abbrev pub RepliesHaveFiles : Type 0
-RepliesHaveFiles = (replies : List Reply) → AreAsked replies → ((files : List File) → AreFilesOfReplies replies files → ⊥) → ⊥
+RepliesHaveFiles = (replies : List Reply) → AreRequestedOnce replies → ((files : List File) → AreFilesOfReplies replies files → ⊥) → ⊥

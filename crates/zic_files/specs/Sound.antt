@@ -12,7 +12,7 @@ use Rattle.zic_files.specs.File.{File}
 abbrev pub IsAlwaysKnown : Content → Type 0
 IsAlwaysKnown content = (t : ℤ) (answer : Option Shown) → Answers content t answer → IsSomeAnd answer IsWithinLimits
 
--- a file: its name is one of a zone, a reader makes its content of its bytes, its footer has a text, and it tells local time at each
+-- a file: its name is one of a zone, a reader makes its content of its bytes, its footer has a text, and it gives local time at each
 -- instant
 pub record IsSoundFile (file : File) : Type 0 where
   pub named : is_name file.name ≡ true

@@ -12,7 +12,7 @@ pub record Reply : Type 0 where
   pub octets : Option (List ℕ)
 
 -- A tree replied to names of zones only, and to none of them twice.
-pub record AreAsked (replies : List Reply) : Type 0 where
+pub record AreRequestedOnce (replies : List Reply) : Type 0 where
   pub named : All (λ reply. is_name reply.name ≡ true) replies
   pub once : AllPairs (λ reply other. reply.name ≢ other.name) replies
 
@@ -31,7 +31,7 @@ reply_of file = record { name = file.name; octets = Some file.image.octets }
 -- The files of replies: each reply whose bytes rows can be made of gives one, of its name and with just these bytes, and there are no
 -- others.
 pub record AreFilesOfReplies (replies : List Reply) (files : List File) : Type 0 where
-  pub asked : AreAsked replies
+  pub requested : AreRequestedOnce replies
   pub sound : AreSoundFiles files
   pub fit : All (λ file. IsFit file.image.content) files
   pub given : All (λ file. Contains replies (reply_of file)) files
@@ -39,29 +39,29 @@ pub record AreFilesOfReplies (replies : List Reply) (files : List File) : Type 0
 
 -- the names that a tree replied to, in order, and the files of its replies
 pub record Learnt : Type 0 where
-  pub asked : List (List ℕ)
+  pub requested : List (List ℕ)
   pub files : List File
 
 -- the names and the files of these replies
 pub record IsLearntFrom (replies : List Reply) (learnt : Learnt) : Type 0 where
-  pub asked : learnt.asked ≡ map (λ reply. reply.name) replies
+  pub requested : learnt.requested ≡ map (λ reply. reply.name) replies
   pub files : AreFilesOfReplies replies learnt.files
 
--- the name was asked for, unless no zone may have it
+-- the name was requested, unless no zone may have it
 abbrev pub IsKnown : Learnt → List ℕ → Type 0
-IsKnown learnt name = is_name name ≡ true → Contains learnt.asked name
+IsKnown learnt name = is_name name ≡ true → Contains learnt.requested name
 
 -- the file of a name, if there is an image
 abbrev pub files_named : List ℕ → Option FileImage → List File
 files_named name None = []
 files_named name (Some image) = record { name = name; image = image } ∷ []
 
--- A name of a zone that was not asked for before comes last, and so does its file, if there is one.
+-- A name of a zone that was not requested before comes last, and so does its file, if there is one.
 pub record Adds (name : List ℕ) (old new : Learnt) : Type 0 where
   pub named : is_name name ≡ true
-  pub first : Contains old.asked name → ⊥
+  pub first : Contains old.requested name → ⊥
   pub image : Option FileImage
-  pub asked : new.asked ≡ old.asked ++ name ∷ []
+  pub requested : new.requested ≡ old.requested ++ name ∷ []
   pub files : new.files ≡ old.files ++ files_named name image
 
 -- What was learnt stays as it is where the name is known, and else the name is added.

@@ -1,5 +1,5 @@
 -- Definitions for the code of this crate and for proofs. No contract of an exported function cites them.
 pub mod NameIndex
-pub mod Kept
+pub mod Entries
 pub mod Unfit
 pub mod Tree

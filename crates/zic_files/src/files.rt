@@ -28,13 +28,13 @@ pub struct Files {
 impl Model for Files {
     ghost use Rattle.std.specs.Prelude.{List, map};
     ghost use Rattle.zic_files.specs.File.{File, file_of};
-    ghost use Rattle.zic_files.specs.code.Kept.{AreKept};
+    ghost use Rattle.zic_files.specs.code.Entries.{AreEntries};
 
     ghost Value = { List File };
 
     ghost view = { λ f. map (file_of f.images) f.entries.items };
 
-    ghost invariant = { λ f. AreKept f.images f.entries.items f.names };
+    ghost invariant = { λ f. AreEntries f.images f.entries.items f.names };
 }
 
 impl Files {
@@ -143,7 +143,7 @@ impl Files {
             (λ file. IsFile file.image.octets file.image.content) }
         ensures known { IsAlwaysKnown result.now }
     {
-        // `len` also tells that the files are sound.
+        // `len` also states that the files are sound.
         prove!(i < self.len());
         self.image(i).zone()
     }
@@ -167,7 +167,7 @@ impl Files {
     }
 }
 
-/// States that a file of this name and image is sound: it tells local time at each instant.
+/// States that a file of this name and image is sound: it gives local time at each instant.
 fn file_is_sound(name: &Name, image: &Image)
     requires { IsFit image.now.content }
     ensures { IsSoundFile (record { name = name.now; image = image.now }) }

@@ -84,7 +84,7 @@ impl Image {
     {
         let zone = read(alloc, &octets)?;
         check_fit(&zone)?;
-        // So it tells local time at each instant.
+        // So it gives local time at each instant.
         states_have_numbers();
         footers_leave_nothing_open();
         Ok(Image { octets, zone })

@@ -11,7 +11,7 @@ use zic_tzif::laws::files_say_one;
 /// The number of places of images.
 const PLACES: usize = 16_384;
 
-/// The greatest number of bytes that tell the place of an image.
+/// The greatest number of bytes that give the place of an image.
 const SAMPLED: usize = 256;
 
 /// Images by number. Many names of a tree may have one file, so one with the bytes of another is not

@@ -11,7 +11,7 @@ pub fn files_stay()
     files_say_one();
 }
 
-/// States that the replies of a tree, asked for names of zones and for none of them twice, have
+/// States that the replies of a tree to names of zones, each requested once, have
 /// files.
 pub fn replies_have_files()
     ensures { RepliesHaveFiles }

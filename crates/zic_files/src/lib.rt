@@ -1,4 +1,4 @@
-//! The files of zones, by number and by name. The tests stand in `program_tests`.
+//! The files of zones, by number and by name.
 #![tactic(auto)]
 
 mod entry;

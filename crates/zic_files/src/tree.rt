@@ -5,7 +5,7 @@ ghost use Rattle.zic_words.specs.Name.{is_name};
 ghost use Rattle.zic_files.specs.Fit.{IsFit};
 ghost use Rattle.zic_files.specs.Sound.{AreSoundFiles};
 ghost use Rattle.zic_base.specs.Growth.{Gains};
-ghost use Rattle.zic_files.specs.Tree.{Adds, AreAsked, AreOfName, GrowsBy, IsLearntFrom, IsSettled, Reply, files_named};
+ghost use Rattle.zic_files.specs.Tree.{Adds, AreRequestedOnce, AreOfName, GrowsBy, IsLearntFrom, IsSettled, Reply, files_named};
 ghost use Rattle.zic_files.specs.code.Tree.{IsAtMostOne, IsImageOf};
 
 use crate::files::Files;
@@ -21,7 +21,7 @@ pub trait ZoneTree {
     ghost use Rattle.std.specs.Prelude.{List, Option, None};
     ghost use Rattle.zic_files.specs.Tree.{Reply};
 
-    // what the tree was asked for and what it gave, in order, where that is known
+    // what was requested of the tree and what it gave, in order, where that is known
     ghost replied: { Self → Option (List Reply) } = { λ _. None };
 
     /// Returns the bytes of the file of this name, or `None` where there is none.
@@ -31,11 +31,11 @@ pub trait ZoneTree {
         ensures err { IfErr result (λ _. Gains (replied self.old) (replied self.new) []) };
 }
 
-/// The files of a tree that rows are made of, as far as it was asked for their names. Clauses see
+/// The files of a tree that rows are made of, as far as their names were requested. Clauses see
 /// the names and the files.
 #[derive(Drop)]
 pub struct TreeFiles {
-    asked: Names,
+    requested: Names,
     files: Files,
 }
 
@@ -46,19 +46,19 @@ impl Model for TreeFiles {
 
     ghost use Rattle.zic_files.specs.code.Tree.{AreOfNames};
 
-    ghost view = { λ t. record { asked = t.asked; files = t.files } };
+    ghost view = { λ t. record { requested = t.requested; files = t.files } };
 
-    ghost invariant = { λ t. AreOfNames t.asked t.files };
+    ghost invariant = { λ t. AreOfNames t.requested t.files };
 }
 
 impl TreeFiles {
-    /// Returns no files, of a tree that was asked for nothing. Names are looked up by this key: those
+    /// Returns no files, of a tree of which nothing was requested. Names are looked up by this key: those
     /// that were chosen without knowing it don't make that slow. What is found doesn't depend on it.
     pub fn new(alloc: Global, key: u64) -> TreeFiles
         ensures { IsLearntFrom [] result }
     {
         TreeFiles {
-            asked: Names::new(alloc, key),
+            requested: Names::new(alloc, key),
             files: Files::none(alloc, key),
         }
     }
@@ -70,12 +70,12 @@ impl TreeFiles {
         &self.files
     }
 
-    /// Asks the tree for a name, unless it was asked for it before or no zone may have it, and adds
+    /// Requests a name of the tree, unless it was requested before or no zone may have it, and adds
     /// its file if rows can be made of it.
     ///
     /// # Errors
     ///
-    /// Fails only where memory is refused for a name that is asked for. What was learnt is open
+    /// Fails only where memory is refused for a name that is requested. What was learnt is open
     /// then.
     pub fn learn<T: ZoneTree>(
         &mut self,
@@ -90,29 +90,29 @@ impl TreeFiles {
             × AreOfName name.now more) }
         ensures err { (replies : List Reply) → IsLearntFrom replies self.old
             → IfErr result (λ _. (more : List Reply)
-            × Gains (T.replied tree.old) (T.replied tree.new) more × AreAsked (replies ++ more)
+            × Gains (T.replied tree.old) (T.replied tree.new) more × AreRequestedOnce (replies ++ more)
             × AreOfName name.now more) }
         ensures grown { IfOk result (λ _. GrowsBy name.now self.old self.new) }
         ensures memory { IfErr result
-            (λ _. (is_name name.now ≡ true) × (Contains self.old.asked name.now → ⊥)) }
+            (λ _. (is_name name.now ≡ true) × (Contains self.old.requested name.now → ⊥)) }
     {
-        if self.asked.has(name) {
+        if self.requested.has(name) {
             return Ok(());
         }
         match Name::parse(alloc, name) {
-            Some(name) => self.ask(alloc, tree, name?),
+            Some(name) => self.request(alloc, tree, name?),
             None => Ok(()),
         }
     }
 
     /// Asks the tree for a name, and adds its file if rows can be made of it.
-    fn ask<T: ZoneTree>(
+    fn request<T: ZoneTree>(
         &mut self,
         alloc: Global,
         tree: &mut T,
         name: Name,
     ) -> Result<(), AllocError>
-        requires { Contains self.old.asked name → ⊥ }
+        requires { Contains self.old.requested name → ⊥ }
         ensures ok { (replies : List Reply) → IsLearntFrom replies self.old
             → IfOk result (λ _. (reply : Reply)
             × Gains (T.replied tree.old) (T.replied tree.new) (reply ∷ [])
@@ -120,7 +120,7 @@ impl TreeFiles {
         ensures added { IfOk result (λ _. Adds name self.old self.new) }
         ensures err { (replies : List Reply) → IsLearntFrom replies self.old
             → IfErr result (λ _. (more : List Reply)
-            × Gains (T.replied tree.old) (T.replied tree.new) more × AreAsked (replies ++ more)
+            × Gains (T.replied tree.old) (T.replied tree.new) more × AreRequestedOnce (replies ++ more)
             × AreOfName name more) }
     {
         // The name is one of a zone.
@@ -129,30 +129,30 @@ impl TreeFiles {
         self.keep(alloc, name, image)
     }
 
-    /// Adds a name that the tree was asked for, and its file if there is an image.
+    /// Adds a name that was requested of the tree, and its file if there is an image.
     fn keep(&mut self, alloc: Global, name: Name, image: Option<Image>) -> Result<(), AllocError>
-        requires new { Contains self.old.asked name → ⊥ }
+        requires new { Contains self.old.requested name → ⊥ }
         requires fit { IfSome image (λ i. IsFit i.content) }
-        ensures asked { IfOk result (λ _. self.new.asked ≡ self.old.asked ++ name ∷ []) }
+        ensures requested { IfOk result (λ _. self.new.requested ≡ self.old.requested ++ name ∷ []) }
         ensures files { IfOk result
             (λ _. self.new.files ≡ self.old.files ++ files_named name image) }
         ensures sound { IfOk result (λ _. AreSoundFiles self.new.files) }
     {
-        self.asked.add(alloc, &name)?;
+        self.requested.add(alloc, &name)?;
         self.keep_file(alloc, name, image)
     }
 
-    /// Adds the file of a name that the tree was asked for, if there is an image.
+    /// Adds the file of a name that was requested of the tree, if there is an image.
     fn keep_file(
         &mut self,
         alloc: Global,
         name: Name,
         image: Option<Image>,
     ) -> Result<(), AllocError>
-        requires asked { Contains self.old.asked name }
+        requires requested { Contains self.old.requested name }
         requires new { All (λ file. file.name ≢ name) self.old.files }
         requires fit { IfSome image (λ i. IsFit i.content) }
-        ensures asked { IfOk result (λ _. self.new.asked ≡ self.old.asked) }
+        ensures requested { IfOk result (λ _. self.new.requested ≡ self.old.requested) }
         ensures files { IfOk result
             (λ _. self.new.files ≡ self.old.files ++ files_named name image) }
         ensures sound { IfOk result (λ _. AreSoundFiles self.new.files) }

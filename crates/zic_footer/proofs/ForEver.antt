@@ -14,7 +14,7 @@ use Rattle.zic_states.specs.Until.{set_of}
 use Rattle.zic_states.specs.Zone.{Zone, Shows}
 use Rattle.zic_states.proofs.States.{one_state}
 use Rattle.zic_states.proofs.TailForEver.{repeats_for_ever}
-use Rattle.zic_states.proofs.TailKept.{given}
+use Rattle.zic_states.proofs.TailInForce.{given}
 use Rattle.zic_states.proofs.TailSet.{IsNamedTo}
 use Rattle.zic_rules.specs.Tail.{IsTailBy, ShowsLast, AreOfBothFlags, IsRulesTail, tail_state}
 use Rattle.zic_rules.specs.declared.tail.TailRule.{TailRule}

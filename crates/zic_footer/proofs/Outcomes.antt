@@ -12,7 +12,7 @@ use Rattle.zic_base.specs.declared.zone_stop.ZoneStop.{ZoneStop}
 use Rattle.zic_states.specs.Tail.{Alternate}
 use Rattle.zic_states.specs.Until.{set_of}
 use Rattle.zic_states.specs.Zone.{Zone}
-use Rattle.zic_states.proofs.TailKept.{given}
+use Rattle.zic_states.proofs.TailInForce.{given}
 use Rattle.zic_states.proofs.TailSet.{IsNamedTo}
 use Rattle.zic_words.specs.Limits.{IsWithinLimits}
 use Rattle.zic_rules.specs.Tail.{IsConstantTail, IsRulesTail}

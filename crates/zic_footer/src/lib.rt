@@ -1,5 +1,4 @@
-//! The footer of a TZif file: a POSIX TZ string that says what a zone shows for ever. The rows
-//! of `witness/rows` test it.
+//! The footer of a TZif file: a POSIX TZ string that says what a zone shows for ever.
 #![tactic(auto)]
 
 mod edges;

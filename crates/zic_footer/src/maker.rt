@@ -28,7 +28,7 @@ use zic_rules::{Tail, TailRule, Timeline};
 /// and the zone stays on daylight saving time; `NoFooter` where two or more rules go on for ever,
 /// but not just two, one of each flag, that follow each other in turn in all years to come, or
 /// where the time of an edge would pass 167:59:59 either way. `Stop::Memory` never comes, since
-/// abbreviations are kept inline.
+/// abbreviations are stored inline.
 pub fn make(alloc: Global, zone_place: Place, t: &Timeline<'_>) -> Result<Footer, Stop>
     ensures made { IfOk result (IsMade t.now) }
     ensures goes_on { IfOk result (GoesOn t.now) }

@@ -1,42 +1,53 @@
 -- What a list of faults keeps, once one more is noted.
-use Rattle.std.proofs.Common.{◌≡◌, ◌+◌, ◌<◌, ℕ, inl, inr, true, false, is_err, List, [], ◌∷◌, ◌++◌, length, min, Option, Some, slice_get, Result, Ok, Err, OnOk, OnErr, refl, sym, ap, subst, ◌∙◌, append-nil, arith, length-append}
-use Rattle.std.proofs.KnownBytes.{Appends-trans}
-use Rattle.std.proofs.lemmas.Bool.{false≢true, true≢false}
+use Rattle.std.proofs.Common.{◌≡◌, ◌+◌, ℕ, false, is_some, List, [], ◌∷◌, ◌++◌, length, min, Option, None, Some, slice_get, refl, sym, ap, ◌∙◌, append-nil, arith, length-append}
 use Rattle.std.proofs.lemmas.Grind.{flat_map-append}
 use Rattle.std.specs.Io.KnownBytes.{Appends}
 use Rattle.std.specs.Option.{option_or}
-use Rattle.zic_counted.specs.Counts.{Counts, HasFailedSince}
-use Rattle.zic_counted.specs.Written.{Writes}
+use Rattle.zic_counted.specs.Counts.{Counts}
 use Rattle.zic_base.specs.declared.row_fault.RowFault.{RowFault}
-use Rattle.zic_io.specs.Faults.{fault_line, faults_text}
+use Rattle.zic_plan.specs.Noted.{RowNote}
+use Rattle.zic_io.specs.Faults.{HasText, fault_line, fault_of, faults_text, rejects_text}
+use Rattle.zic_io.specs.code.FaultList.{IsFileOf, held_in}
+use Rattle.zic_io.specs.declared.list_output.ListOutput.{ListOutput}
 
 -- the first fault stays the first
-pub first_stays : (noted : List RowFault) (fault : RowFault) → option_or (slice_get noted 0) (Some fault) ≡ slice_get (noted ++ fault ∷ []) 0
-first_stays [] fault = refl
-first_stays (first ∷ noted) fault = refl
+pub first_stays : (noted : List RowNote) (row : RowNote) → option_or (fault_of (slice_get noted 0)) (Some row.fault) ≡ fault_of (slice_get (noted ++ row ∷ []) 0)
+first_stays [] row = refl
+first_stays (first ∷ noted) row = refl
 
 -- the number rises by one, up to the greatest
-pub count_rises : (noted : List RowFault) (fault : RowFault) (most : ℕ) → min (min (length noted) most + 1) most ≡ min (length (noted ++ fault ∷ [])) most
-count_rises noted fault most = omega (arith, length-append noted (fault ∷ []))
+pub count_rises : (noted : List RowNote) (row : RowNote) (most : ℕ) → min (min (length noted) most + 1) most ≡ min (length (noted ++ row ∷ [])) most
+count_rises noted row most = omega (arith, length-append noted (row ∷ []))
 
--- the text grows by the line of the fault
-pub text_grows : (noted : List RowFault) (fault : RowFault) → faults_text (noted ++ fault ∷ []) ≡ faults_text noted ++ fault_line fault
-text_grows noted fault = flat_map-append fault_line noted (fault ∷ []) ∙ ap (λ l. faults_text noted ++ l) (append-nil (fault_line fault))
+-- the text of faults grows by the line of one
+pub faults_grow : (noted : List RowNote) (row : RowNote) → faults_text noted ++ fault_line row.fault ≡ faults_text (noted ++ row ∷ [])
+faults_grow noted row =
+    sym (flat_map-append (λ (n : RowNote). fault_line n.fault) noted (row ∷ []) ∙ ap (λ l. faults_text noted ++ l) (append-nil (fault_line row.fault)))
 
--- and so does the file, where that is written
-pub lines_grow : {W E : Type 0} (contents : W → Option (List ℕ)) (start : Option (List ℕ)) (noted : List RowFault) (fault : RowFault) (old new : Counts W) (result : Result (Unit {0}) E)
-    → Appends start (contents old.inner) (faults_text noted) → OnOk result (Writes contents old new (fault_line fault)) → is_err result ≡ false
-    → Appends start (contents new.inner) (faults_text (noted ++ fault ∷ []))
-lines_grow contents start noted fault old new (Ok _) before wrote ok =
-    subst (λ text. Appends start (contents new.inner) text) (sym (text_grows noted fault)) (Appends-trans start (contents old.inner) (contents new.inner) (faults_text noted) (fault_line fault) before wrote.wrote)
-lines_grow contents start noted fault old new (Err _) before wrote ok = absurd (true≢false ok)
+-- and that of records by a record
+pub rejects_grow : (noted : List RowNote) (row : RowNote) → rejects_text noted ++ (row.own ++ 10 ∷ []) ≡ rejects_text (noted ++ row ∷ [])
+rejects_grow noted row =
+    sym (flat_map-append (λ (n : RowNote). n.own ++ 10 ∷ []) noted (row ∷ []) ∙ ap (λ l. rejects_text noted ++ l) (append-nil (row.own ++ 10 ∷ [])))
 
--- a failure is counted
-pub failures_count : {W : Type 0} (file : Counts W) (before : ℕ) → HasFailedSince file before → 0 < file.failures
-failures_count file before (inl above) = omega (arith, above)
-failures_count file before (inr most) = omega (arith, most)
+-- nothing more
+appends_nothing : (held : Option (List ℕ)) → Appends held held []
+appends_nothing None = tt
+appends_nothing (Some bytes) = sym (append-nil bytes)
 
--- and so is that of a line
-pub failed_line_counts : {W E : Type 0} (old new : Counts W) (result : Result (Unit {0}) E) → OnErr result (HasFailedSince new old.failures) → is_err result ≡ true → 0 < new.failures
-failed_line_counts old new (Ok _) failed err = absurd (false≢true err)
-failed_line_counts old new (Err _) failed err = failures_count new old.failures failed
+has_nothing : {W : Type 0} (contents : W → Option (List ℕ)) (file : Option (Counts W)) → HasText contents (held_in contents file) file []
+has_nothing contents None = tt
+has_nothing contents (Some file) = appends_nothing (contents file.inner)
+
+-- what a file holds is where a list begins
+pub begins_there : {W : Type 0} (contents : W → Option (List ℕ)) (start : Option (List ℕ)) (text : List ℕ) (output : ListOutput W) → IsFileOf contents start text output
+    → IsFileOf contents (held_in contents output.file) [] output
+begins_there contents start text output is = record { written = λ _. has_nothing contents output.file; failed = is.failed }
+
+-- where none is the first, there are no rows
+pub no_rows : (noted : List RowNote) → fault_of (slice_get noted 0) ≡ None → noted ≡ []
+no_rows [] none = refl
+no_rows (row ∷ noted) none = absurd (cc none)
+
+pub none_is : (first : Option RowFault) → is_some first ≡ false → first ≡ None
+none_is None is = refl
+none_is (Some fault) is = absurd (cc is)

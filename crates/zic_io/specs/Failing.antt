@@ -1,4 +1,4 @@
--- Why sources and files aren't read, why output isn't written, and the failures that tell it.
+-- Why sources and files aren't read, why output isn't written, and the failures of this.
 use Rattle.std.specs.Prelude.{◌≡◌, ◌≢◌, ◌==◌, ◌⊎◌, ℕ, List, ◌∷◌, ◌++◌, if◌then◌else◌, string_bytes, Option, All}
 use Rattle.zic_base.specs.declared.fault.Fault.{Fault}
 use Rattle.zic_base.specs.declared.run_stop.RunStop.{RunStop}
@@ -49,7 +49,7 @@ abbrev pub IsFailureOfReading : List ℕ → Type 0 → Failure → Type 0
 IsFailureOfReading path reason failure =
     (failure ≡ failures.Memory) ⊎ (IsCannotRead path failure × reason)
 
--- why a text of a source isn't read: a read failed, or the reader gave too many bytes
+-- why a text of a source isn't read: a failure of its reader was counted, or the reader gave too many bytes
 abbrev pub IsFailureOfText : {R : Type 0} → List ℕ → Counts R → Counts R → Failure → Type 0
 IsFailureOfText path old new =
     IsFailureOfReading path (HasFailedSince new old.failures ⊎ HasTakenAbove MAX_SOURCE old new)
@@ -58,7 +58,7 @@ IsFailureOfText path old new =
 abbrev pub IsFailureOfPath : List ℕ → Failure → Type 0
 IsFailureOfPath path failure = (failure ≡ failures.Memory) ⊎ IsCannotRead path failure
 
--- why the bytes of a file aren't read: a read failed, or memory ran out
+-- why the bytes of a file aren't read: a failure of their reader was counted, or memory ran out
 abbrev pub IsFailureOfBytes : {R : Type 0} → List ℕ → Counts R → Counts R → Failure → Type 0
 IsFailureOfBytes path old new = IsFailureOfReading path (HasFailedSince new old.failures)
 
@@ -76,8 +76,8 @@ IsCannotWrite path (failures.CannotWrite named) = string_bytes named ≡ path
 IsCannotWrite path _ = ⊥
 
 -- The text of one of these words can't be read, and the texts of all before it are read. If the
--- word is the first for standard input, a read of it failed, or it gave too many bytes. Why a file
--- can't be read is known to no contract.
+-- word is the first for standard input, a failure of its reader was counted, or it gave too many bytes.
+-- Why a file can't be read is known to no contract.
 pub record IsUnread {I : Type 0} (words : List (List ℕ)) (input : Option (List ℕ))
     (old new : Counts I) (failure : Failure) : Type 0 where
   pub before : List (List ℕ)

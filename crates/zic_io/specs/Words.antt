@@ -1,11 +1,15 @@
 -- The messages of failures.
-use Rattle.std.specs.Prelude.{ℕ, codes, List, ◌++◌, string_bytes}
+use Rattle.std.specs.Prelude.{ℕ, codes, List, ◌++◌, string_bytes, ◌==◌, if◌then◌else◌}
 use Rattle.std.specs.Fmt.{decimal}
 use Rattle.zic_base.specs.Fault.{kind_word}
 use Rattle.zic_tzif.specs.Reason.{reason_word}
 use Rattle.zic_base.specs.RowFault.{row_kind_word}
 use Rattle.zic_io.specs.declared.failure.Failure.{Failure}
 use Rattle.zic_io.specs.declared.failure.Failure.TheVariants as failures
+
+-- how many rows have faults
+abbrev pub count_words : ℕ → List ℕ
+count_words count = if count == 1 then codes "1 row with a fault" else decimal count ++ codes " rows with faults"
 
 -- the line that the program prints for a failure
 abbrev pub failure_text : Failure → List ℕ
@@ -16,7 +20,9 @@ failure_text (failures.TextLine text line kind) =
 failure_text (failures.Row row kind) =
     codes "row " ++ decimal row ++ codes ": " ++ row_kind_word kind
 failure_text (failures.Rows row kind count) =
-    codes "row " ++ (decimal row ++ (codes ": " ++ (row_kind_word kind ++ (codes "\n" ++ (decimal count ++ codes " rows with faults")))))
+    codes "row " ++ (decimal row ++ (codes ": " ++ (row_kind_word kind ++ (codes "\n" ++ count_words count))))
+failure_text (failures.Rejected row kind count) =
+    codes "row " ++ (decimal row ++ (codes ": " ++ (row_kind_word kind ++ (codes "\n" ++ count_words count))))
 failure_text failures.ColumnTooLong = codes "column: ColumnTooLong"
 failure_text (failures.File reason) = codes "file: " ++ reason_word reason
 failure_text (failures.CannotRead path) = codes "cannot read " ++ string_bytes path
@@ -36,6 +42,7 @@ status_of (failures.Line line kind) = 1
 status_of (failures.TextLine text line kind) = 1
 status_of (failures.Row row kind) = 1
 status_of (failures.Rows row kind count) = 1
+status_of (failures.Rejected row kind count) = 5
 status_of failures.ColumnTooLong = 1
 status_of (failures.File reason) = 1
 status_of (failures.CannotRead path) = 3

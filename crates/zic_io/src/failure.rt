@@ -22,8 +22,10 @@ pub enum Failure {
     /// The first row with a fault: `row N: NAME`.
     Row { row: u64, kind: RowKind },
     /// Some rows have faults: the first of them, and how many: `row N: NAME`, and on a second line
-    /// `COUNT rows with faults`.
+    /// `COUNT rows with faults`, or `1 row with a fault`.
     Rows { row: u64, kind: RowKind, count: u64 },
+    /// The same, where the records of these rows are put aside.
+    Rejected { row: u64, kind: RowKind, count: u64 },
     /// A column has more bytes than it may: `column: ColumnTooLong`.
     ColumnTooLong,
     /// The first check that a file fails: `file: REASON`.
@@ -49,13 +51,14 @@ pub enum Failure {
 impl Failure {
     /// Returns the status of a program that ends with the failure: 1 for a fault of what is read,
     /// 2 for a zone that isn't there, 3 for what can't be read or written, 4 where memory ran out or no
-    /// thread could be started.
+    /// thread could be started, 5 where records were put aside.
     pub fn status(&self) -> u8
         ensures { result ≡ status_of self.now }
     {
         match self {
             Failure::Line { .. } | Failure::TextLine { .. } => 1,
             Failure::Row { .. } | Failure::Rows { .. } => 1,
+            Failure::Rejected { .. } => 5,
             Failure::ColumnTooLong | Failure::File(_) => 1,
             Failure::UnknownZone(_) => 2,
             Failure::CannotRead(_) | Failure::CannotReadColumn => 3,
@@ -71,7 +74,7 @@ impl Failure {
         match self {
             Failure::Line { .. } => "line ",
             Failure::TextLine { .. } => "text ",
-            Failure::Row { .. } | Failure::Rows { .. } => "row ",
+            Failure::Row { .. } | Failure::Rows { .. } | Failure::Rejected { .. } => "row ",
             Failure::ColumnTooLong => "column: ",
             Failure::File(_) => "file: ",
             Failure::CannotRead(_) | Failure::CannotReadColumn => "cannot read ",
@@ -90,6 +93,7 @@ impl Failure {
         match self {
             Failure::Line { kind, .. } | Failure::TextLine { kind, .. } => kind.name(),
             Failure::Row { kind, .. } | Failure::Rows { kind, .. } => kind.name(),
+            Failure::Rejected { kind, .. } => kind.name(),
             Failure::ColumnTooLong => "ColumnTooLong",
             Failure::File(reason) => reason.name(),
             Failure::CannotRead(name) | Failure::CannotWrite(name) => name,
@@ -115,7 +119,9 @@ impl fmt::Display for Failure {
             Failure::Line { line, .. } => write!(f, "{words}{line}: {name}"),
             Failure::TextLine { text, line, .. } => write!(f, "{words}{text} line {line}: {name}"),
             Failure::Row { row, .. } => write!(f, "{words}{row}: {name}"),
-            Failure::Rows { row, count, .. } => {
+            Failure::Rows { row, count, .. } | Failure::Rejected { row, count, .. }
+                if *count == 1 => { write!(f, "{words}{row}: {name}\n1 row with a fault") }
+            Failure::Rows { row, count, .. } | Failure::Rejected { row, count, .. } => {
                 write!(f, "{words}{row}: {name}\n{count} rows with faults")
             }
             _ => write!(f, "{words}{name}"),

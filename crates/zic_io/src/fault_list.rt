@@ -1,70 +1,77 @@
 //! The faults of rows, where a run goes on after them.
 
-ghost use Rattle.std.specs.Prelude.{OnOk, OnErr};
-ghost use Rattle.zic_counted.specs.Counts.{HasFailedSince};
-ghost use Rattle.zic_counted.specs.Written.{Writes};
+ghost use Rattle.std.specs.Prelude.{◌≡◌, ◌++◌, ◌∷◌, [], List, Option, is_some, ℕ};
 ghost use Rattle.zic_io.specs.Faults.{fault_line};
+ghost use Rattle.zic_io.specs.code.FaultList.{IsFileOf};
 
+use crate::list_output::ListOutput;
 use crate::noted::Noted;
 use itoa::Buffer;
 use std::io::Write;
 use std::marker::Model;
-use zic_base::{FaultLog, RowFault};
-use zic_counted::{Counted, WriteFailed, flush, write_all};
+use zic_base::RowFault;
+use zic_plan::{FaultyRow, RowLog};
 
-/// Takes note of the faults of rows: counts them, keeps the first, and writes each to a file, if
-/// there is one, as the number of its row and its name with a comma between them.
+/// Takes note of rows with a fault: counts them, keeps the first fault, and writes each into two files,
+/// where there are such. Into the one goes the number of the row and the name of the fault, with a
+/// comma between them, and into the other the record, each with a newline.
 #[derive(Drop)]
 pub struct FaultList<W: Write> {
-    file: Option<Counted<W>>,
     first: Option<RowFault>,
     count: u64,
-    /// Whether a write or a flush failed. Nothing is written after that.
-    has_failed: bool,
+    /// Whether a row was noted that the files may hold back.
+    holds_back: bool,
+    faults: ListOutput<W>,
+    rejects: ListOutput<W>,
+    /// What was noted, and what the file of faults held before.
     noted: Noted,
+    /// What the file of records held before these, with the header.
+    held: Noted,
 }
 
 impl<W: Write> Model for FaultList<W> {
-    ghost use Rattle.zic_io.specs.Faults.{FaultNotes};
-    ghost use Rattle.zic_io.specs.code.FaultList.{notes_of, AreFieldsOf};
+    ghost use Rattle.zic_io.specs.Faults.{FaultNotes, faults_text, rejects_text};
+    ghost use Rattle.zic_io.specs.code.FaultList.{list_of, notes_of, AreFieldsOf, IsFileOf};
 
     ghost Value = { FaultNotes W };
 
-    ghost view = { λ l. notes_of l.noted.faults l.noted.start l.file };
+    ghost view = { λ l. notes_of l.noted.faults (list_of l.noted.start l.faults)
+        (list_of l.held.start l.rejects) };
 
-    ghost invariant = { λ l. AreFieldsOf W.contents
-        (notes_of l.noted.faults l.noted.start l.file) l.first l.count l.has_failed };
+    ghost invariant = { λ l. AreFieldsOf l.noted.faults l.first l.count
+        × IsFileOf W.contents l.noted.start (faults_text l.noted.faults) l.faults
+        × IsFileOf W.contents l.held.start (rejects_text l.noted.faults) l.rejects };
 }
 
 impl<W: Write> FaultList<W> {
-    ghost use Rattle.std.specs.Prelude.{◌≡◌, ◌-◌, ◌^◌, [], length, min, option_map, slice_get, is_some, IsTrue, IsFalse};
-    ghost use Rattle.zic_io.specs.Faults.{held_by, unwritten, HasFailed, HasLines};
+    ghost use Rattle.std.specs.Prelude.{◌≡◌, ◌-◌, ◌^◌, [], length, min, option_map, slice_get, IsTrue, IsFalse};
+    ghost use Rattle.zic_counted.specs.Counts.{Counts};
+    ghost use Rattle.zic_io.specs.Faults.{fault_of, list_for, HasFailed, HasLines, HasRejects, IsSameList};
 
-    /// Returns a list without faults.
-    pub fn new(file: Option<W>) -> FaultList<W>
+    /// Returns a list without rows, with a file for faults and one for records.
+    pub fn new(faults: Option<W>, rejects: Option<W>) -> FaultList<W>
         ensures { result ≡ record {
           noted = [];
-          file = option_map unwritten file;
-          start = held_by W.contents file;
+          faults = list_for W.contents faults;
+          rejects = list_for W.contents rejects;
         } }
     {
-        let noted = Noted::new(&file);
-        let file = match file {
-            Some(file) => Some(Counted::new(file)),
-            None => None,
-        };
+        let noted = Noted::new(&faults);
+        let held = Noted::new(&rejects);
         FaultList {
-            file,
             first: None,
             count: 0,
-            has_failed: false,
+            holds_back: false,
+            faults: ListOutput::new(faults),
+            rejects: ListOutput::new(rejects),
             noted,
+            held,
         }
     }
 
     /// Returns the first fault, if there is one.
     pub fn first(&self) -> Option<RowFault>
-        ensures { result ≡ slice_get self.now.noted 0 }
+        ensures { result ≡ fault_of (slice_get self.now.noted 0) }
     {
         self.first
     }
@@ -76,51 +83,101 @@ impl<W: Write> FaultList<W> {
         self.count
     }
 
-    /// Has the file pass on what it holds back. Returns true only if the lines of all faults were
-    /// written, where there is a file, and false only if a failure of the file was counted.
-    pub fn finish(&mut self) -> bool
+    /// Has the file of faults pass on what it holds back. Returns true only if the lines of all faults
+    /// were written, where there is a file, and false only if a failure of the file was counted.
+    pub fn finish_faults(&mut self) -> bool
         ensures lines { IsTrue result → HasLines W.contents self.new }
-        ensures failed { IsFalse result → HasFailed self.new }
+        ensures failed { IsFalse result → HasFailed self.new.faults.file }
         ensures noted { self.new.noted ≡ self.old.noted }
-        ensures start { self.new.start ≡ self.old.start }
-        ensures file { is_some self.new.file ≡ is_some self.old.file }
+        ensures faults { IsSameList self.old.faults self.new.faults }
+        ensures rejects { self.new.rejects ≡ self.old.rejects }
     {
-        if let Some(file) = &mut self.file {
-            self.has_failed = self.has_failed || flush(file).is_err();
-        }
-        !self.has_failed
+        self.faults.finish()
+    }
+
+    /// Has the file of records pass on what it holds back. Returns true only if all records were
+    /// written, where there is a file, and false only if a failure of the file was counted.
+    pub fn finish_rejects(&mut self) -> bool
+        ensures rejected { IsTrue result → HasRejects W.contents self.new }
+        ensures failed { IsFalse result → HasFailed self.new.rejects.file }
+        ensures noted { self.new.noted ≡ self.old.noted }
+        ensures rejects { IsSameList self.old.rejects self.new.rejects }
+        ensures faults { self.new.faults ≡ self.old.faults }
+    {
+        self.rejects.finish()
+    }
+
+    /// Returns the files.
+    pub fn into_files(self) -> (Option<W>, Option<W>)
+        ensures faults { result.0 ≡ option_map (λ (file : Counts W). file.inner) self.faults.file }
+        ensures rejects { result.1 ≡ option_map (λ (file : Counts W). file.inner) self.rejects.file }
+    {
+        (self.faults.into_file(), self.rejects.into_file())
     }
 }
 
-impl<W: Write> FaultLog for FaultList<W> {
+impl<W: Write> RowLog for FaultList<W> {
     ghost use Rattle.std.specs.Prelude.{◌≡◌, ◌++◌, [], ◌∷◌, Some, is_some};
+    ghost use Rattle.zic_io.specs.Faults.{IsSameList};
 
     ghost noted = { λ l. Some l.noted };
 
-    fn note(&mut self, fault: RowFault)
-        ensures adds { Some self.new.noted ≡ Some (self.old.noted ++ fault ∷ []) }
-        ensures start { self.new.start ≡ self.old.start }
-        ensures file { is_some self.new.file ≡ is_some self.old.file }
+    fn begin(&mut self, header: &[u8])
+        ensures keeps { Some self.new.noted ≡ Some self.old.noted }
+        ensures faults { self.new.faults ≡ self.old.faults }
+        ensures file { is_some self.new.rejects.file ≡ is_some self.old.rejects.file }
     {
-        self.first = self.first.or(Some(fault));
-        self.count = self.count.saturating_add(1);
-        self.noted = self.noted.and(&fault);
-        if self.has_failed {
+        if self.first.is_some() || header.is_empty() {
             return;
         }
-        if let Some(file) = &mut self.file {
-            self.has_failed = write_fault(file, fault).is_err();
+        push_record(&mut self.rejects, header);
+        self.held = Noted::new(&self.rejects);
+    }
+
+    fn note(&mut self, row: &FaultyRow)
+        ensures adds { Some self.new.noted ≡ Some (self.old.noted ++ row.now ∷ []) }
+        ensures faults { IsSameList self.old.faults self.new.faults }
+        ensures rejects { IsSameList self.old.rejects self.new.rejects }
+    {
+        self.first = self.first.or(Some(row.fault));
+        self.count = self.count.saturating_add(1);
+        self.holds_back = true;
+        self.noted = self.noted.and(row);
+        push_fault(&mut self.faults, row.fault);
+        push_record(&mut self.rejects, &row.own);
+    }
+
+    fn flush(&mut self)
+        ensures keeps { Some self.new.noted ≡ Some self.old.noted }
+        ensures faults { IsSameList self.old.faults self.new.faults }
+        ensures rejects { IsSameList self.old.rejects self.new.rejects }
+    {
+        if self.holds_back {
+            let _ = self.faults.finish();
+            let _ = self.rejects.finish();
+            self.holds_back = false;
         }
     }
 }
 
-/// Writes the line of a fault.
-fn write_fault<W: Write>(file: &mut Counted<W>, fault: RowFault) -> Result<(), WriteFailed>
-    ensures ok { OnOk result (Writes W.contents file.old file.new (fault_line fault)) }
-    ensures err { OnErr result (HasFailedSince file.new file.old.failures) }
+/// Adds the line of a fault.
+fn push_fault<W: Write>(list: &mut ListOutput<W>, fault: RowFault)
+    ensures grows { (start : Option (List ℕ)) (before : List ℕ) → IsFileOf W.contents start before list.old
+        → IsFileOf W.contents start (before ++ fault_line fault) list.new }
+    ensures file { is_some list.new.file ≡ is_some list.old.file }
 {
-    write_all(file, Buffer::new().format(fault.row).as_bytes())?;
-    write_all(file, b",")?;
-    write_all(file, fault.kind.name().as_bytes())?;
-    write_all(file, b"\n")
+    list.push(Buffer::new().format(fault.row).as_bytes());
+    list.push(b",");
+    list.push(fault.kind.name().as_bytes());
+    list.push(b"\n");
+}
+
+/// Adds the line of a record, by its own bytes.
+fn push_record<W: Write>(list: &mut ListOutput<W>, own: &[u8])
+    ensures grows { (start : Option (List ℕ)) (before : List ℕ) → IsFileOf W.contents start before list.old
+        → IsFileOf W.contents start (before ++ (own.now ++ 10 ∷ [])) list.new }
+    ensures file { is_some list.new.file ≡ is_some list.old.file }
+{
+    list.push(own);
+    list.push(b"\n");
 }

@@ -1,6 +1,6 @@
 //! What the commands read and write: sources and files that words name, output, a tree of files,
 //! and how far the writing of rows is. Beside them stands why a command gives up, with the text and
-//! the status that tell it. The tests stand in `program_tests`.
+//! the status of each.
 #![tactic(auto)]
 
 mod failure;
@@ -8,6 +8,7 @@ mod fault_list;
 mod input;
 mod link_kind;
 mod list_file;
+mod list_output;
 mod noted;
 mod output;
 mod progress;

@@ -50,6 +50,20 @@ impl<'a, F: FileSystem> ListFile<'a, F> {
         self.is_begun = true;
         Ok(())
     }
+
+    /// Makes or empties the file, unless that is done, and has the system write what it holds back of it
+    /// if it is a regular one: no error is reported when a file is closed.
+    ///
+    /// # Errors
+    ///
+    /// The file can't be made, emptied or written.
+    pub fn sync(&mut self) -> io::Result<()> {
+        self.begin()?;
+        match &self.file {
+            Some(file) => synchronize(file),
+            None => Err(io::Error::from(ErrorKind::NotFound)),
+        }
+    }
 }
 
 impl<F: FileSystem> Write for ListFile<'_, F> {
@@ -61,15 +75,10 @@ impl<F: FileSystem> Write for ListFile<'_, F> {
         }
     }
 
-    /// Has the system write what it holds back of a regular file: no error is told when the file is
-    /// closed.
     fn flush(&mut self) -> io::Result<()> {
         self.begin()?;
         match &mut self.file {
-            Some(file) => {
-                file.flush()?;
-                synchronize(file)
-            }
+            Some(file) => file.flush(),
             None => Err(io::Error::from(ErrorKind::NotFound)),
         }
     }

@@ -1,19 +1,19 @@
-//! The faults that a list has noted, as proofs know them.
+//! The rows with a fault that a list has noted, as proofs know them.
 
 ghost use Rattle.std.specs.Prelude.{◌≡◌, ℕ, [], ◌∷◌, ◌++◌, List, Option};
 ghost use Rattle.std.specs.Borrow.{ftrue};
-ghost use Rattle.zic_base.specs.declared.row_fault.RowFault.{RowFault};
+ghost use Rattle.zic_plan.specs.Noted.{RowNote};
 
 use std::marker::{Model, PhantomData};
-use zic_base::RowFault;
+use zic_plan::FaultyRow;
 
-/// Faults in the order in which they were noted, and what a file held before them, where that is
+/// Rows with a fault in the order in which they were noted, and what a file held before them, where that is
 /// known. Only proofs read this: it takes no memory, and its methods do nothing when the program
 /// runs.
 #[derive(Drop)]
 pub(crate) struct Noted {
     none: PhantomData<()>,
-    pub(crate) ghost faults: { List RowFault },
+    pub(crate) ghost faults: { List RowNote },
     pub(crate) ghost start: { Option (List ℕ) },
 }
 
@@ -22,7 +22,7 @@ impl Model for Noted {
 }
 
 impl Noted {
-    /// Returns no faults, for a file that holds what the caller says.
+    /// Returns no rows, for a file that holds what the caller says.
     pub(crate) fn new<T>(_file: &T) -> Noted
         ghost held: { Option (List ℕ) }
         ensures { (result.faults ≡ []) × (result.start ≡ held) }
@@ -30,9 +30,9 @@ impl Noted {
         Noted { none: PhantomData }
     }
 
-    /// Returns these faults and one more.
-    pub(crate) fn and(&self, fault: &RowFault) -> Noted
-        ensures { (result.faults ≡ self.now.faults ++ fault.now ∷ [])
+    /// Returns these rows and one more.
+    pub(crate) fn and(&self, row: &FaultyRow) -> Noted
+        ensures { (result.faults ≡ self.now.faults ++ row.now ∷ [])
             × (result.start ≡ self.now.start) }
     {
         Noted { none: PhantomData }

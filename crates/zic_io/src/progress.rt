@@ -20,12 +20,57 @@ pub enum ProgressLine<E> {
     Anew(E),
 }
 
+/// Where in a row the next byte stands.
+#[derive(Clone, Copy, PartialEq, Eq)]
+enum RowPlace {
+    /// At the start of a field.
+    Start,
+    /// In a field that begins with no double quote, or after its closing one.
+    Plain,
+    /// In double quotes.
+    Quoted,
+}
+
+/// Counts the ends of rows in bytes that come one after the other.
+#[derive(Clone, Copy)]
+struct RowEnds {
+    /// The byte between fields, where fields in double quotes may have line feeds.
+    delimiter: Option<u8>,
+    /// Where the next byte stands.
+    place: RowPlace,
+}
+
+impl RowEnds {
+    /// Returns the number of rows that end in the bytes that come next.
+    fn count(&mut self, bytes: &[u8]) -> u64 {
+        let Some(delimiter) = self.delimiter else {
+            return line_feeds(bytes);
+        };
+        let mut place = self.place;
+        if place != RowPlace::Quoted && !bytes.contains(&b'"') {
+            self.place = match bytes.last() {
+                None => place,
+                Some(byte) if *byte == b'\n' || *byte == delimiter => RowPlace::Start,
+                Some(_) => RowPlace::Plain,
+            };
+            return line_feeds(bytes);
+        }
+        let mut ends: u64 = 0;
+        for byte in bytes {
+            ends = ends.saturating_add((*byte == b'\n' && place != RowPlace::Quoted) as u64);
+            place = place_after(place, *byte, delimiter);
+        }
+        self.place = place;
+        ends
+    }
+}
+
 /// A writer of rows that passes each write and flush on with its answer, and writes a line about the rows on
 /// another writer, if at all.
 ///
 /// The line has the number of rows that were written, and that of rows a second since the writer
 /// was made: `1048576 rows, 524288 rows a second`. What cannot be written of it is left out, and is no
-/// failure of the rows. A row ends with a line feed, and has no other. A header line before the
+/// failure of the rows. A row ends with a line feed outside its quoted fields. A header before the
 /// rows is no row.
 #[derive(Drop)]
 pub struct Progress<'a, W, C, E> {
@@ -35,10 +80,12 @@ pub struct Progress<'a, W, C, E> {
     start: Option<Instant>,
     /// The time since the start at which the line is written anew.
     next: Duration,
-    /// The number of lines of a header before the rows, 0 or 1.
+    /// The number of headers before the rows, 0 or 1.
     header: u64,
-    /// The number of lines that were written, or none where no write and no flush was asked for.
-    lines: Option<u64>,
+    ends: RowEnds,
+    /// The number of rows and headers that were written, or none where no write and no flush was
+    /// requested.
+    rows: Option<u64>,
 }
 
 impl<'a, W, C, E> Model for Progress<'a, W, C, E> {
@@ -48,12 +95,14 @@ impl<'a, W, C, E> Model for Progress<'a, W, C, E> {
 }
 
 impl<'a, W, C: Clock, E: Write> Progress<'a, W, C, E> {
-    /// Returns a writer that has passed on no rows. `has_header` says that a header line comes before them.
+    /// Returns a writer that has passed on no rows. `has_header` says that a header comes before them, and
+    /// `delimiter` which byte stands between fields, where fields in double quotes may have line feeds.
     pub fn new(
         inner: W,
         clock: &'a C,
         line: ProgressLine<E>,
         has_header: bool,
+        delimiter: Option<u8>,
     ) -> Progress<'a, W, C, E>
         ensures { result ≡ inner }
     {
@@ -64,39 +113,43 @@ impl<'a, W, C: Clock, E: Write> Progress<'a, W, C, E> {
             header: has_header as u64,
             start: Instant::now(clock).ok(),
             next: Duration::from_millis(PERIOD),
-            lines: None,
+            ends: RowEnds {
+                delimiter,
+                place: RowPlace::Start,
+            },
+            rows: None,
         }
     }
 
-    /// Tells of the rows for the last time, and ends the line. Where no write and no flush was
-    /// asked for, it tells nothing.
+    /// Reports the rows for the last time, and ends the line. Where no write and no flush was
+    /// requested, it reports nothing.
     pub fn finish(&mut self)
         ensures { self.new ≡ self.old }
     {
-        if let Some(lines) = self.lines {
-            self.tell(lines, self.elapsed());
+        if let Some(rows) = self.rows {
+            self.tell(rows, self.elapsed());
             if let ProgressLine::Once(out) | ProgressLine::Anew(out) = &mut self.line {
                 let _ = out.write_all(b"\n");
             }
         }
     }
 
-    /// Counts the lines among bytes that were written, and tells of the rows on a terminal where it
-    /// is time to.
+    /// Counts the rows among bytes that were written, and reports them on a terminal where it is time
+    /// to.
     fn count(&mut self, written: &[u8])
         ensures { self.new ≡ self.old }
     {
         if matches!(self.line, ProgressLine::Never) {
             return;
         }
-        let ends = written.iter().filter(|byte| **byte == b'\n').count() as u64;
-        let lines = self.lines.unwrap_or(0).saturating_add(ends);
-        self.lines = Some(lines);
+        let ends = self.ends.count(written);
+        let rows = self.rows.unwrap_or(0).saturating_add(ends);
+        self.rows = Some(rows);
         if matches!(self.line, ProgressLine::Anew(_)) {
             let elapsed = self.elapsed();
             if self.next <= elapsed {
                 self.next = elapsed.saturating_add(Duration::from_millis(PERIOD));
-                self.tell(lines, elapsed);
+                self.tell(rows, elapsed);
             }
         }
     }
@@ -110,16 +163,33 @@ impl<'a, W, C: Clock, E: Write> Progress<'a, W, C, E> {
     }
 
     /// Writes the line, on a terminal in place of the one that it has.
-    fn tell(&mut self, lines: u64, elapsed: Duration)
+    fn tell(&mut self, rows: u64, elapsed: Duration)
         ensures { self.new ≡ self.old }
     {
-        let rows = lines.saturating_sub(self.header);
+        let rows = rows.saturating_sub(self.header);
         let rate = rows as u128 * 1000 / elapsed.as_millis().max(1);
         let _ = match &mut self.line {
             ProgressLine::Never => Ok(()),
             ProgressLine::Once(out) => write!(out, "{rows} rows, {rate} rows a second"),
             ProgressLine::Anew(out) => write!(out, "\r{rows} rows, {rate} rows a second\x1b[K"),
         };
+    }
+}
+
+/// Returns the number of line feeds.
+fn line_feeds(bytes: &[u8]) -> u64 {
+    bytes.iter().filter(|byte| **byte == b'\n').count() as u64
+}
+
+/// Returns where the byte after this one stands. A double quote in quotes closes them; a second one
+/// directly after it opens them again.
+fn place_after(place: RowPlace, byte: u8, delimiter: u8) -> RowPlace {
+    match place {
+        RowPlace::Quoted if byte == b'"' => RowPlace::Start,
+        RowPlace::Quoted => RowPlace::Quoted,
+        RowPlace::Start if byte == b'"' => RowPlace::Quoted,
+        _ if byte == b'\n' || byte == delimiter => RowPlace::Start,
+        _ => RowPlace::Plain,
     }
 }
 

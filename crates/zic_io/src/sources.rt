@@ -34,7 +34,7 @@ pub fn read_sources<F: FileSystem, I: Read>(
         (I.remaining input.old.inner) (texts_of texts.items)) }
     ensures err { IfErr result (IsFailureOfSources (map string_bytes words.now)
         (I.remaining input.old.inner) input.old input.new) }
-    ensures unasked { All (λ w. w ≢ STANDARD_INPUT.now) (map string_bytes words.now)
+    ensures unrequested { All (λ w. w ≢ STANDARD_INPUT.now) (map string_bytes words.now)
         → input.new ≡ input.old }
 {
     let mut texts = Vec::new(alloc);
@@ -55,7 +55,7 @@ fn source_text<F: FileSystem, I: Read>(
         IfSome (known_of source.now (I.remaining input.old.inner)) (λ all. text.items ≡ all)) }
     ensures size { IfOk result (λ text. length text.items ≤ MAX_SOURCE) }
     ensures err { IfErr result (IsFailureOfWord source.now input.old input.new) }
-    ensures unasked { source.now ≢ STANDARD_INPUT.now → input.new ≡ input.old }
+    ensures unrequested { source.now ≢ STANDARD_INPUT.now → input.new ≡ input.old }
 {
     if source == STANDARD_INPUT {
         return read_source_text(alloc, source, input);

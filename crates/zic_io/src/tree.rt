@@ -108,10 +108,10 @@ pub enum Durability {
     Synced,
 }
 
-/// A tree in a file system, of whose files and links no contract tells anything.
+/// A tree in a file system, about whose files and links no contract says anything.
 ///
 /// Several runs may place files in one tree at the same time: each file is that of one of them, and
-/// whole. Each run has temporary names of its own. What a run that was ended left behind is removed
+/// whole. Each run has temporary names of its own. What a run that was ended left is removed
 /// by the next of the same user that enters the folder. That may remove a file or a link that another
 /// run is making, which then makes it again.
 #[derive(Drop)]
@@ -248,7 +248,7 @@ impl<'a, F: FileSystem> Disk<'a, F> {
         Ok(())
     }
 
-    /// Tells whether a file belongs to the user of the process. Where the system doesn't tell, it
+    /// Returns whether a file belongs to the user of the process. Where the system doesn't say, it
     /// belongs to another.
     fn is_own(&self, path: &str) -> bool {
         match (
@@ -333,7 +333,7 @@ impl<'a, F: FileSystem> Disk<'a, F> {
         }
     }
 
-    /// Tells whether a symbolic link leads to the regular file at a path.
+    /// Returns whether a symbolic link leads to the regular file at a path.
     fn leads_to(&self, link: &str, path: &str) -> io::Result<bool> {
         let found = fs::metadata(self.system, link)?;
         let file = fs::metadata(self.system, path)?;
@@ -408,7 +408,7 @@ fn temporary_name(name: &[u8]) -> Option<&str> {
 }
 
 /// Writes the bytes to a file, and closes it. Where they are to be synced, the system writes them to
-/// its disk before, and tells also what it else would tell only when the file is closed.
+/// its disk before, and reports also what it else would report only when the file is closed.
 fn write_and_close<W: Write + OpenFile + Drop>(
     mut file: W,
     bytes: &[u8],

@@ -9,7 +9,7 @@ use zic_files::ZoneTree;
 use zic_words::Name;
 
 /// A folder of TZif files, as `build` makes one: the file of a zone is at the folder's path, a slash
-/// and the zone's name. No contract tells anything of the files.
+/// and the zone's name. No contract says anything about the files.
 #[derive(Drop)]
 pub struct ZoneFolder<'a, F> {
     system: &'a F,

@@ -145,8 +145,8 @@ checks_by_keyword true texts keyword e some k = absurd cc
 -- the keyword that the first text stands for
 pub first_keyword : {A : Type 0} (text : A → List ℕ) (xs : List A) (x : A) (found : List ℕ) (keyword : Option Keyword) → 0 < length xs → x ≡ get_or xs 0 x → found ≡ text x → keyword_of found ≡ keyword
     → keyword_of (slice_index_or (map text xs) 0 []) ≡ keyword
-first_keyword text (y ∷ ys) x found keyword some at is stands = ap keyword_of (ap text (sym at) ∙ sym is) ∙ stands
-first_keyword text [] x found keyword some at is stands = absurd (omega arith)
+first_keyword text (y ∷ ys) x found keyword some at is located = ap keyword_of (ap text (sym at) ∙ sym is) ∙ located
+first_keyword text [] x found keyword some at is located = absurd (omega arith)
 
 -- ---- what an entry of no continuation line says
 

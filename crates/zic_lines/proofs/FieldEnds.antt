@@ -34,8 +34,8 @@ one_more line start at le lt = joined line start at (at + 1) le (omega arith) �
 
 -- ---- bytes without the double quotes
 
-text_kept : (byte : ℕ) → is_quote byte ≡ false → without_quotes (byte ∷ []) ≡ byte ∷ []
-text_kept byte e = ap (λ (b : Bool). cond (not b) (byte ∷ []) []) e
+text_unchanged : (byte : ℕ) → is_quote byte ≡ false → without_quotes (byte ∷ []) ≡ byte ∷ []
+text_unchanged byte e = ap (λ (b : Bool). cond (not b) (byte ∷ []) []) e
 
 quote_dropped : (byte : ℕ) → is_quote byte ≡ true → without_quotes (byte ∷ []) ≡ []
 quote_dropped byte e = ap (λ (b : Bool). cond (not b) (byte ∷ []) []) e
@@ -96,7 +96,7 @@ begun_push [] byte = refl
 begun_push (first ∷ part) byte = ap (λ (bytes : List ℕ). Some bytes) (without_push (first ∷ part) (byte ∷ []))
 
 text_begun : (part : List ℕ) (byte : ℕ) → is_quote byte ≡ false → Some (unwrap_or (begun_text part) [] ++ byte ∷ []) ≡ begun_text (part ++ byte ∷ [])
-text_begun part byte e = sym (begun_push part byte ∙ ap (λ (t : List ℕ). Some (unwrap_or (begun_text part) [] ++ t)) (text_kept byte e))
+text_begun part byte e = sym (begun_push part byte ∙ ap (λ (t : List ℕ). Some (unwrap_or (begun_text part) [] ++ t)) (text_unchanged byte e))
 
 quote_begun : (part : List ℕ) (byte : ℕ) → is_quote byte ≡ true → Some (unwrap_or (begun_text part) []) ≡ begun_text (part ++ byte ∷ [])
 quote_begun part byte e =
@@ -108,7 +108,7 @@ plain_bare : (run : List ℕ) → ArePlain run → without_quotes run ≡ run
 plain_bare [] h = refl
 plain_bare (byte ∷ run) h =
     without_push (byte ∷ []) run
-    ∙ ap (λ (l : List ℕ). l ++ without_quotes run) (text_kept byte (plain_is_other byte (All-head (λ b. is_plain b ≡ true) byte run h)))
+    ∙ ap (λ (l : List ℕ). l ++ without_quotes run) (text_unchanged byte (plain_is_other byte (All-head (λ b. is_plain b ≡ true) byte run h)))
     ∙ ap (λ (l : List ℕ). byte ∷ l) (plain_bare run (All-tail (λ b. is_plain b ≡ true) byte run h))
 
 module _ (quoted : Bool) (whole : List (List ℕ)) where
@@ -155,7 +155,7 @@ module _ (line : List ℕ) (start at : ℕ) (rises : start ≤ at) (lt : at < le
       ap without_quotes (one_more line start at rises lt)
       ∙ without_push (slice_range line start at) (get_or line at 0 ∷ [])
       ∙ ap (λ (l : List ℕ). l ++ without_quotes (get_or line at 0 ∷ [])) bare
-      ∙ ap (λ (l : List ℕ). slice_range line start at ++ l) (text_kept (get_or line at 0) (text_is_other (get_or line at 0) quoted e))
+      ∙ ap (λ (l : List ℕ). slice_range line start at ++ l) (text_unchanged (get_or line at 0) (text_is_other (get_or line at 0) quoted e))
       ∙ sym (one_more line start at rises lt)
 
   pub quote_goes_on : role_of (get_or line at 0) quoted ≡ role.DoubleQuote

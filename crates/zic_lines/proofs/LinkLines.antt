@@ -10,7 +10,7 @@ use Rattle.zic_lines.specs.declared.link.Link.{Link}
 use Rattle.zic_lines.specs.LinkLine.{IsLinkLine}
 use Rattle.zic_words.specs.Name.{is_name}
 use Rattle.zic_lines.specs.Checks.{link_checks}
-use Rattle.zic_lines.proofs.Parsed.{kept}
+use Rattle.zic_lines.proofs.Parsed.{unchanged}
 
 -- the fields of a Link line that fails no check say a link
 pub link_said : (place : Place) (field : List ℕ) (fields : List (List ℕ)) → keyword_of field ≡ Some keywords.Link → first_failed (link_checks (field ∷ fields)) ≡ None → (link : Link) × IsLinkLine place (field ∷ fields) link
@@ -18,7 +18,7 @@ link_said place keyword (target ∷ name ∷ []) begins e =
     let has_target = each_passes (link_checks (keyword ∷ target ∷ name ∷ [])) e in
     let named = has_target.1 in
     let link : Link = record { place = place; target = target; name = name } in
-    let said : IsLinkLine place (keyword ∷ target ∷ name ∷ []) link = record { keyword = keyword; three = refl; is_link = begins; has_target = has_target.0; named = named.0; stands = refl } in
+    let said : IsLinkLine place (keyword ∷ target ∷ name ∷ []) link = record { keyword = keyword; three = refl; is_link = begins; has_target = has_target.0; named = named.0; located = refl } in
     (link, said)
 link_said place keyword fields begins e = absurd cc
 
@@ -38,8 +38,8 @@ pub link_made : {E : Type 0} (place : Place) {texts : List (List ℕ)} {keyword 
     → texts ≡ keyword ∷ target ∷ name ∷ [] → keyword_of keyword ≡ Some keywords.Link → is_name target ≡ true → is_name name ≡ true
     → IfOk made_target (λ t. t ≡ target) → IfOk made_name (λ n. n ≡ name)
     → IfOk made (λ link. link.place ≡ place) → IfOk made (λ link. made_target ≡ Ok link.target) → IfOk made (λ link. made_name ≡ Ok link.name) → IfOk made (IsLinkLine place texts)
-link_made place {texts} {keyword} {target} {name} (Ok link) made_target made_name are begins t n p q stands a b =
-    let first : link.target ≡ target = kept made_target target link.target a p in
-    let second : link.name ≡ name = kept made_name name link.name b q in
-    record { keyword = keyword; three = are ∙ rw (first, second) refl; is_link = begins; has_target = rw first t; named = rw second n; stands = stands }
-link_made place {texts} {keyword} {target} {name} (Err e) made_target made_name are begins t n p q stands a b = tt
+link_made place {texts} {keyword} {target} {name} (Ok link) made_target made_name are begins t n p q located a b =
+    let first : link.target ≡ target = unchanged made_target target link.target a p in
+    let second : link.name ≡ name = unchanged made_name name link.name b q in
+    record { keyword = keyword; three = are ∙ rw (first, second) refl; is_link = begins; has_target = rw first t; named = rw second n; located = located }
+link_made place {texts} {keyword} {target} {name} (Err e) made_target made_name are begins t n p q located a b = tt

@@ -6,9 +6,9 @@ pub refused : (b : Bool) → (false ≡ true) ↔ (b ≡ true) → b ≡ false
 refused true just = absurd (let no : false ≡ true = just.1 refl in cc)
 refused false just = refl
 
-pub kept : {X E : Type 0} (made : Result X E) (x y : X) → made ≡ Ok y → IfOk made (λ v. v ≡ x) → y ≡ x
-kept (Ok v) x y e h = cc
-kept (Err error) x y e h = absurd cc
+pub unchanged : {X E : Type 0} (made : Result X E) (x y : X) → made ≡ Ok y → IfOk made (λ v. v ≡ x) → y ≡ x
+unchanged (Ok v) x y e h = cc
+unchanged (Err error) x y e h = absurd cc
 
 pub wrapped : {X Y E : Type 0} (wrap : X → Y) (P : X → Type 0) (Q : Y → Type 0) (made : Result X E) (entry : Result Y E)
     → MatchResult made (λ x. IsOkAnd entry (λ y. y ≡ wrap x)) (λ e. entry ≡ Err e) → ((x : X) → P x → Q (wrap x)) → IfOk made P → IfOk entry Q

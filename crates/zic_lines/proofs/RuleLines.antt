@@ -27,7 +27,7 @@ use Rattle.zic_lines.specs.declared.rule_line.Years.{Years}
 use Rattle.zic_lines.specs.declared.rule_line.Times.{Times}
 use Rattle.zic_lines.specs.declared.rule_line.Effect.{Effect}
 use Rattle.zic_lines.specs.code.LineParts.{SayYears, year_checks, moment_checks, SayTimes, time_checks, SayEffect, effect_checks, rule_with}
-use Rattle.zic_lines.proofs.Parsed.{kept}
+use Rattle.zic_lines.proofs.Parsed.{unchanged}
 use Rattle.zic_lines.proofs.Options.{there, bound}
 
 -- the years that FROM and TO say
@@ -95,7 +95,7 @@ rule_said place keyword (name ∷ from ∷ to ∷ reserved ∷ month ∷ day ∷
       at_time = clock.1;
       saves = saving.1;
       abbreviates = text.1;
-      stands = refl;
+      located = refl;
     } in
     (rule, said)
 rule_said place keyword fields begins e = absurd cc
@@ -126,8 +126,8 @@ pub rule_made : {E : Type 0} (place : Place) {texts : List (List ℕ)} {keyword 
     → texts ≡ keyword ∷ name ∷ from ∷ to ∷ reserved ∷ month ∷ day ∷ time ∷ save ∷ letter ∷ []
     → keyword_of keyword ≡ Some keywords.Rule → is_set_name name ≡ true → SayTimes from to reserved month day time times → SayEffect save letter effect
     → IfOk made_name (λ n. n ≡ name) → IfOk made (λ rule. made_name ≡ Ok rule.name) → IfOk made (λ rule. rule ≡ rule_with place rule.name times effect) → IfOk made (IsRuleLine place texts)
-rule_made place {texts} {keyword} {name} {from} {to} {reserved} {month} {day} {time} {save} {letter} times effect (Ok rule) made_name are begins n say_times say_effect kept_name named parts =
-    let same : rule.name ≡ name = kept made_name name rule.name named kept_name in
+rule_made place {texts} {keyword} {name} {from} {to} {reserved} {month} {day} {time} {save} {letter} times effect (Ok rule) made_name are begins n say_times say_effect same_name named parts =
+    let same : rule.name ≡ name = unchanged made_name name rule.name named same_name in
     let is : IsRuleLine place texts (rule_with place name times effect) = record {
       keyword = keyword;
       from = from;
@@ -150,10 +150,10 @@ rule_made place {texts} {keyword} {name} {from} {to} {reserved} {month} {day} {t
       at_time = say_times.moment.at_time;
       saves = say_effect.saves;
       abbreviates = say_effect.abbreviates;
-      stands = refl;
+      located = refl;
     } in
     subst (IsRuleLine place texts) (sym (parts ∙ ap (λ (t : List ℕ). rule_with place t times effect) same)) is
-rule_made place {texts} {keyword} {name} {from} {to} {reserved} {month} {day} {time} {save} {letter} times effect (Err e) made_name are begins n say_times say_effect kept_name named parts = tt
+rule_made place {texts} {keyword} {name} {from} {to} {reserved} {month} {day} {time} {save} {letter} times effect (Err e) made_name are begins n say_times say_effect same_name named parts = tt
 
 -- ---- the first that fails, step by step
 

@@ -131,29 +131,29 @@ texts_from-gap whole piece mark part e =
     ∙ ap (λ (ts : List (List ℕ)). ended_fields whole (current_of piece) ++ ts) (sym (texts_from-nothing (slice_split is_gap part)))
 
 -- a byte more in the field that goes on
-kept_text : ℕ → List ℕ
-kept_text byte = cond (not (is_quote byte)) (byte ∷ []) []
+unquoted_text : ℕ → List ℕ
+unquoted_text byte = cond (not (is_quote byte)) (byte ∷ []) []
 
-current_push : (piece : List Mark) (mark : Mark) → current_of (piece ++ mark ∷ []) ≡ Some (unwrap_or (current_of piece) [] ++ kept_text mark.byte)
-unfolding kept_text
+current_push : (piece : List Mark) (mark : Mark) → current_of (piece ++ mark ∷ []) ≡ Some (unwrap_or (current_of piece) [] ++ unquoted_text mark.byte)
+unfolding unquoted_text
 current_push [] mark = refl
 current_push (first ∷ piece) mark =
     ap (λ (bytes : List ℕ). Some (filter (λ byte. not (is_quote byte)) bytes)) (map-append (λ m. m.byte) (first ∷ piece) (mark ∷ []))
     ∙ ap (λ (bytes : List ℕ). Some bytes) (filter-append (λ byte. not (is_quote byte)) (map (λ m. m.byte) (first ∷ piece)) (mark.byte ∷ []))
 
 taken_quote : (whole : List (List ℕ)) (piece : List Mark) (mark : Mark) → is_quote mark.byte ≡ true → begun (taken_of whole piece) ≡ taken_of whole (piece ++ mark ∷ [])
-unfolding kept_text
+unfolding unquoted_text
 taken_quote whole piece mark e =
-    let dropped : kept_text mark.byte ≡ [] = ap (λ (b : Bool). cond (not b) (mark.byte ∷ []) []) e in
+    let dropped : unquoted_text mark.byte ≡ [] = ap (λ (b : Bool). cond (not b) (mark.byte ∷ []) []) e in
     ap (λ (o : Option (List ℕ)). record { whole = whole; current = o })
     (sym (current_push piece mark ∙ ap (λ (t : List ℕ). Some (unwrap_or (current_of piece) [] ++ t)) dropped ∙ ap (λ (t : List ℕ). Some t) (append-nil (unwrap_or (current_of piece) []))))
 
 taken_text : (whole : List (List ℕ)) (piece : List Mark) (mark : Mark) → is_quote mark.byte ≡ false → with_byte (taken_of whole piece) mark.byte ≡ taken_of whole (piece ++ mark ∷ [])
-unfolding kept_text
+unfolding unquoted_text
 taken_text whole piece mark e =
-    let kept : kept_text mark.byte ≡ mark.byte ∷ [] = ap (λ (b : Bool). cond (not b) (mark.byte ∷ []) []) e in
+    let unchanged : unquoted_text mark.byte ≡ mark.byte ∷ [] = ap (λ (b : Bool). cond (not b) (mark.byte ∷ []) []) e in
     ap (λ (o : Option (List ℕ)). record { whole = whole; current = o })
-    (sym (current_push piece mark ∙ ap (λ (t : List ℕ). Some (unwrap_or (current_of piece) [] ++ t)) kept))
+    (sym (current_push piece mark ∙ ap (λ (t : List ℕ). Some (unwrap_or (current_of piece) [] ++ t)) unchanged))
 
 -- ---- the whole line
 

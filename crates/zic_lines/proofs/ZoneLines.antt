@@ -21,7 +21,7 @@ use Rattle.zic_lines.specs.declared.rules.Rules.{Rules}
 use Rattle.zic_lines.specs.declared.format.Format.{Format}
 use Rattle.zic_lines.specs.declared.entry.Entry.{Entry}
 use Rattle.zic_lines.specs.code.Entries.{IsOtherLine, IsZoneOf}
-use Rattle.zic_lines.proofs.Parsed.{kept}
+use Rattle.zic_lines.proofs.Parsed.{unchanged}
 use Rattle.zic_lines.proofs.Options.{there}
 
 -- `STDOFF RULES FORMAT` and the fields of an UNTIL that fail no check say a line of a zone
@@ -46,7 +46,7 @@ part_said place stdoff rules format until e =
       keeps = saving.1;
       abbreviates = form.1;
       ends = last.1;
-      stands = refl;
+      located = refl;
     } in
     (line, said)
 
@@ -117,7 +117,7 @@ module _ {texts : List (List ℕ)} {keyword name stdoff rules format : List ℕ}
       → IfOk made_name (λ n. n ≡ name) → IfOk made_line (IsContinuationLine place (stdoff ∷ rules ∷ format ∷ until))
       → IfOk made (IsZoneOf made_name made_line) → IfOk made (IsOtherLine place texts)
   zone_made {E = E} place (Ok entry) made_name made_line begins named n is zone =
-      let same : zone.name ≡ name = kept made_name name zone.name zone.named n in
+      let same : zone.name ≡ name = unchanged made_name name zone.name zone.named n in
       let said : IsZoneLine place texts zone.name zone.line = record {
         keyword = keyword;
         others = stdoff ∷ rules ∷ format ∷ until;

@@ -1,5 +1,5 @@
 -- The checks of a line in order, each with the kind of fault of a line that fails it; the first that fails decides. The order is
--- own choice. `Grammar` tells what a line says: one that fails no check says just one thing.
+-- own choice. `Grammar` defines what a line says: one that fails no check says just one thing.
 use Rattle.std.specs.Prelude.{ℕ, Bool, true, false, not, List, [], ◌∷◌, ◌++◌, length, is_some, Option, Some, None, nat_le}
 use Rattle.zic_base.specs.declared.fault.Kind.{Kind}
 use Rattle.zic_base.specs.declared.fault.Kind.TheVariants.{NotAscii, Quote, LineTooLong, Keyword, FieldCount, Name, Year, YearOrder, Reserved, Month, Day, Time, Save, Letter, Offset, Format, Until}
@@ -102,7 +102,7 @@ keyword_checks (Some keywords.Rule) fields = rule_checks fields
 keyword_checks (Some keywords.Zone) fields = zone_checks fields
 keyword_checks (Some keywords.Link) fields = link_checks fields
 
--- The checks of the fields of a line. One without fields says nothing; where a continuation line is awaited the fields are its
+-- The checks of the fields of a line. One without fields has no statement; where a continuation line is awaited the fields are its
 -- fields, whatever the first is.
 abbrev pub field_checks : Bool → List (List ℕ) → List (Check Kind)
 field_checks awaited [] = []

@@ -16,7 +16,7 @@ pub record IsLine (bytes : List ℕ) : Type 0 where
   pub ascii : IsTrue (is_ascii_code bytes)
   pub closed : IsTrue (is_closed bytes)
 
--- The fields at this place say this. A line without fields says nothing.
+-- The fields at this place say this. A line without fields has no statement.
 abbrev pub FieldsSay : Place → List (List ℕ) → Option Entry → Type 0
 FieldsSay place fields None = fields ≡ []
 FieldsSay place fields (Some (entries.Rule rule)) = IsRuleLine place fields rule

@@ -13,4 +13,4 @@ pub record IsLinkLine (place : Place) (fields : List (List ℕ)) (link : declare
   pub is_link : keyword_of keyword ≡ Some Link
   pub has_target : IsTrue (is_name link.target)
   pub named : IsTrue (is_name link.name)
-  pub stands : link.place ≡ place
+  pub located : link.place ≡ place

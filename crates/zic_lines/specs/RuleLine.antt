@@ -36,4 +36,4 @@ pub record IsRuleLine (place : Place) (fields : List (List ℕ)) (rule : Rule) :
   pub at_time : clock_time_of time ≡ Some rule.moment.at
   pub saves : saving_of save ≡ Some rule.saving
   pub abbreviates : letter_of letter ≡ Some rule.letter
-  pub stands : rule.place ≡ place
+  pub located : rule.place ≡ place

@@ -11,7 +11,7 @@ use Rattle.zic_lines.specs.Format.{format_of}
 use Rattle.zic_lines.specs.Until.{until_of}
 
 -- The fields at this place are `STDOFF RULES FORMAT [YEAR [MONTH [DAY [TIME]]]]`, and say this: all fields of a continuation
--- line, or those behind a zone's name.
+-- line, or those after a zone's name.
 pub record IsContinuationLine (place : Place) (fields : List (List ℕ)) (line : ZoneLine) : Type 0 where
   pub stdoff : List ℕ
   pub rules : List ℕ
@@ -22,7 +22,7 @@ pub record IsContinuationLine (place : Place) (fields : List (List ℕ)) (line :
   pub keeps : rules_of rules ≡ Some line.rules
   pub abbreviates : format_of format ≡ Some line.format
   pub ends : until_of until ≡ Some line.until
-  pub stands : line.place ≡ place
+  pub located : line.place ≡ place
 
 -- The fields at this place are `Zone NAME` and those of a continuation line, and say this of the zone of that name.
 pub record IsZoneLine (place : Place) (fields : List (List ℕ)) (name : List ℕ) (line : ZoneLine) : Type 0 where

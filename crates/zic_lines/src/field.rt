@@ -19,7 +19,7 @@ use zic_base::{Kind, Place, Stop};
 pub const LONGEST_LINE: usize = 2048;
 
 /// Returns whether the byte is white space in a line.
-fn is_space(byte: u8) -> bool
+pub(crate) fn is_space(byte: u8) -> bool
     ensures { result ≡ is_space byte }
 {
     matches!(byte, b' ' | b'\t' | 0x0b..=0x0d)

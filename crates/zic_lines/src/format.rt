@@ -8,7 +8,7 @@ use std::alloc::{AllocError, Global};
 use zic_base::ShortText;
 use zic_words::{is_dash, split_at_most_once};
 
-/// A part of a FORMAT, printable ASCII and white space; up to 16 bytes are kept inline.
+/// A part of a FORMAT, printable ASCII and white space; up to 16 bytes are stored inline.
 pub type FormatPart = ShortText<16>;
 
 /// The FORMAT of a Zone or continuation line: the form of its abbreviations (zic(8), FORMAT).

@@ -32,7 +32,11 @@ fn until_at(year: &[u8], month: &[u8], day: &[u8], time: &[u8]) -> Option<Until>
 }
 
 /// Returns the text of the field at this index, or this one where there is no such field.
-fn text_or<'a>(fields: &'a [CowSlice<'_, u8>], index: usize, missing: &'a [u8]) -> &'a [u8]
+pub(crate) fn text_or<'a>(
+    fields: &'a [CowSlice<'_, u8>],
+    index: usize,
+    missing: &'a [u8],
+) -> &'a [u8]
     ensures { result.now ≡ slice_index_or (texts_of fields.now) index missing.now }
 {
     if index < fields.len() {

@@ -11,13 +11,13 @@ use Rattle.zic_tzif.specs.Answer.{Answers, AnswersThroughout, IsUnspecified}
 use Rattle.zic_local.specs.declared.local_instants.Gap.{Gap}
 use Rattle.zic_local.specs.declared.local_instants.LocalInstants.{LocalInstants}
 use Rattle.zic_local.specs.declared.local_instants.LocalInstants.TheVariants as instants
-use Rattle.zic_local.specs.LocalTime.{IsOffsetAt, IsInstantOf, AreInstantsOf, PassesOver, Tells, HaveOffsets}
-use Rattle.zic_local.specs.code.Walk.{TellsUpTo, with_instant, with_gap, IsInSpan, IsPassedAt}
+use Rattle.zic_local.specs.LocalTime.{IsOffsetAt, IsInstantOf, AreInstantsOf, PassesOver, AnswersLocal, HaveOffsets}
+use Rattle.zic_local.specs.code.Walk.{AnswersLocalUpTo, with_instant, with_gap, IsInSpan, IsPassedAt}
 use Rattle.zic_local.proofs.Lists.{not_empty}
-use Rattle.zic_local.proofs.Steps.{told_first, told_more, told_gap, told_all, next_instant, next_gap}
+use Rattle.zic_local.proofs.Steps.{known_first, known_more, known_gap, known_all, next_instant, next_gap}
 
 -- all instants of a local time, whatever is told of it
-pub list_of : (content : Content) (local : ℤ) (told : LocalInstants) → Tells content local told → (list : List ℤ) × AreInstantsOf content local list
+pub list_of : (content : Content) (local : ℤ) (given : LocalInstants) → AnswersLocal content local given → (list : List ℤ) × AreInstantsOf content local list
 list_of content local (instants.Gap gap) tells = ([], tells.0)
 list_of content local (instants.One t) tells = (t ∷ [], tells)
 list_of content local (instants.Fold fold) tells = (fold.first ∷ (tells.between ++ fold.last ∷ []), tells.are)
@@ -90,31 +90,31 @@ module _ (content : Content) (local : ℤ) (near : HaveOffsets content) (answer_
       let same : t ≡ u = omega (arith, ints, from, to) in
       subst (λ (z : ℤ). Answers content z (answer_at t).0) same (answer_at t).1
 
-  abbrev IsTold : ℤ → Type 0
-  IsTold end = (told : LocalInstants) × TellsUpTo content local end end told
+  abbrev IsKnownTo : ℤ → Type 0
+  IsKnownTo end = (given : LocalInstants) × AnswersLocalUpTo content local end end given
 
-  next_told : (end t : ℤ) → t ≡ end +ℤ pos 1 → IsTold end → IsTold t
-  next_told end t is told =
+  next_known : (end t : ℤ) → t ≡ end +ℤ pos 1 → IsKnownTo end → IsKnownTo t
+  next_known end t is given =
       let gap = find_gap local (answer_at end).0 (answer_at t).0 t in
       let found = find_instant local t (answer_at t).0 in
       let here : Includes (second t) t = record { from = omega (arith, ints); to = omega (arith, ints) } in
       let gap_is = next_gap content local (second end) (second t) (answer_at end).0 (answer_at t).0 t (second_throughout end) (second_throughout t) is
       (omega (arith, ints)) here gap.0 gap.1 in
-      let gaps = told_gap content local end end t told.0 gap.0 gap_is told.1 in
+      let gaps = known_gap content local end end t given.0 gap.0 gap_is given.1 in
       let more = next_instant content local (second t) (answer_at t).0 end found.0 (second_throughout t) (omega (arith, ints, is))
       (λ u inside. let from = inside.inside.from in omega (arith, ints, from, is)) found.1 in (
-        with_instant (with_gap told.0 gap.0) found.0,
-        told_more content local end t t (with_gap told.0 gap.0) found.0 (omega (arith, ints, is)) more gaps,
+        with_instant (with_gap given.0 gap.0) found.0,
+        known_more content local end t t (with_gap given.0 gap.0) found.0 (omega (arith, ints, is)) more gaps,
       )
 
-  told_to : (n : ℕ) → IsTold (((local -ℤ pos FARTHEST_FILE_OFFSET) -ℤ pos 1) +ℤ pos n)
-  told_to zero = (instants.Unspecified, told_first content local near _ _ (omega (arith, ints)) (omega (arith, ints)))
-  told_to (suc n) = next_told _ _ (omega (arith, ints)) (told_to n)
+  known_to : (n : ℕ) → IsKnownTo (((local -ℤ pos FARTHEST_FILE_OFFSET) -ℤ pos 1) +ℤ pos n)
+  known_to zero = (instants.Unspecified, known_first content local near _ _ (omega (arith, ints)) (omega (arith, ints)))
+  known_to (suc n) = next_known _ _ (omega (arith, ints)) (known_to n)
 
-  pub some_told : (told : LocalInstants) × Tells content local told
-  some_told =
-      let told = told_to 187_200 in
-      (told.0, told_all content local near _ _ told.0 (omega (arith, ints)) (omega (arith, ints)) told.1)
+  pub some_known : (given : LocalInstants) × AnswersLocal content local given
+  some_known =
+      let given = known_to 187_200 in
+      (given.0, known_all content local near _ _ given.0 (omega (arith, ints)) (omega (arith, ints)) given.1)
 
   -- ---- a gap where no instant is
 

@@ -20,7 +20,7 @@ use Rattle.zic_tzif.specs.Block.{type_in, is_type_record, type_records, names_in
 use Rattle.zic_tzif.specs.Reading.{IsFile, checks, content_in}
 use Rattle.zic_tzif.proofs.Passed.{each_passes}
 use Rattle.zic_tzif.proofs.ReadAgree.{found}
-use Rattle.zic_tzif.proofs.ReadKept.{types_kept}
+use Rattle.zic_tzif.proofs.ReadContent.{types_read}
 use Rattle.zic_local.specs.LocalTime.{HaveOffsets}
 
 of_type : (content : Content) (number : ℕ) (state : Shown) → All (IsLocalType content.names) content.types → (o : Option LocalType) → slice_get content.types number ≡ o
@@ -51,6 +51,6 @@ have_offsets octets content file =
     let designated : list_all (λ r. is_designated (names_in octets) (type_in r).place) (type_records octets) ≡ true =
     each_passes (checks octets) file.passes 12 none (omega arith) in
     let records : list_all is_type_record (type_records octets) ≡ true = each_passes (checks octets) file.passes 13 none (omega arith) in
-    let kept : All (IsLocalType (content_in octets).names) (content_in octets).types = types_kept (names_in octets) (type_records octets) designated records in
+    let kept : All (IsLocalType (content_in octets).names) (content_in octets).types = types_read (names_in octets) (type_records octets) designated records in
     let types : All (IsLocalType content.names) content.types = subst (λ (c : Content). All (IsLocalType c.names) c.types) (sym file.says) kept in
     λ t offset at. rw at.is (of_state content t at.state types at.answers)

@@ -14,7 +14,7 @@ use Rattle.zic_local.specs.declared.local_instants.Gap.{Gap}
 use Rattle.zic_local.specs.declared.local_instants.Fold.{Fold}
 use Rattle.zic_local.specs.declared.local_instants.LocalInstants.{LocalInstants}
 use Rattle.zic_local.specs.declared.local_instants.LocalInstants.TheVariants as instants
-use Rattle.zic_local.specs.LocalTime.{IsOffsetAt, IsInstantOf, AreInstantsOf, IsGapOf, IsFoldOf, Tells}
+use Rattle.zic_local.specs.LocalTime.{IsOffsetAt, IsInstantOf, AreInstantsOf, IsGapOf, IsFoldOf, AnswersLocal}
 use Rattle.zic_local.specs.Choice.{IsOnly, IsFirst, IsLast, IsReadBefore, IsReadAfter, Means, IsUnresolved}
 use Rattle.zic_local.proofs.Lists.{head_is, last_is, below_last, not_empty, just_once}
 
@@ -105,7 +105,7 @@ module _ (content : Content) (local : ℤ) where
   one_or_fold t fold are is =
       longer t fold.first fold.last is.between (just_once IsAt (t ∷ []) (fold.first ∷ (is.between ++ fold.last ∷ [])) are is.are)
 
-  pub tells_once : (a b : LocalInstants) → Tells content local a → Tells content local b → a ≡ b
+  pub tells_once : (a b : LocalInstants) → AnswersLocal content local a → AnswersLocal content local b → a ≡ b
   tells_once (instants.Gap a) (instants.Gap b) is other = ap instants.Gap (one_gap a b is.1 other.1)
   tells_once (instants.Gap a) (instants.One u) is other = absurd (not_one u is.0 other)
   tells_once (instants.Gap a) (instants.Fold b) is other = absurd (no_fold b is.0 other)
@@ -161,7 +161,7 @@ module _ (content : Content) (local : ℤ) where
   one_meant choice.Compatible t u (inr is) (inr other) = one_before t u is other
 
   -- an instant is meant, or the local time is refused, but not both
-  not_left_open : (disambiguation : Disambiguation) (t : ℤ) → Means content local disambiguation t → Tells content local instants.Unspecified → ⊥
+  not_left_open : (disambiguation : Disambiguation) (t : ℤ) → Means content local disambiguation t → AnswersLocal content local instants.Unspecified → ⊥
   not_left_open choice.Reject t is none = not_empty IsAt none.0 t is.is
   not_left_open choice.Earlier t (inl is) none = not_empty IsAt none.0 t is.is
   not_left_open choice.Earlier t (inr is) none = none.1 is.gap is.in_gap.1.over

@@ -14,11 +14,11 @@ use Rattle.zic_local.specs.declared.disambiguation.Unresolved.{Unresolved}
 use Rattle.zic_local.specs.declared.disambiguation.Unresolved.TheVariants as unresolved
 use Rattle.zic_local.specs.declared.local_instants.LocalInstants.{LocalInstants}
 use Rattle.zic_local.specs.declared.local_instants.LocalInstants.TheVariants as instants
-use Rattle.zic_local.specs.LocalTime.{Tells}
+use Rattle.zic_local.specs.LocalTime.{AnswersLocal}
 use Rattle.zic_local.specs.Choice.{IsUnresolved, Means}
 use Rattle.zic_local.proofs.Choices.{first_of, last_of, means_only}
 use Rattle.zic_local.proofs.Deciding.{IsDecided, IsRead, decide_file}
-use Rattle.zic_local.proofs.Existing.{some_told}
+use Rattle.zic_local.proofs.Existing.{some_known}
 use Rattle.zic_local.proofs.Offsets.{have_offsets}
 
 module _ (content : Content) (local : ℤ) where
@@ -29,7 +29,7 @@ module _ (content : Content) (local : ℤ) where
   HasResolved disambiguation = (result : Result ℤ Unresolved) × IsResolved disambiguation result
 
   -- each choice means something by what is told
-  resolve : (disambiguation : Disambiguation) (told : LocalInstants) → Tells content local told → HasResolved disambiguation
+  resolve : (disambiguation : Disambiguation) (given : LocalInstants) → AnswersLocal content local given → HasResolved disambiguation
   resolve disambiguation (instants.One t) tells = (Ok t, means_only content local disambiguation t tells)
   resolve disambiguation instants.Unspecified tells = (Err unresolved.Unspecified, tells)
   resolve choice.Reject (instants.Fold fold) tells = (Err unresolved.Fold, (refl, (fold, tells)))
@@ -47,8 +47,8 @@ module _ (octets : List ℕ) (local : ℤ) (disambiguation : Disambiguation) whe
 
   of_file : IsRead octets → HasResolved (content_in octets) local disambiguation
   of_file file =
-      let told = some_told (content_in octets) local (have_offsets octets (content_in octets) file) (answers file) in
-      resolve (content_in octets) local disambiguation told.0 told.1
+      let given = some_known (content_in octets) local (have_offsets octets (content_in octets) file) (answers file) in
+      resolve (content_in octets) local disambiguation given.0 given.1
 
   by_decision : IsDecided (IsRead octets) → Result ℤ Unresolved
   by_decision (inl file) = (of_file file).0

@@ -12,8 +12,8 @@ use Rattle.zic_tzif.proofs.AnswerLemmas.{one_answer}
 use Rattle.zic_local.specs.declared.local_instants.Gap.{Gap}
 use Rattle.zic_local.specs.declared.local_instants.LocalInstants.{LocalInstants}
 use Rattle.zic_local.specs.declared.local_instants.LocalInstants.TheVariants as instants
-use Rattle.zic_local.specs.LocalTime.{IsOffsetAt, IsInstantOf, AreInstantsOf, PassesOver, Tells, HaveOffsets}
-use Rattle.zic_local.specs.code.Walk.{IsInstantUpTo, AreUpTo, TellsUpTo, with_instant, with_gap, HasOffset, HasNearOffset, IsInSpan, IsPassedAt}
+use Rattle.zic_local.specs.LocalTime.{IsOffsetAt, IsInstantOf, AreInstantsOf, PassesOver, AnswersLocal, HaveOffsets}
+use Rattle.zic_local.specs.code.Walk.{IsInstantUpTo, AreUpTo, AnswersLocalUpTo, with_instant, with_gap, HasOffset, HasNearOffset, IsInSpan, IsPassedAt}
 use Rattle.zic_local.proofs.Lists.{just_none, just_same, just_more}
 
 module _ (content : Content) (local : ℤ) where
@@ -45,28 +45,28 @@ module _ (content : Content) (local : ℤ) where
   IsNextInstant end later (Some t) =
       (end <ℤ t) × (t ≤ℤ later) × IsInstantOf content local t × ((u : ℤ) → end <ℤ u → u ≤ℤ later → IsInstantOf content local u → t ≡ u)
 
-  pub told_more : (end later last : ℤ) (told : LocalInstants) (found : Option ℤ) → end ≤ℤ later → IsNextInstant end later found
-      → TellsUpTo content local end last told → TellsUpTo content local later last (with_instant told found)
-  told_more end later last (instants.Gap gap) None order none are = (no_more end later [] order none are.0, are.1)
-  told_more end later last (instants.One first) None order none are = no_more end later (first ∷ []) order none are
-  told_more end later last (instants.Fold fold) None order none are = record {
+  pub known_more : (end later last : ℤ) (given : LocalInstants) (found : Option ℤ) → end ≤ℤ later → IsNextInstant end later found
+      → AnswersLocalUpTo content local end last given → AnswersLocalUpTo content local later last (with_instant given found)
+  known_more end later last (instants.Gap gap) None order none are = (no_more end later [] order none are.0, are.1)
+  known_more end later last (instants.One first) None order none are = no_more end later (first ∷ []) order none are
+  known_more end later last (instants.Fold fold) None order none are = record {
     between = are.between;
     are = no_more end later (fold.first ∷ (are.between ++ fold.last ∷ [])) order none are.are;
     count = are.count;
   }
-  told_more end later last instants.Unspecified None order none are = (no_more end later [] order none are.0, are.1)
-  told_more end later last (instants.Gap gap) (Some t) order next are = one_more end later t [] order next.0 next.1 next.2 next.3 are.0
-  told_more end later last (instants.One first) (Some t) order next are = record {
+  known_more end later last instants.Unspecified None order none are = (no_more end later [] order none are.0, are.1)
+  known_more end later last (instants.Gap gap) (Some t) order next are = one_more end later t [] order next.0 next.1 next.2 next.3 are.0
+  known_more end later last (instants.One first) (Some t) order next are = record {
     between = [];
     are = one_more end later t (first ∷ []) order next.0 next.1 next.2 next.3 are;
     count = refl;
   }
-  told_more end later last (instants.Fold fold) (Some t) order next are = record {
+  known_more end later last (instants.Fold fold) (Some t) order next are = record {
     between = are.between ++ fold.last ∷ [];
     are = one_more end later t (fold.first ∷ (are.between ++ fold.last ∷ [])) order next.0 next.1 next.2 next.3 are.are;
     count = let count = are.count in omega (arith, count, length-append are.between (fold.last ∷ []));
   }
-  told_more end later last instants.Unspecified (Some t) order next are = one_more end later t [] order next.0 next.1 next.2 next.3 are.0
+  known_more end later last instants.Unspecified (Some t) order next are = one_more end later t [] order next.0 next.1 next.2 next.3 are.0
 
   -- ---- gaps
 
@@ -76,17 +76,17 @@ module _ (content : Content) (local : ℤ) where
   IsNextGap last later (Some gap) =
       PassesOver content local gap × ((other : Gap) → PassesOver content local other → last <ℤ other.change → gap.change ≤ℤ other.change)
 
-  pub told_gap : (end last later : ℤ) (told : LocalInstants) (found : Option Gap) → IsNextGap last later found
-      → TellsUpTo content local end last told → TellsUpTo content local end later (with_gap told found)
-  told_gap end last later (instants.Gap gap) None next are = are
-  told_gap end last later (instants.One t) None next are = are
-  told_gap end last later (instants.Fold fold) None next are = record { between = are.between; are = are.are; count = are.count }
-  told_gap end last later instants.Unspecified None next are =
+  pub known_gap : (end last later : ℤ) (given : LocalInstants) (found : Option Gap) → IsNextGap last later found
+      → AnswersLocalUpTo content local end last given → AnswersLocalUpTo content local end later (with_gap given found)
+  known_gap end last later (instants.Gap gap) None next are = are
+  known_gap end last later (instants.One t) None next are = are
+  known_gap end last later (instants.Fold fold) None next are = record { between = are.between; are = are.are; count = are.count }
+  known_gap end last later instants.Unspecified None next are =
       (are.0, λ gap over within. by_lt_z last gap.change (λ after. next gap over after within) (λ not_after. are.1 gap over not_after))
-  told_gap end last later (instants.Gap gap) (Some new) next are = are
-  told_gap end last later (instants.One t) (Some new) next are = are
-  told_gap end last later (instants.Fold fold) (Some new) next are = record { between = are.between; are = are.are; count = are.count }
-  told_gap end last later instants.Unspecified (Some new) next are = (
+  known_gap end last later (instants.Gap gap) (Some new) next are = are
+  known_gap end last later (instants.One t) (Some new) next are = are
+  known_gap end last later (instants.Fold fold) (Some new) next are = record { between = are.between; are = are.are; count = are.count }
+  known_gap end last later instants.Unspecified (Some new) next are = (
     are.0,
     record {
       over = next.0;
@@ -113,9 +113,9 @@ module _ (content : Content) (local : ℤ) where
         (omega (arith, ints, after, passed), omega (arith, ints, before, to_come))
 
     -- nothing is told before the window
-    pub told_first : (end last : ℤ) → end <ℤ (local -ℤ pos FARTHEST_FILE_OFFSET) → last ≤ℤ (local -ℤ pos FARTHEST_FILE_OFFSET)
-        → TellsUpTo content local end last instants.Unspecified
-    told_first end last below from = (
+    pub known_first : (end last : ℤ) → end <ℤ (local -ℤ pos FARTHEST_FILE_OFFSET) → last ≤ℤ (local -ℤ pos FARTHEST_FILE_OFFSET)
+        → AnswersLocalUpTo content local end last instants.Unspecified
+    known_first end last below from = (
       just_none (IsInstantUpTo content local end)
           (λ t has. let low = (near_instant t has.is).0 in let within = has.within in omega (arith, ints, below, low, within)),
       λ gap over within. let low = (near_gap gap over).0 in omega (arith, ints, from, low, within),
@@ -128,16 +128,16 @@ module _ (content : Content) (local : ℤ) where
         (λ t is. record { is = is; within = let high = (near_instant t is).1 in omega (arith, ints, above, high) }) are
 
     -- all is told at the end of the window
-    pub told_all : (end last : ℤ) (told : LocalInstants) → (local +ℤ pos FARTHEST_FILE_OFFSET) ≤ℤ end
-        → (local +ℤ pos FARTHEST_FILE_OFFSET) ≤ℤ last → TellsUpTo content local end last told → Tells content local told
-    told_all end last (instants.Gap gap) above to are = (all_instants end [] above are.0, are.1)
-    told_all end last (instants.One t) above to are = all_instants end (t ∷ []) above are
-    told_all end last (instants.Fold fold) above to are = record {
+    pub known_all : (end last : ℤ) (given : LocalInstants) → (local +ℤ pos FARTHEST_FILE_OFFSET) ≤ℤ end
+        → (local +ℤ pos FARTHEST_FILE_OFFSET) ≤ℤ last → AnswersLocalUpTo content local end last given → AnswersLocal content local given
+    known_all end last (instants.Gap gap) above to are = (all_instants end [] above are.0, are.1)
+    known_all end last (instants.One t) above to are = all_instants end (t ∷ []) above are
+    known_all end last (instants.Fold fold) above to are = record {
       between = are.between;
       are = all_instants end (fold.first ∷ (are.between ++ fold.last ∷ [])) above are.are;
       count = are.count;
     }
-    told_all end last instants.Unspecified above to are =
+    known_all end last instants.Unspecified above to are =
         (all_instants end [] above are.0, λ gap over. are.1 gap over (let high = (near_gap gap over).1 in omega (arith, ints, to, high)))
 
   -- ---- one span

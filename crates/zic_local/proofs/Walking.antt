@@ -14,11 +14,11 @@ use Rattle.zic_local.specs.declared.local_instants.LocalInstants.{LocalInstants}
 use Rattle.zic_local.specs.declared.local_instants.LocalInstants.TheVariants as instants
 use Rattle.zic_local.specs.LocalTime.{HaveOffsets}
 use Rattle.zic_local.specs.code.Walk.{with_instant, with_gap, found_count, IsInSpan, IsPassedAt, IsWalked}
-use Rattle.zic_local.proofs.Steps.{told_first, told_more, told_gap, next_instant, next_gap, no_gap_inside, near_in_span}
+use Rattle.zic_local.proofs.Steps.{known_first, known_more, known_gap, next_instant, next_gap, no_gap_inside, near_in_span}
 
 -- ---- how many instants
 
-pub count_more : (told : LocalInstants) (found : Option ℤ) → found_count (with_instant told found) ≤ found_count told + 1
+pub count_more : (given : LocalInstants) (found : Option ℤ) → found_count (with_instant given found) ≤ found_count given + 1
 count_more (instants.Gap gap) None = omega arith
 count_more (instants.One t) None = omega arith
 count_more (instants.Fold fold) None = omega arith
@@ -28,7 +28,7 @@ count_more (instants.One first) (Some t) = omega arith
 count_more (instants.Fold fold) (Some t) = omega arith
 count_more instants.Unspecified (Some t) = omega arith
 
-pub count_gap : (told : LocalInstants) (found : Option Gap) → found_count (with_gap told found) ≡ found_count told
+pub count_gap : (given : LocalInstants) (found : Option Gap) → found_count (with_gap given found) ≡ found_count given
 count_gap (instants.Gap gap) None = refl
 count_gap (instants.One t) None = refl
 count_gap (instants.Fold fold) None = refl
@@ -50,13 +50,13 @@ module _ (content : Content) (local : ℤ) where
       let end : ℤ = start -ℤ pos 1 in
       let from = here.from in
       let to = here.to in
-      let none = told_first content local near end start (omega (arith, ints, is)) (omega (arith, ints, is)) in
-      let no_gap = told_gap content local end start span.last instants.Unspecified None
+      let none = known_first content local near end start (omega (arith, ints, is)) (omega (arith, ints, is)) in
+      let no_gap = known_gap content local end start span.last instants.Unspecified None
       (λ gap over after within. no_gap_inside content local span answer throughout gap over (omega (arith, ints, from, after)) within) none in
       let next = next_instant content local span answer end found throughout (omega (arith, ints, from))
       (λ t inside. let low = near_in_span content local near span answer throughout t inside in omega (arith, ints, low, is)) in_span in
       record {
-        tells = told_more content local end span.last span.last instants.Unspecified found (omega (arith, ints, to)) next no_gap;
+        tells = known_more content local end span.last span.last instants.Unspecified found (omega (arith, ints, to)) next no_gap;
         answers = throughout;
         changes = changes;
         some = omega (arith, ints, from, to);
@@ -67,8 +67,8 @@ module _ (content : Content) (local : ℤ) where
 
   -- ---- one span more
 
-  module _ (span next : Instants) (answer next_answer : Option Shown) (told : LocalInstants) (change : ℤ)
-      (walked : IsWalked content local span answer told) (next_throughout : AnswersThroughout content next next_answer)
+  module _ (span next : Instants) (answer next_answer : Option Shown) (given : LocalInstants) (change : ℤ)
+      (walked : IsWalked content local span answer given) (next_throughout : AnswersThroughout content next next_answer)
       (next_changes : AreBetween (MayChangeAt content) next) (here : Includes next change) (is : change ≡ span.last +ℤ pos 1)
       (fits : FitsSigned w64 next.last) where
     -- the next span begins at the change
@@ -85,21 +85,21 @@ module _ (content : Content) (local : ℤ) where
         → MatchOption gap ((gap : Gap) → gap.change ≡ change → IsPassedAt answer next_answer local gap → ⊥)
         (λ gap. (gap.change ≡ change) × IsPassedAt answer next_answer local gap)
         → MatchOption found ((t : ℤ) → IsInSpan next next_answer local t → ⊥) (IsInSpan next next_answer local)
-        → IsWalked content local next next_answer (with_instant (with_gap told gap) found)
+        → IsWalked content local next next_answer (with_instant (with_gap given gap) found)
     walk_more gap found passed in_span =
         let from = here.from in
         let to = here.to in
-        let with = with_gap told gap in
+        let with = with_gap given gap in
         let next_is = next_gap content local span next answer next_answer change walked.answers next_throughout is walked.some here gap passed in
-        let gaps = told_gap content local span.last span.last next.last told gap next_is walked.tells in
+        let gaps = known_gap content local span.last span.last next.last given gap next_is walked.tells in
         let more = next_instant content local next next_answer span.last found next_throughout (omega (arith, ints, from, is))
         (λ t inside. let after = inside.inside.from in let low = begins in omega (arith, ints, after, low, is)) in_span in
         let count = count_more with found in
-        let same = count_gap told gap in
+        let same = count_gap given gap in
         let counted = walked.counted in
         let low = walked.from in
         record {
-          tells = told_more content local span.last next.last next.last with found (omega (arith, ints, to, is)) more gaps;
+          tells = known_more content local span.last next.last next.last with found (omega (arith, ints, to, is)) more gaps;
           answers = next_throughout;
           changes = next_changes;
           some = omega (arith, ints, from, to);

@@ -9,7 +9,7 @@ use Rattle.zic_local.specs.declared.disambiguation.Unresolved.TheVariants as unr
 use Rattle.zic_local.specs.declared.local_instants.Gap.{Gap}
 use Rattle.zic_local.specs.declared.local_instants.Fold.{Fold}
 use Rattle.zic_local.specs.declared.local_instants.LocalInstants.TheVariants as instants
-use Rattle.zic_local.specs.LocalTime.{IsInstantOf, IsFoldOf, Tells}
+use Rattle.zic_local.specs.LocalTime.{IsInstantOf, IsFoldOf, AnswersLocal}
 
 -- the only instant of a local time
 pub record IsOnly (content : Content) (local t : ℤ) : Type 0 where
@@ -25,16 +25,16 @@ pub record IsLast (content : Content) (local t : ℤ) : Type 0 where
   pub is : IsInstantOf content local t
   pub last : (other : ℤ) → IsInstantOf content local other → other ≤ℤ t
 
--- The local time is in a gap. Read with the UT offset before the gap, it is this instant, at which clocks show a later time than
--- asked for; read with the offset after the gap, at which they show an earlier one.
+-- the local time is in a gap, and with the UT offset before the gap it is this instant
 pub record IsReadBefore (content : Content) (local t : ℤ) : Type 0 where
   pub gap : Gap
-  pub in_gap : Tells content local (instants.Gap gap)
+  pub in_gap : AnswersLocal content local (instants.Gap gap)
   pub is : t +ℤ gap.before ≡ local
 
+-- the local time is in a gap, and with the UT offset after the gap it is this instant
 pub record IsReadAfter (content : Content) (local t : ℤ) : Type 0 where
   pub gap : Gap
-  pub in_gap : Tells content local (instants.Gap gap)
+  pub in_gap : AnswersLocal content local (instants.Gap gap)
   pub is : t +ℤ gap.after ≡ local
 
 -- The instant that is meant: the only one; the first or the last; in a gap by the offset after it or before it.
@@ -46,6 +46,6 @@ Means content local choice.Compatible t = IsFirst content local t ⊎ IsReadBefo
 
 -- why no instant is meant: `reject` refuses a gap and a fold, and every choice local time that a file leaves open
 abbrev pub IsUnresolved : Content → ℤ → Disambiguation → Unresolved → Type 0
-IsUnresolved content local disambiguation unresolved.Gap = (disambiguation ≡ choice.Reject) × ((gap : Gap) × Tells content local (instants.Gap gap))
+IsUnresolved content local disambiguation unresolved.Gap = (disambiguation ≡ choice.Reject) × ((gap : Gap) × AnswersLocal content local (instants.Gap gap))
 IsUnresolved content local disambiguation unresolved.Fold = (disambiguation ≡ choice.Reject) × ((fold : Fold) × IsFoldOf content local fold)
-IsUnresolved content local disambiguation unresolved.Unspecified = Tells content local instants.Unspecified
+IsUnresolved content local disambiguation unresolved.Unspecified = AnswersLocal content local instants.Unspecified

@@ -8,7 +8,7 @@ use Rattle.zic_plan.specs.declared.disambiguation.Disambiguation.{Disambiguation
 use Rattle.zic_local.specs.declared.disambiguation.Unresolved.{Unresolved}
 use Rattle.zic_local.specs.declared.local_instants.LocalInstants.{LocalInstants}
 use Rattle.zic_local.specs.declared.local_instants.LocalInstants.TheVariants as instants
-use Rattle.zic_local.specs.LocalTime.{IsInstantOf, AreInstantsOf, HaveOffsets, HaveOffsetsWithin, Tells}
+use Rattle.zic_local.specs.LocalTime.{IsInstantOf, AreInstantsOf, HaveOffsets, HaveOffsetsWithin, AnswersLocal}
 use Rattle.zic_local.specs.Choice.{Means, IsUnresolved}
 
 -- a file's UT offsets are within 25:59:59, and an instant is as near its local time as UT offsets are to 0
@@ -22,12 +22,12 @@ pub record InstantsAreListedOnce : Type 0 where
   pub some : (octets : List ℕ) (content : Content) → IsFile octets content → (local : ℤ) → (list : List ℤ) × AreInstantsOf content local list
   pub only : (content : Content) (local : ℤ) (a b : List ℤ) → AreInstantsOf content local a → AreInstantsOf content local b → a ≡ b
 
--- A file tells exactly one thing of each local time. One that leaves local time open nowhere has a gap wherever it has no instant.
-pub record LocalTimesAreToldOnce : Type 0 where
-  pub some : (octets : List ℕ) (content : Content) → IsFile octets content → (local : ℤ) → (told : LocalInstants) × Tells content local told
-  pub only : (content : Content) (local : ℤ) (a b : LocalInstants) → Tells content local a → Tells content local b → a ≡ b
+-- A file has exactly one answer for each local time. One that leaves local time open nowhere has a gap wherever it has no instant.
+pub record OneAnswerForEachLocalTime : Type 0 where
+  pub some : (octets : List ℕ) (content : Content) → IsFile octets content → (local : ℤ) → (given : LocalInstants) × AnswersLocal content local given
+  pub only : (content : Content) (local : ℤ) (a b : LocalInstants) → AnswersLocal content local a → AnswersLocal content local b → a ≡ b
   pub known : (octets : List ℕ) (content : Content) → IsFile octets content → ((t : ℤ) → IsUnspecified content t → ⊥)
-      → (local : ℤ) → Tells content local instants.Unspecified → ⊥
+      → (local : ℤ) → AnswersLocal content local instants.Unspecified → ⊥
 
 -- round trip: an instant is among those of the local time that clocks show at it
 abbrev pub InstantsComeBack : Type 0
@@ -35,7 +35,7 @@ InstantsComeBack =
     (content : Content) (t : ℤ) (state : Shown) → Answers content t (Some state)
     → (list : List ℤ) → AreInstantsOf content (t +ℤ state.offset) list → Contains list t
 
--- each choice means one instant or is refused for one reason
+-- each choice has at most one answer, an instant or a reason why there is none
 abbrev pub ChoicesMeanOne : Type 0
 ChoicesMeanOne =
     (content : Content) (local : ℤ) (disambiguation : Disambiguation) (a b : Result ℤ Unresolved)

@@ -53,13 +53,13 @@ pub record IsFoldOf (content : Content) (local : ℤ) (fold : Fold) : Type 0 whe
   pub count : fold.count ≡ length between + 2
 
 -- No instant and a gap; one instant; several; or neither an instant nor a gap, as only where a file leaves local time open.
-abbrev pub Tells : Content → ℤ → LocalInstants → Type 0
-Tells content local (instants.Gap gap) = AreInstantsOf content local [] × IsGapOf content local gap
-Tells content local (instants.One t) = AreInstantsOf content local (t ∷ [])
-Tells content local (instants.Fold fold) = IsFoldOf content local fold
-Tells content local instants.Unspecified = AreInstantsOf content local [] × ((gap : Gap) → PassesOver content local gap → ⊥)
+abbrev pub AnswersLocal : Content → ℤ → LocalInstants → Type 0
+AnswersLocal content local (instants.Gap gap) = AreInstantsOf content local [] × IsGapOf content local gap
+AnswersLocal content local (instants.One t) = AreInstantsOf content local (t ∷ [])
+AnswersLocal content local (instants.Fold fold) = IsFoldOf content local fold
+AnswersLocal content local instants.Unspecified = AreInstantsOf content local [] × ((gap : Gap) → PassesOver content local gap → ⊥)
 
--- each UT offset is at most so many seconds, either way
+-- each UT offset is at most this number of seconds, either way
 abbrev pub HaveOffsetsWithin : ℕ → Content → Type 0
 HaveOffsetsWithin most content = (t offset : ℤ) → IsOffsetAt content t offset → unsigned_abs offset ≤ most
 
@@ -67,7 +67,7 @@ HaveOffsetsWithin most content = (t offset : ℤ) → IsOffsetAt content t offse
 abbrev pub HaveOffsets : Content → Type 0
 HaveOffsets = HaveOffsetsWithin FARTHEST_FILE_OFFSET
 
--- every instant within 25:59:59 of the local time is in 64 bits, as for all local times but the first and the last 26 hours of 64 bits
+-- every instant within 25:59:59 of the local time is in 64 bits, as for all local times but the first and the last 25:59:59 of 64 bits
 pub record IsInRange (local : ℤ) : Type 0 where
   pub low : MIN_INSTANT ≤ℤ (local -ℤ pos FARTHEST_FILE_OFFSET)
   pub high : (local +ℤ pos FARTHEST_FILE_OFFSET) ≤ℤ MAX_INSTANT

@@ -1,7 +1,7 @@
 //! Laws of the instants of local times, each the contract of a function. No function here does
 //! anything.
 
-ghost use Rattle.zic_local.specs.Laws.{InstantsAreNear, InstantsAreListedOnce, LocalTimesAreToldOnce, InstantsComeBack, ChoicesMeanOne};
+ghost use Rattle.zic_local.specs.Laws.{InstantsAreNear, InstantsAreListedOnce, OneAnswerForEachLocalTime, InstantsComeBack, ChoicesMeanOne};
 
 use zic_tzif::laws::files_answer_once;
 
@@ -18,10 +18,10 @@ pub fn instants_are_listed_once()
     files_answer_once();
 }
 
-/// States that a file tells exactly one thing of each local time, and always an instant or a gap
+/// States that a file has exactly one answer for each local time, and always an instant or a gap
 /// where it leaves local time open nowhere.
-pub fn local_times_are_told_once()
-    ensures { LocalTimesAreToldOnce }
+pub fn each_local_time_has_one_answer()
+    ensures { OneAnswerForEachLocalTime }
 {
     files_answer_once();
 }
@@ -31,7 +31,7 @@ pub fn instants_come_back()
     ensures { InstantsComeBack }
 {}
 
-/// States that each choice means one instant or is refused for one reason.
+/// States that each choice has at most one answer, an instant or a reason why there is none.
 pub fn choices_mean_one()
     ensures { ChoicesMeanOne }
 {}

@@ -1,6 +1,5 @@
 //! Local times to instants: the instants at which the clocks of a TZif file show a local time, none
-//! in a gap and several in a fold, and the instant that is meant by a choice. The rows of
-//! `witness/rows` test it.
+//! in a gap and several in a fold, and the instant that is meant by a choice.
 #![tactic(auto)]
 
 mod disambiguation;

@@ -1,4 +1,4 @@
-//! What a file tells of a local time.
+//! What a file answers for a local time.
 
 ghost use Rattle.std.specs.Prelude.{◌≡◌, ◌≤◌};
 ghost use Rattle.zic_local.specs.code.Walk.{MOST_INSTANTS, found_count, with_instant, with_gap};
@@ -61,7 +61,7 @@ impl LocalInstants {
         }
     }
 
-    /// Returns these, or the gap, if there is one and nothing is told yet.
+    /// Returns these, or the gap, if there is one and no instant was found yet.
     pub(crate) fn with_gap(self, gap: Option<Gap>) -> LocalInstants
         ensures { result ≡ with_gap self gap }
     {

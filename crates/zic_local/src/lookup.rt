@@ -2,7 +2,7 @@
 
 ghost use Rattle.std.specs.Prelude.{◌≡◌, ◌≤◌, ◌≤ℤ◌, ℤ, MatchOption, MatchResult};
 ghost use Rattle.zic_tzif.specs.Answer.{answered};
-ghost use Rattle.zic_local.specs.LocalTime.{HaveOffsets, IsInRange, Tells};
+ghost use Rattle.zic_local.specs.LocalTime.{HaveOffsets, IsInRange, AnswersLocal};
 ghost use Rattle.zic_local.specs.Choice.{Means, IsUnresolved};
 ghost use Rattle.zic_local.specs.code.Walk.{HasNearOffset, IsInSpan, IsPassedAt};
 
@@ -53,19 +53,19 @@ pub fn instant(zone: &Zone, local: i64, disambiguation: Disambiguation) -> Resul
 pub fn instants(zone: &Zone, local: i64) -> LocalInstants
     requires offsets { HaveOffsets zone.now }
     requires range { IsInRange local }
-    ensures { Tells zone.now local result }
+    ensures { AnswersLocal zone.now local result }
 {
     let end = local + FARTHEST;
     let mut span = zone.span(local - FARTHEST);
-    let mut told = LocalInstants::Unspecified.with_instant(instant_in(&span, local));
+    let mut given = LocalInstants::Unspecified.with_instant(instant_in(&span, local));
     while span.instants.last < end {
         let change = span.instants.last + 1;
         let next = zone.span(change);
         let gap = gap_at(change, &span.answer, &next.answer, local);
-        told = told.with_gap(gap).with_instant(instant_in(&next, local));
+        given = given.with_gap(gap).with_instant(instant_in(&next, local));
         span = next;
     }
-    told
+    given
 }
 
 /// Returns the instant of a span at which clocks show a local time.

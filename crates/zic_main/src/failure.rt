@@ -20,19 +20,22 @@ pub enum Refusal {
     /// A folder doesn't have each file that sources give, as it is.
     #[error("tree differs")]
     Differs,
+    /// No source begins with a line that names its release.
+    #[error("no release in the sources")]
+    NoRelease,
     /// The command gave up, and lines after the first explain why.
     #[error("{failure}\n{text}")]
     Explained { failure: Failure, text: String },
 }
 
 impl Refusal {
-    /// Returns the status of a program that ends so: 2 for its words, 1 where a folder differs, else that
+    /// Returns the status of a program that ends so: 2 for its words or for sources without a release, 1 where a folder differs, else that
     /// of the command's failure.
     pub fn status(&self) -> u8
         ensures { result ≡ refusal_status self.now }
     {
         match self {
-            Refusal::Usage(_) => 2,
+            Refusal::Usage(_) | Refusal::NoRelease => 2,
             Refusal::Differs => 1,
             Refusal::Command(failure) | Refusal::Explained { failure, .. } => failure.status(),
         }

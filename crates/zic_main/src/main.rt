@@ -1,16 +1,24 @@
 //! `pzic`: compiles time zone source to TZif files, converts instants by them, and reads such
-//! files. The commands are in `zic_commands`, and their tests in `program_tests`: here their texts
-//! are read.
+//! files. The commands are in `zic_commands`: here their texts are read.
 #![tactic(auto)]
 
-ghost use Rattle.std.specs.Prelude.{◌≤ℤ◌};
+ghost use Rattle.std.specs.Prelude.{IfOk};
+ghost use Rattle.zic_compare.specs.Files.{HasInstants};
 
+mod extras;
 mod failure;
+mod folder;
+mod header;
 mod own_file;
+mod release;
 mod standard;
 
+use extras::Extras;
 use failure::Refusal;
+use folder::names_below;
+use header::{Head, by_header};
 use own_file::expect_own_file;
+use release::{show_of_folders, show_of_sources};
 use standard::Standard;
 use std::alloc::{AllocError, Global};
 use std::fs::{self, Files};
@@ -21,20 +29,22 @@ use std::rt::Env;
 use std::sync::Wait;
 use std::thread::Threads;
 use std::time::Clock;
-use zic_base::FaultLog;
-use zic_command_line::{Conversion, Links, Request, Zones};
+use zic_base::{RowFault, RowKind};
+use zic_command_line::{Building, Conversion, Differences, Links, Request, Zones};
 use zic_commands::{
     Disk, Durability, Failure, LinkKind, LinkedFolder, Progress, ProgressLine, TreeZones,
 };
-use zic_compare::Comparison;
+use zic_compare::{Compared, Comparison, Listed, Survey};
 use zic_counted::{Counted, flush, write_all};
+use zic_diff::Sides;
 use zic_dump::Years;
 use zic_failures::Explainer;
-use zic_files::Files as ZoneFiles;
+use zic_files::{Files as ZoneFiles, TreeFiles};
 use zic_io::{FaultList, ListFile, ZoneFolder};
 use zic_local::LocalTime;
 use zic_pieces::Open;
-use zic_plan::{Header, Plan};
+use zic_plan::{AtFault, Header, Plan, Records, RowLog};
+use zic_rows::FIRST_INSTANT;
 
 /// The status where a standard stream is closed, and nothing can stand in for it.
 const NO_STANDARD: u8 = 3;
@@ -57,17 +67,41 @@ fn run<
     R: Env + Files + Input + Print + Clock + RandomSource + AllocGlobal + Threads + Wait + Sync,
     E: Write + IsTerminal + Drop,
 >(rt: &R, errors: E) -> Result<(), Refusal> {
-    let asked = zic_command_line::requested(rt)?;
-    expect_own_file(rt, &asked.request)?;
-    if !asked.explain {
-        let mut texts = Vec::new(rt.alloc());
-        return ended(answer(rt, errors, asked.request, &mut texts)?);
+    let line = zic_command_line::requested(rt)?;
+    expect_own_file(rt, &line.request)?;
+    let mut explainer = if line.explain {
+        Some(Explainer::new(rt, &line.request)?)
+    } else {
+        None
+    };
+    let mut noted = Noted {
+        texts: Vec::new(rt.alloc()),
+        head: Head::new(rt.alloc()),
+        faults: None,
+    };
+    let request = match by_header(rt.alloc(), line.request, rt.reader(), &mut noted.head) {
+        Ok(request) => request,
+        Err(Refusal::Command(failure)) => return Err(refusal(rt, explainer, noted, failure)),
+        Err(other) => return Err(other),
+    };
+    if let (Some(explainer), Request::Convert(order)) = (&mut explainer, &request) {
+        explainer.read_by(&order.layout);
     }
-    let mut explainer = Explainer::new(rt, &asked.request)?;
-    match answer(rt, errors, asked.request, &mut explainer.texts) {
+    match answer(rt, errors, request, &mut noted) {
         Ok(ending) => ended(ending),
-        Err(failure) => Err(explained(rt, &explainer, failure)),
+        Err(failure) => Err(refusal(rt, explainer, noted, failure)),
     }
+}
+
+/// What was read before a command, and what the message of its failure needs besides it.
+#[derive(Drop)]
+struct Noted {
+    /// The texts of the sources, once all of them are read.
+    texts: Vec<Vec<u8>>,
+    /// What was read of the column for its header.
+    head: Head,
+    /// The faults of rows after which a run went on, where something else ended it.
+    faults: Option<Failure>,
 }
 
 /// How a command ends that doesn't give up.
@@ -76,6 +110,8 @@ enum Ending {
     Done,
     /// A folder lacks files of sources, or has others.
     Differs,
+    /// No source names the release that a folder is to be of.
+    NoRelease,
 }
 
 /// Returns whether the program ends well.
@@ -83,61 +119,88 @@ fn ended(ending: Ending) -> Result<(), Refusal> {
     match ending {
         Ending::Done => Ok(()),
         Ending::Differs => Err(Refusal::Differs),
+        Ending::NoRelease => Err(Refusal::NoRelease),
     }
 }
 
-/// Returns the refusal for a failure, with its explanation. Where memory runs out for that, there is
-/// none.
-fn explained<R: Files + AllocGlobal>(rt: &R, explainer: &Explainer, failure: Failure) -> Refusal {
-    match explainer.explanation(rt, &failure) {
+/// Returns the refusal for a failure, with the lines after its first.
+fn refusal<R: Files + AllocGlobal>(
+    rt: &R,
+    explainer: Option<Explainer>,
+    noted: Noted,
+    failure: Failure,
+) -> Refusal {
+    match lines_after(rt, explainer, noted, &failure) {
         Ok(text) if !text.is_empty() => Refusal::Explained { failure, text },
         _ => Refusal::Command(failure),
     }
 }
 
-/// Does what a request asks for, and keeps the texts of the sources.
+/// Returns the lines after the first about a failure, without the last line end: its explanation, if
+/// requested, and the faults before it.
+fn lines_after<R: Files + AllocGlobal>(
+    rt: &R,
+    explainer: Option<Explainer>,
+    noted: Noted,
+    failure: &Failure,
+) -> Result<String, AllocError> {
+    let alloc = rt.alloc();
+    let Noted { texts, faults, .. } = noted;
+    let mut text = match explainer {
+        Some(explainer) => explainer.explanation(rt, failure, texts)?,
+        None => String::new(alloc),
+    };
+    if let Some(faults) = faults {
+        if !text.is_empty() {
+            text.push('\n')?;
+        }
+        text.push_str(format!(in alloc; "{faults}")?.as_str())?;
+    }
+    Ok(text)
+}
+
+/// Does what a request asks for.
 fn answer<
     R: Files + Input + Print + Clock + RandomSource + AllocGlobal + Threads + Wait + Sync,
     E: Write + IsTerminal + Drop,
->(rt: &R, errors: E, request: Request, texts: &mut Vec<Vec<u8>>) -> Result<Ending, Failure> {
+>(rt: &R, errors: E, request: Request, noted: &mut Noted) -> Result<Ending, Failure> {
+    let mut errors = errors;
+    let texts = &mut noted.texts;
     match request {
         Request::Check { source, plan } => check(rt, source, &plan, texts)?,
-        Request::Build {
-            folder,
-            sources,
-            plan,
-            links,
-            sync,
-        } => {
-            read(rt, &sources, texts)?;
-            let durability = if sync {
-                Durability::Synced
-            } else {
-                Durability::Later
-            };
-            let mut disk = Disk::new(rt.alloc(), rt, random_number(rt), durability);
-            build(rt, &plan, texts, &mut disk, folder.as_str(), links)?;
-            disk.sync()?;
-        }
+        Request::Build(order) => return build_folder(rt, &order, texts),
         Request::Verify {
             folder,
             sources,
             plan,
+            strict,
         } => {
             read(rt, &sources, texts)?;
-            return verify(rt, &plan, texts, &folder);
+            return verify(rt, &plan, texts, &folder, strict);
         }
         Request::Diff {
             sources,
+            trees,
             plan,
-            years,
+            differences,
             compared,
+            shows_release,
         } => {
-            read(rt, &sources, texts)?;
-            let bounds = years.instants();
-            diff(rt, &plan, texts, &Comparison { compared, bounds })?;
+            let how = listed(rt, differences, compared)?;
+            if trees {
+                if shows_release {
+                    show_of_folders(rt, &mut errors, &sources)?;
+                }
+                diff_trees(rt, &plan, &sources, &how)?;
+            } else {
+                read(rt, &sources, texts)?;
+                if shows_release {
+                    show_of_sources(rt.alloc(), &mut errors, &sources, texts)?;
+                }
+                diff(rt, &plan, texts, &how)?;
+            }
         }
-        Request::Convert(order) => convert(rt, &order, errors, texts)?,
+        Request::Convert(order) => convert(rt, &order, errors, noted)?,
         Request::Show { file, instant } => show(rt, file.as_str(), instant)?,
         Request::ShowLocal { file, local } => show_local(rt, file.as_str(), &local)?,
         Request::Dump { file, years } => dump(rt, file.as_str(), &years)?,
@@ -169,14 +232,14 @@ fn check<R: Files + Input + Print + AllocGlobal + Threads + Wait + Sync>(
     zic_commands::check(rt, rt.alloc(), plan, texts, &mut output)
 }
 
-/// Tells what a file says of an instant.
+/// Prints what a file says about an instant.
 fn show<R: Files + Print + AllocGlobal>(rt: &R, file: &str, instant: i64) -> Result<(), Failure> {
     let bytes = zic_commands::read_file(rt.alloc(), rt, file)?;
     let mut output = Counted::new(io::writer(rt));
     zic_commands::show(rt.alloc(), &bytes, instant, &mut output)
 }
 
-/// Tells what a file says of a local time.
+/// Prints what a file says about a local time.
 fn show_local<R: Files + Print + AllocGlobal>(
     rt: &R,
     file: &str,
@@ -192,6 +255,30 @@ fn dump<R: Files + Print + AllocGlobal>(rt: &R, file: &str, years: &Years) -> Re
     let bytes = zic_commands::read_file(rt.alloc(), rt, file)?;
     let mut output = Counted::new(io::writer(rt));
     zic_commands::dump(rt.alloc(), file, &bytes, years, &mut output)
+}
+
+/// Compiles sources, and places their files in a folder, with tables and the name of a release if these
+/// are requested.
+fn build_folder<R: Files + Input + RandomSource + AllocGlobal + Threads + Wait + Sync>(
+    rt: &R,
+    order: &Building,
+    texts: &mut Vec<Vec<u8>>,
+) -> Result<Ending, Failure> {
+    read(rt, &order.sources, texts)?;
+    let Some(extras) = Extras::of(rt, order, texts)? else {
+        return Ok(Ending::NoRelease);
+    };
+    let durability = if order.sync {
+        Durability::Synced
+    } else {
+        Durability::Later
+    };
+    let mut disk = Disk::new(rt.alloc(), rt, random_number(rt), durability);
+    let folder = order.folder.as_str();
+    build(rt, &order.plan, texts, &mut disk, folder, order.links)?;
+    extras.place(rt.alloc(), &mut disk, folder)?;
+    disk.sync()?;
+    Ok(Ending::Done)
 }
 
 /// Compiles the texts, and places their files in a folder of a disk.
@@ -213,17 +300,23 @@ fn build<R: Files + AllocGlobal + Threads + Wait + Sync>(
     zic_commands::build_linked(rt, alloc, plan, texts, disk, &folder)
 }
 
-/// Tells which files of the texts a folder doesn't have as they are, and returns whether there are any.
+/// Prints which files of the texts a folder doesn't have as they are and, if strict, which others it has.
+/// Returns whether there are any.
 fn verify<R: Files + Print + AllocGlobal + Threads + Wait + Sync>(
     rt: &R,
     plan: &Plan,
     texts: &[Vec<u8>],
     path: &String,
+    strict: bool,
 ) -> Result<Ending, Failure> {
     expect_folder(rt, path)?;
     let files = zic_source_commands::files_of(rt, rt.alloc(), plan, texts)?;
     let mut folder = ZoneFolder::new(rt, path.as_str());
-    let lines = zic_compare::verify(rt.alloc(), &files, &mut folder)?;
+    let mut lines = zic_compare::verify(rt.alloc(), &files, &mut folder)?;
+    if strict {
+        let names = names_below(rt, path)?;
+        lines.extend_from_slice(&zic_compare::extra(rt.alloc(), &files, &names)?)?;
+    }
     tell(rt, &lines)?;
     if lines.is_empty() {
         Ok(Ending::Done)
@@ -232,19 +325,93 @@ fn verify<R: Files + Print + AllocGlobal + Threads + Wait + Sync>(
     }
 }
 
+/// Returns what is listed of two sources or folders.
+fn listed<R: Clock + AllocGlobal>(
+    rt: &R,
+    differences: Differences,
+    compared: Compared,
+) -> Result<Listed, Failure>
+    ensures { IfOk result HasInstants }
+{
+    match differences {
+        Differences::Within(years) => Ok(Listed::Spans(Comparison {
+            compared,
+            bounds: years.instants(),
+        })),
+        Differences::Summary { now } => Ok(Listed::Summaries(Survey {
+            compared,
+            since: FIRST_INSTANT,
+            present: present(rt, now)?,
+        })),
+    }
+}
+
+/// Returns the instant that is given as now, or the clock's in whole seconds.
+fn present<R: Clock + AllocGlobal>(rt: &R, given: Option<i64>) -> Result<i64, Failure> {
+    if let Some(now) = given {
+        return Ok(now);
+    }
+    match rt.since_1970() {
+        Ok(time) => Ok(i64::try_from(time.as_secs()).unwrap_or(i64::MAX)),
+        Err(_) => Err(Failure::CannotRead(String::from_str(rt.alloc(), "clock")?)),
+    }
+}
+
 /// Lists when the files of the second text answer otherwise than those of the first.
 fn diff<R: Print + AllocGlobal + Threads + Wait + Sync>(
     rt: &R,
     plan: &Plan,
     texts: &[Vec<u8>],
-    how: &Comparison,
+    how: &Listed,
 ) -> Result<(), Failure>
-    requires { how.now.bounds.first ≤ℤ how.now.bounds.last }
+    requires { HasInstants how.now }
 {
     let (old, new) = texts.split_at(texts.len().min(1));
     let old = side_files(rt, plan, old, 1)?;
     let new = side_files(rt, plan, new, 2)?;
-    tell(rt, &zic_compare::diff(rt.alloc(), &old, &new, how)?)
+    let sides = Sides {
+        old: &old,
+        new: &new,
+    };
+    tell(
+        rt,
+        &zic_diff::diff(rt, rt.alloc(), plan, &Open, &sides, how)?,
+    )
+}
+
+/// Lists when the files of the second folder answer otherwise than those of the first.
+fn diff_trees<R: Files + Print + RandomSource + AllocGlobal + Threads + Wait + Sync>(
+    rt: &R,
+    plan: &Plan,
+    folders: &[String],
+    how: &Listed,
+) -> Result<(), Failure>
+    requires { HasInstants how.now }
+{
+    let (Some(old), Some(new)) = (folders.first(), folders.last()) else {
+        return Ok(());
+    };
+    let old = tree_files(rt, old)?;
+    let new = tree_files(rt, new)?;
+    let sides = Sides {
+        old: old.files(),
+        new: new.files(),
+    };
+    tell(
+        rt,
+        &zic_diff::diff(rt, rt.alloc(), plan, &Open, &sides, how)?,
+    )
+}
+
+/// Returns the files of a folder that rows can be made of.
+fn tree_files<R: Files + RandomSource + AllocGlobal>(
+    rt: &R,
+    path: &String,
+) -> Result<TreeFiles, Failure> {
+    expect_folder(rt, path)?;
+    let names = names_below(rt, path)?;
+    let mut folder = ZoneFolder::new(rt, path.as_str());
+    Ok(zic_compare::read_tree(rt.alloc(), random_number(rt), &mut folder, &names)?)
 }
 
 /// Returns the files of the text of this number. A fault of it is that of several texts.
@@ -305,22 +472,43 @@ fn large_block(alloc: Global) -> Result<Vec<u8>, AllocError> {
     Vec::with_capacity(alloc, LARGE_BLOCK)
 }
 
-/// Converts standard input to standard output, and tells of the rows. Where the run goes on after
+/// Converts standard input to standard output, and reports the rows. Where the run goes on after
 /// faults, it writes them to a file, if one is named.
 fn convert<
     R: Files + Input + Print + Clock + RandomSource + AllocGlobal + Threads + Wait + Sync,
     E: Write + IsTerminal + Drop,
->(rt: &R, order: &Conversion, errors: E, texts: &mut Vec<Vec<u8>>) -> Result<(), Failure> {
+>(rt: &R, order: &Conversion, errors: E, noted: &mut Noted) -> Result<(), Failure> {
+    let mut errors = errors;
     keep_memory(rt.alloc());
-    match &order.zones {
-        Zones::Source(source) => read(rt, &[source.clone()?], texts)?,
-        Zones::Tree(folder) => expect_folder(rt, folder)?,
-    }
+    ready_zones(rt, order, &mut errors, noted)?;
     let line = progress_line(order.progress, errors);
-    match &order.faults {
-        None => convert_rows(rt, order, texts, line, &mut FaultList::new(None::<R::File>)),
-        Some(path) => convert_noted(rt, order, texts, line, path),
+    convert_noted(rt, order, noted, line)
+}
+
+/// Reads the source of a conversion, or refuses a path that isn't that of a folder. Prints the release of
+/// the zones, if requested.
+fn ready_zones<R: Files + Input + AllocGlobal, E: Write>(
+    rt: &R,
+    order: &Conversion,
+    errors: &mut E,
+    noted: &mut Noted,
+) -> Result<(), Failure> {
+    match &order.zones {
+        Zones::Source(source) => {
+            let sources = [source.clone()?];
+            read(rt, &sources, &mut noted.texts)?;
+            if order.shows_release {
+                show_of_sources(rt.alloc(), errors, &sources, &noted.texts)?;
+            }
+        }
+        Zones::Tree(folder) => {
+            expect_folder(rt, folder)?;
+            if order.shows_release {
+                show_of_folders(rt, errors, &[folder.clone()?])?;
+            }
+        }
     }
+    Ok(())
 }
 
 /// Refuses a path that isn't that of a folder.
@@ -332,36 +520,73 @@ fn expect_folder<R: Files>(rt: &R, path: &String) -> Result<(), Failure> {
     }
 }
 
-/// Converts standard input, and writes the faults of rows to the file of this path. The file is made or
-/// emptied once some 8,000 bytes of faults are there, or at the end: a fault of the source, an unknown
-/// zone or lack of memory before the first fault leaves it as it is.
-fn convert_noted<
-    R: Files + Input + Print + Clock + RandomSource + AllocGlobal + Threads + Wait + Sync,
-    E: Write + Drop,
->(
-    rt: &R,
-    order: &Conversion,
-    texts: &[Vec<u8>],
-    line: ProgressLine<E>,
-    path: &String,
-) -> Result<(), Failure> {
+/// Returns the file of a list at this path, if there is one, which nothing is written to yet.
+fn list_file<'a, R: Files + AllocGlobal>(
+    rt: &'a R,
+    path: &'a Option<String>,
+) -> Result<Option<BufWriter<ListFile<'a, R>>>, Failure> {
+    let Some(path) = path else {
+        return Ok(None);
+    };
     let Ok(file) = ListFile::open(rt, path.as_str()) else {
         return Err(Failure::CannotWrite(path.clone()?));
     };
-    let Ok(file) = BufWriter::new(rt.alloc(), file) else {
-        return Err(Failure::Memory);
-    };
-    let mut list = FaultList::new(Some(file));
-    let converted = convert_rows(rt, order, texts, line, &mut list);
+    match BufWriter::new(rt.alloc(), file) {
+        Ok(file) => Ok(Some(file)),
+        Err(_) => Err(Failure::Memory),
+    }
+}
+
+/// Converts standard input, and writes the faults of rows and their records to the files that are named
+/// for these, if any. A file is made or emptied with the first round of rows of which one has a fault,
+/// or at the end: a fault of the source, an unknown zone or lack of memory before the first fault leaves
+/// it as it is.
+fn convert_noted<
+    R: Files + Input + Print + Clock + RandomSource + AllocGlobal + Threads + Wait + Sync,
+    E: Write + Drop,
+>(rt: &R, order: &Conversion, noted: &mut Noted, line: ProgressLine<E>) -> Result<(), Failure> {
+    let faults = list_file(rt, &order.faults)?;
+    let rejects = list_file(rt, &order.rejects)?;
+    let mut list = FaultList::new(faults, rejects);
+    let converted = convert_rows(rt, order, &*noted, line, &mut list);
+    noted.faults = faults_before(order.layout.at_fault, &converted, &list);
     if list.first().is_none() && is_before_rows(&converted) {
         return converted;
     }
-    let is_written = list.finish();
-    match converted {
-        Ok(()) | Err(Failure::Rows { .. }) if !is_written => {
+    let unwritten = unwritten(order, list);
+    match (converted, unwritten) {
+        (Ok(()) | Err(Failure::Rows { .. } | Failure::Rejected { .. }), Some(path)) => {
             Err(Failure::CannotWrite(path.clone()?))
         }
-        ended => ended,
+        (ended, _) => ended,
+    }
+}
+
+/// Has the files of a list pass on what they hold back, and the system write it. Returns the path of
+/// the first that was not written whole, if there is one.
+fn unwritten<'a, R: Files + AllocGlobal>(
+    order: &'a Conversion,
+    list: FaultList<BufWriter<ListFile<'_, R>>>,
+) -> Option<&'a String> {
+    let mut list = list;
+    let has_faults = list.finish_faults();
+    let has_rejects = list.finish_rejects();
+    let (faults, rejects) = list.into_files();
+    match (
+        has_faults && is_synced(faults),
+        has_rejects && is_synced(rejects),
+    ) {
+        (false, _) => order.faults.as_ref(),
+        (true, false) => order.rejects.as_ref(),
+        (true, true) => None,
+    }
+}
+
+/// Has the system write a file, if there is one. Returns whether that succeeded.
+fn is_synced<R: Files>(file: Option<BufWriter<ListFile<'_, R>>>) -> bool {
+    match file {
+        Some(mut file) => file.get_mut().sync().is_ok(),
+        None => true,
     }
 }
 
@@ -376,18 +601,35 @@ fn is_before_rows(converted: &Result<(), Failure>) -> bool {
 }
 
 /// Returns the failure of a run that went on after faults, if there are any.
-fn faults_of<W: Write>(list: &FaultList<W>) -> Result<(), Failure> {
-    match list.first() {
-        None => Ok(()),
-        Some(first) => Err(Failure::Rows {
-            row: first.row,
-            kind: first.kind,
-            count: list.count(),
-        }),
+fn faults_of<W: Write>(at_fault: AtFault, list: &FaultList<W>) -> Result<(), Failure> {
+    let Some(RowFault { row, kind }) = list.first() else {
+        return Ok(());
+    };
+    let count = list.count();
+    match at_fault {
+        AtFault::Reject => Err(Failure::Rejected { row, kind, count }),
+        AtFault::End | AtFault::GoOn => Err(Failure::Rows { row, kind, count }),
     }
 }
 
-/// Converts standard input to standard output, tells of the rows, and takes note of faults.
+/// Returns the faults of rows after which a run went on, where more rows or bytes than there may be, or a
+/// record of more bytes, ended it.
+fn faults_before<W: Write>(
+    at_fault: AtFault,
+    converted: &Result<(), Failure>,
+    list: &FaultList<W>,
+) -> Option<Failure> {
+    match converted {
+        Err(Failure::ColumnTooLong) => faults_of(at_fault, list).err(),
+        Err(Failure::Row { kind, .. })
+            if matches!(kind, RowKind::TooManyRows | RowKind::RowTooLong) => {
+            faults_of(at_fault, list).err()
+        }
+        _ => None,
+    }
+}
+
+/// Converts standard input to standard output, reports the rows, and takes note of faults.
 fn convert_rows<
     R: Files + Input + Print + Clock + RandomSource + AllocGlobal + Threads + Wait + Sync,
     E: Write + Drop,
@@ -395,18 +637,26 @@ fn convert_rows<
 >(
     rt: &R,
     order: &Conversion,
-    texts: &[Vec<u8>],
+    noted: &Noted,
     line: ProgressLine<E>,
     faults: &mut FaultList<W>,
 ) -> Result<(), Failure> {
-    let mut input = Counted::new(rt.reader());
-    let header = order.layout.header;
-    let progress = Progress::new(io::writer(rt), rt, line, header == Header::First);
+    // What ended isn't read again: a terminal would go on.
+    let most = if noted.head.is_whole { 0 } else { u64::MAX };
+    let rest = rt.reader().take(most);
+    let mut input = Counted::new(noted.head.bytes.as_slice().chain(rest));
+    let layout = &order.layout;
+    let has_header = layout.header == Header::First;
+    let delimiter = match layout.records {
+        Records::Csv => Some(layout.delimiter.byte()),
+        Records::Lines => None,
+    };
+    let progress = Progress::new(io::writer(rt), rt, line, has_header, delimiter);
     let mut output = Counted::new(progress);
-    let converted = convert_column(rt, order, texts, &mut input, &mut output, faults);
+    let converted = convert_column(rt, order, &noted.texts, &mut input, &mut output, faults);
     output.into_inner().finish();
     converted?;
-    faults_of(faults)
+    faults_of(order.layout.at_fault, faults)
 }
 
 /// Converts a column by the files of the texts, or by those of a folder. Returns the number of rows.
@@ -414,7 +664,7 @@ fn convert_column<
     R: Files + RandomSource + AllocGlobal + Threads + Wait + Sync,
     I: Read,
     W: Write,
-    L: FaultLog,
+    L: RowLog,
 >(
     rt: &R,
     order: &Conversion,

@@ -51,7 +51,7 @@ impl Standard {
     }
 }
 
-/// Tells whether the descriptor of a stream is closed.
+/// Returns whether the descriptor of a stream is closed.
 fn is_closed<S: AsFd + Drop>(stream: S) -> bool {
     match stream.as_fd().try_clone_to_owned() {
         Ok(_) => false,

@@ -11,7 +11,7 @@ use Rattle.zic_occurrences.specs.declared.nominal.Nominal.{Nominal}
 use Rattle.zic_occurrences.specs.declared.occurrence.TimedOccurrence.{TimedOccurrence}
 use Rattle.zic_occurrences.specs.Occurrence.{RuleSet, Occurrence, year_second}
 use Rattle.zic_occurrences.specs.Order.{IsSavedBefore, instant_by, IsInOrder, IsOutOfOrder}
-use Rattle.zic_occurrences.specs.Listing.{IsLastNamed, StandsFor, AreOccurrencesBefore}
+use Rattle.zic_occurrences.specs.Listing.{IsLastNamed, IsTimedOf, AreOccurrencesBefore}
 use Rattle.zic_occurrences.specs.code.Apart.{AreEnoughYears}
 use Rattle.zic_occurrences.specs.code.Walk.{AreWalked}
 use Rattle.zic_occurrences.specs.code.Nominals.{IsNominalOf, AreNominals}
@@ -40,7 +40,7 @@ timed_later rules offset saved zero (n ∷ ns) d e within = timed_first rules of
 timed_later rules offset saved (suc k) (n ∷ ns) d e within = timed_later rules offset (saving_of rules n.rule) k ns d e (omega arith)
 
 -- an occurrence with the instant by what was saved before it
-stands_of : (set : RuleSet) (offset saved : ℤ) (n : Nominal) (o : Occurrence) → IsNominalOf set n o → IsSavedBefore set o saved → StandsFor set offset (timed_of set.rules offset saved n) o
+stands_of : (set : RuleSet) (offset saved : ℤ) (n : Nominal) (o : Occurrence) → IsNominalOf set n o → IsSavedBefore set o saved → IsTimedOf set offset (timed_of set.rules offset saved n) o
 stands_of set offset saved n o is before =
     let at : slice_get set.rules n.rule ≡ Some o.rule = ap (slice_get set.rules) is.number ∙ is.is.member.numbered in
     record {
@@ -57,18 +57,18 @@ module _ (set : RuleSet) (offset bound : ℤ) (ns : List Nominal) (os : List Occ
   nothing : Nominal
   nothing = none set bound ns os listed strict are
 
-  stands : (k : ℕ) (d : TimedOccurrence) (e : Occurrence) → k < length os → StandsFor set offset (get_or all k d) (get_or os k e)
+  located : (k : ℕ) (d : TimedOccurrence) (e : Occurrence) → k < length os → IsTimedOf set offset (get_or all k d) (get_or os k e)
   unfolding nothing
-  stands zero d e within =
+  located zero d e within =
       let is = at_place set bound ns os listed strict are 0 e within in
-      subst (λ (x : TimedOccurrence). StandsFor set offset x (get_or os 0 e)) (sym (timed_first set.rules offset (pos 0) ns d nothing (omega (arith, are.count))))
+      subst (λ (x : TimedOccurrence). IsTimedOf set offset x (get_or os 0 e)) (sym (timed_first set.rules offset (pos 0) ns d nothing (omega (arith, are.count))))
       (stands_of set offset (pos 0) (get_or ns 0 nothing) (get_or os 0 e) is (inl (is_first set bound ns os listed strict are e within, refl)))
-  stands (suc k) d e within =
+  located (suc k) d e within =
       let is = at_place set bound ns os listed strict are (suc k) e within in
       let was = at_place set bound ns os listed strict are k e (omega arith) in
       let at : slice_get set.rules (get_or ns k nothing).rule ≡ Some (get_or os k e).rule = ap (slice_get set.rules) was.number ∙ was.is.member.numbered in
       let saved = saving_of set.rules (get_or ns k nothing).rule in
-      subst (λ (x : TimedOccurrence). StandsFor set offset x (get_or os (suc k) e)) (sym (timed_later set.rules offset (pos 0) k ns d nothing (omega (arith, are.count))))
+      subst (λ (x : TimedOccurrence). IsTimedOf set offset x (get_or os (suc k) e)) (sym (timed_later set.rules offset (pos 0) k ns d nothing (omega (arith, are.count))))
       (stands_of set offset saved (get_or ns (suc k) nothing) (get_or os (suc k) e) is
       (inr (get_or os k e, is_predecessor set bound ns os listed strict are k e within, saving_is set.rules (get_or ns k nothing).rule (get_or os k e).rule at)))
 
@@ -78,9 +78,9 @@ module _ (set : RuleSet) (offset bound : ℤ) (ns : List Nominal) (os : List Occ
     in_order = in_order_before set bound ns os listed strict are;
     count = timed_length set.rules offset (pos 0) ns ∙ sym are.count;
     each = λ k x o at_x at_o.
-        let here = stands k x o (slice_get_within os k o at_o) in
-        subst (λ (y : TimedOccurrence). StandsFor set offset y o) (get_or_from_slice_get all k x x at_x)
-        (subst (λ (p : Occurrence). StandsFor set offset (get_or all k x) p) (get_or_from_slice_get os k o o at_o) here);
+        let here = located k x o (slice_get_within os k o at_o) in
+        subst (λ (y : TimedOccurrence). IsTimedOf set offset y o) (get_or_from_slice_get all k x x at_x)
+        (subst (λ (p : Occurrence). IsTimedOf set offset (get_or all k x) p) (get_or_from_slice_get os k o o at_o) here);
     rising = rising;
   }
 
@@ -93,12 +93,12 @@ module _ (set : RuleSet) (offset bound : ℤ) (ns : List Nominal) (os : List Occ
         each = λ k d within.
             let in_os : k < length os = omega (arith, are.count) in
             let e = (listed.each k (none set bound ns os listed strict are) (omega arith)).occurrence in
-            (get_or os k e, stands k d e in_os, (is_before set bound ns os listed strict are k e in_os).before);
+            (get_or os k e, located k d e in_os, (is_before set bound ns os listed strict are k e in_os).before);
         all = λ o is early.
             let at = found set bound ns os listed strict are o o (record { is = is; before = early }) in
             let in_os : at.0 < length os = at.1 in
             let there : at.0 < length all = omega (arith, are.count) in
-            let here = stands at.0 blank o in_os in
+            let here = located at.0 blank o in_os in
             (at.0, get_or all at.0 blank, there, get_or_default all at.0 (get_or all at.0 blank) blank there, (here.number ∙ sym at.2.number, here.year ∙ sym at.2.year));
         rising = rising;
       }
@@ -112,8 +112,8 @@ module _ (set : RuleSet) (offset bound : ℤ) (ns : List Nominal) (os : List Occ
       let within : fall.place + 1 < length all = fall.within in
       let e = (listed.each fall.place (none set bound ns os listed strict are) (omega arith)).occurrence in
       let in_os : suc fall.place < length os = omega (arith, are.count) in
-      let later = stands (suc fall.place) blank e in_os in
-      let sooner = stands fall.place blank e (omega arith) in (
+      let later = located (suc fall.place) blank e in_os in
+      let sooner = located fall.place blank e (omega arith) in (
         get_or os (suc fall.place) e,
         get_or os fall.place e,
         inr (record {

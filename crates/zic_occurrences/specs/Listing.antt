@@ -15,7 +15,7 @@ pub record IsLastNamed (set : RuleSet) (year : ℕ) : Type 0 where
   pub named : (number : ℕ) × (rule : Rule) × IsMember set number rule × (last_named rule ≡ year)
 
 -- x is the occurrence o with its instant
-pub record StandsFor (set : RuleSet) (offset : ℤ) (x : TimedOccurrence) (o : Occurrence) : Type 0 where
+pub record IsTimedOf (set : RuleSet) (offset : ℤ) (x : TimedOccurrence) (o : Occurrence) : Type 0 where
   pub is : IsOccurrence set o
   pub number : x.rule ≡ o.number
   pub year : pos x.year ≡ o.year
@@ -23,7 +23,7 @@ pub record StandsFor (set : RuleSet) (offset : ℤ) (x : TimedOccurrence) (o : O
 
 -- x is an occurrence with its instant, and its nominal second lies before the bound
 abbrev pub IsListed : RuleSet → ℤ → ℤ → TimedOccurrence → Type 0
-IsListed set offset bound x = (o : Occurrence) × StandsFor set offset x o × (nominal o <ℤ bound)
+IsListed set offset bound x = (o : Occurrence) × IsTimedOf set offset x o × (nominal o <ℤ bound)
 
 -- all occurrences whose nominal seconds lie before the bound, in the order of their instants
 pub record AreOccurrencesBefore (set : RuleSet) (offset bound : ℤ) (xs : List TimedOccurrence) : Type 0 where

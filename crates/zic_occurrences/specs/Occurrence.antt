@@ -18,7 +18,7 @@ pub record IsMember (set : RuleSet) (number : ℕ) (rule : Rule) : Type 0 where
   pub numbered : slice_get set.rules number ≡ Some rule
   pub of_set : is_of_set set.name rule ≡ true
 
--- a rule, told from an equal one by its number in the source, and a year
+-- a rule, distinct from an equal one by its number in the source, and a year
 pub record Occurrence : Type 0 where
   pub number : ℕ
   pub rule : Rule

@@ -1,5 +1,5 @@
 //! The occurrences of a set's rules: one for each rule and each year in which it holds, and their
-//! order in all years. The rows of `witness/rows` test it.
+//! order in all years.
 #![tactic(auto)]
 
 mod apart;

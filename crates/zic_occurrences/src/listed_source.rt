@@ -15,24 +15,24 @@ use zic_source::{Rules, Source, ZoneLine};
 use zic_words::SetName;
 
 /// The number of years after its start, or after the last year that its set names, in which the
-/// occurrences of a last line are asked for: its explicit end is three years later.
+/// occurrences of a last line are needed: its explicit end is three years later.
 const YEARS_OF_LAST_LINE: u16 = 6;
 
 /// The same after the UNTIL of another line.
 const YEARS_AFTER_UNTIL: u16 = 2;
 
-/// The last year in which occurrences can be asked for.
+/// The last year in which occurrences can be needed.
 const LATEST_YEAR: u16 = 9999;
 
 /// The fewest lines that share occurrences.
 const FEWEST_LINES: u32 = 2;
 
-/// What the lines of zones ask for of a set.
+/// What the lines of zones need of a set.
 #[derive(Clone, Copy)]
-struct Asked {
+struct Needed {
     /// The number of lines that name the set.
     lines: u32,
-    /// The year before which they ask for its occurrences.
+    /// The year before which they need its occurrences.
     before: u16,
     /// The standard UT offset of the first of them, in seconds, positive east.
     offset: i32,
@@ -72,7 +72,7 @@ impl<'a> ListedSource<'a> {
     pub fn new(alloc: Global, source: &'a Source) -> ListedSource<'a>
         ensures { result ≡ source.now }
     {
-        let all = match asked_of(alloc, source) {
+        let all = match needed_of(alloc, source) {
             Ok(all) => all,
             Err(_) => Vec::new(alloc),
         };
@@ -142,29 +142,29 @@ impl<'a> ListedSource<'a> {
 fn listings_of(
     alloc: Global,
     source: &Source,
-    all: &[Asked],
+    all: &[Needed],
 ) -> Result<Vec<Option<Listing>>, AllocError>
     requires { length all.now ≤ length source.now.rules }
     ensures { IfOk result (λ made. AreListings source.now.rules made.items) }
 {
     let mut listings = Vec::with_capacity(alloc, all.len())?;
-    for (number, asked) in all.iter().enumerate() {
-        listings.push(listing_of(alloc, source, number, *asked))?;
+    for (number, needed) in all.iter().enumerate() {
+        listings.push(listing_of(alloc, source, number, *needed))?;
     }
     Ok(listings)
 }
 
 /// Returns the occurrences of the set of the rule of this number, if lines of different offsets share
 /// them and there is memory.
-fn listing_of(alloc: Global, source: &Source, number: usize, asked: Asked) -> Option<Listing>
+fn listing_of(alloc: Global, source: &Source, number: usize, needed: Needed) -> Option<Listing>
     requires { number < length source.now.rules }
     ensures { IfSome result (IsListingOf source.now.rules number) }
 {
-    if asked.lines < FEWEST_LINES || !asked.offsets_differ {
+    if needed.lines < FEWEST_LINES || !needed.offsets_differ {
         return None;
     }
     let set = &source.rule(number).name;
-    match list_set(alloc, source, set, asked.before.min(LATEST_YEAR)) {
+    match list_set(alloc, source, set, needed.before.min(LATEST_YEAR)) {
         Ok(listing) => Some(listing),
         Err(_) => None,
     }
@@ -175,14 +175,14 @@ fn listing_of(alloc: Global, source: &Source, number: usize, asked: Asked) -> Op
 fn timed_of(
     alloc: Global,
     source: &Source,
-    all: &[Asked],
+    all: &[Needed],
 ) -> Result<Vec<Option<TimedListing>>, AllocError>
     requires { length all.now ≤ length source.now.rules }
     ensures { IfOk result (λ made. AreTimedListings source.now.rules made.items) }
 {
     let mut timed = Vec::with_capacity(alloc, all.len())?;
-    for (number, asked) in all.iter().enumerate() {
-        timed.push(timed_listing_of(alloc, source, number, *asked))?;
+    for (number, needed) in all.iter().enumerate() {
+        timed.push(timed_listing_of(alloc, source, number, *needed))?;
     }
     Ok(timed)
 }
@@ -193,26 +193,26 @@ fn timed_listing_of(
     alloc: Global,
     source: &Source,
     number: usize,
-    asked: Asked,
+    needed: Needed,
 ) -> Option<TimedListing>
     requires { number < length source.now.rules }
     ensures { IfSome result (IsTimedListingOf source.now.rules number) }
 {
-    if asked.lines < FEWEST_LINES || asked.offsets_differ {
+    if needed.lines < FEWEST_LINES || needed.offsets_differ {
         return None;
     }
     let set = &source.rule(number).name;
-    match list_set(alloc, source, set, asked.before.min(LATEST_YEAR)) {
-        Ok(listing) => timed_if_in_order(alloc, source, set, asked.offset, &listing),
+    match list_set(alloc, source, set, needed.before.min(LATEST_YEAR)) {
+        Ok(listing) => timed_if_in_order(alloc, source, set, needed.offset, &listing),
         Err(_) => None,
     }
 }
 
-/// Returns for the first rule of each set what lines ask for of it, and nothing for other rules.
-fn asked_of(alloc: Global, source: &Source) -> Result<Vec<Asked>, AllocError>
+/// Returns for the first rule of each set what lines need of it, and nothing for other rules.
+fn needed_of(alloc: Global, source: &Source) -> Result<Vec<Needed>, AllocError>
     ensures { IfOk result (λ all. length all.items ≡ length source.now.rules) }
 {
-    let none = Asked {
+    let none = Needed {
         lines: 0,
         before: 0,
         offset: 0,
@@ -225,8 +225,8 @@ fn asked_of(alloc: Global, source: &Source) -> Result<Vec<Asked>, AllocError>
     Ok(all)
 }
 
-/// Notes what the lines of a zone ask for.
-fn note_zone(source: &Source, zone: usize, all: &mut [Asked])
+/// Notes what the lines of a zone need.
+fn note_zone(source: &Source, zone: usize, all: &mut [Needed])
     requires { zone < length source.now.zones }
     ensures { length all.new ≡ length all.old }
 {
@@ -240,8 +240,8 @@ fn note_zone(source: &Source, zone: usize, all: &mut [Asked])
     }
 }
 
-/// Notes what a line that starts in this year asks for of its set.
-fn note_line(source: &Source, line: &ZoneLine, start: u16, all: &mut [Asked])
+/// Notes what a line that starts in this year needs of its set.
+fn note_line(source: &Source, line: &ZoneLine, start: u16, all: &mut [Needed])
     requires { IsSoundLine source.now.rules line.now }
     ensures { length all.new ≡ length all.old }
 {
@@ -257,28 +257,28 @@ fn note_line(source: &Source, line: &ZoneLine, start: u16, all: &mut [Asked])
     let Some(first) = source.set_rules(set).first() else {
         return;
     };
-    if let Some(asked) = all.get_mut(*first) {
-        *asked = with_line(*asked, line.offset, before);
+    if let Some(needed) = all.get_mut(*first) {
+        *needed = with_line(*needed, line.offset, before);
     }
 }
 
-/// Returns what lines ask for of a set together with one more, of this standard UT offset, that asks
-/// for its occurrences before a year.
-fn with_line(asked: Asked, offset: i32, before: u16) -> Asked
+/// Returns what lines need of a set together with one more, of this standard UT offset, that needs
+/// its occurrences before a year.
+fn with_line(needed: Needed, offset: i32, before: u16) -> Needed
     requires { IsWithinDay offset }
 {
-    if asked.lines == 0 {
-        return Asked {
+    if needed.lines == 0 {
+        return Needed {
             lines: 1,
             before,
             offset,
             offsets_differ: false,
         };
     }
-    Asked {
-        lines: asked.lines.saturating_add(1),
-        before: before.max(asked.before),
-        offset: asked.offset,
-        offsets_differ: asked.offsets_differ || asked.offset != offset,
+    Needed {
+        lines: needed.lines.saturating_add(1),
+        before: before.max(needed.before),
+        offset: needed.offset,
+        offsets_differ: needed.offsets_differ || needed.offset != offset,
     }
 }

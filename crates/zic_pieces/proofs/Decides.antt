@@ -9,7 +9,7 @@ use Rattle.zic_pieces.specs.Settlement.{IsLeast}
 use Rattle.zic_pieces.specs.declared.task.PieceStop.TheVariants.{Fault, Memory}
 use Rattle.zic_pieces.specs.code.Stop.{the_stop}
 use Rattle.zic_pieces.specs.Task.{IsReason, HaveValues, AreValues, IsStop}
-use Rattle.zic_pieces.specs.code.Work.{IsKeptAt, IsWork}
+use Rattle.zic_pieces.specs.code.Work.{HasValueAt, IsWork}
 use Rattle.zic_pieces.specs.code.Order.{AllBelow, EachHas, AreInOrder}
 
 pub the_stop_is : {X F : Type 0} → (o : ℕ → Result X F → Type 0) (n least : ℕ) (r : PieceStop F) → (least < n) × HaveValues o least × IsReason (o least) r → IsStop o n (the_stop least r)
@@ -18,14 +18,14 @@ the_stop_is o n least Memory h = (h.0, h.1)
 
 module _ {X F : Type 0} (o : ℕ → Result X F → Type 0) (n : ℕ) (es : List Event) (vals : List (ℕ × X)) (least : ℕ) (is_least : IsLeast n es least) (once : (i : ℕ) → i < n → i ≤ least → times i (given n es) ≡ 1) where
   -- each piece below the least reported one has its value kept
-  kept_below : (halt : Option (ℕ × PieceStop F)) → IsWork o n es vals halt → (i : ℕ) → i < least → (x : X) × IsKeptAt vals i x
-  kept_below halt work i low =
+  between_below : (halt : Option (ℕ × PieceStop F)) → IsWork o n es vals halt → (i : ℕ) → i < least → (x : X) × HasValueAt vals i x
+  between_below halt work i low =
       let le = is_least.2 in
       let one = once i (omega arith) (omega arith) in
       ⊎_elim (λ k. k) (λ r. (let above = is_least.1 i r in absurd (omega arith))) (work.done i (omega arith))
 
   values_below : (halt : Option (ℕ × PieceStop F)) → IsWork o n es vals halt → HaveValues o least
-  values_below halt work i low = let k = kept_below halt work i low in (k.0, (work.own i k.0 k.1).0)
+  values_below halt work i low = let k = between_below halt work i low in (k.0, (work.own i k.0 k.1).0)
 
   module _ (work : IsWork o n es vals None) where
     none_reported : least ≡ n
@@ -35,7 +35,7 @@ module _ {X F : Type 0} (o : ℕ → Result X F → Type 0) (n : ℕ) (es : List
     all_below i x k = (work.own i x k).1
 
     pub each_has : EachHas n vals
-    each_has i low = let e = none_reported in kept_below None work i (omega arith)
+    each_has i low = let e = none_reported in between_below None work i (omega arith)
 
     pub are_values : (all : List X) → AreInOrder n vals all → AreValues o n all
     are_values all ordered = (ordered.0, (λ i x e. (work.own i x (ordered.1 i x e)).0))

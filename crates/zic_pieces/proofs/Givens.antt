@@ -76,15 +76,15 @@ pub given_draws : (n : ℕ) (es : List Event) → length (given n es) ≤ length
 given_draws n [] = omega arith
 given_draws n (e ∷ es) = given_from_draws n e es
 
-asked_or : (n i g : ℕ) (a b : Bool) → a ≡ true → b ≡ true → cond (a && b) (i ∷ []) [] ≡ i ∷ []
-asked_or n i g true true p q = refl
-asked_or n i g true false p q = absurd (cc)
-asked_or n i g false b p q = absurd (cc)
+requested_or : (n i g : ℕ) (a b : Bool) → a ≡ true → b ≡ true → cond (a && b) (i ∷ []) [] ≡ i ∷ []
+requested_or n i g true true p q = refl
+requested_or n i g true false p q = absurd (cc)
+requested_or n i g false b p q = absurd (cc)
 
-asked_not : (i : ℕ) (a b : Bool) → b ≡ false → cond (a && b) (i ∷ []) [] ≡ []
-asked_not i true true q = absurd (cc)
-asked_not i true false q = refl
-asked_not i false b q = refl
+requested_not : (i : ℕ) (a b : Bool) → b ≡ false → cond (a && b) (i ∷ []) [] ≡ []
+requested_not i true true q = absurd (cc)
+requested_not i true false q = refl
+requested_not i false b q = refl
 
 -- a claim that gives i
 pub given_do : (n i s g b : ℕ) (es : List Event) → is_whole n es ≡ true → i < n → i ≤ g → given n ((es ++ Drew i s ∷ []) ++ Glanced g b ∷ []) ≡ given n es ++ i ∷ []
@@ -92,14 +92,14 @@ given_do n i s g b es p low le =
     let one : nat_lt i n ≡ true = grind (arith, nat_tests) in
     let two : nat_le i g ≡ true = grind (arith, nat_tests) in
     ap (given n) (append_assoc es (Drew i s ∷ []) (Glanced g b ∷ [])) ∙ (given_append n es (Drew i s ∷ Glanced g b ∷ []) p
-    ∙ ap (λ (l : List ℕ). given n es ++ l) (append-nil (cond (nat_lt i n && nat_le i g) (i ∷ []) []) ∙ asked_or n i g (nat_lt i n) (nat_le i g) one two))
+    ∙ ap (λ (l : List ℕ). given n es ++ l) (append-nil (cond (nat_lt i n && nat_le i g) (i ∷ []) []) ∙ requested_or n i g (nat_lt i n) (nat_le i g) one two))
 
 -- a claim that skips i
 pub given_skip : (n i s g b : ℕ) (es : List Event) → is_whole n es ≡ true → g < i → given n ((es ++ Drew i s ∷ []) ++ Glanced g b ∷ []) ≡ given n es
 given_skip n i s g b es p less =
     let two : nat_le i g ≡ false = grind (arith, nat_tests) in
     ap (given n) (append_assoc es (Drew i s ∷ []) (Glanced g b ∷ [])) ∙ (given_append n es (Drew i s ∷ Glanced g b ∷ []) p
-    ∙ (ap (λ (l : List ℕ). given n es ++ l) (append-nil (cond (nat_lt i n && nat_le i g) (i ∷ []) []) ∙ asked_not i (nat_lt i n) (nat_le i g) two) ∙ append-nil (given n es)))
+    ∙ (ap (λ (l : List ℕ). given n es ++ l) (append-nil (cond (nat_lt i n && nat_le i g) (i ∷ []) []) ∙ requested_not i (nat_lt i n) (nat_le i g) two) ∙ append-nil (given n es)))
 
 answered : (a : Bool) → (not a || true) && true ≡ true
 answered true = refl

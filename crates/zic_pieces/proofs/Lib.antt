@@ -1,10 +1,10 @@
 pub mod Totals
 pub mod Members
-pub mod Keeps
+pub mod AddsValue
 pub mod Givens
 pub mod Sounds
 pub mod Steps
-pub mod Kept
+pub mod BetweenCalls
 pub mod Settles
 pub mod Works
 pub mod OneAnswer

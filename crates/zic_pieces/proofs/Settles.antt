@@ -25,7 +25,7 @@ module _ (n next fault : ℕ) (vs : List Known) (id : ℕ) (v : Known) (core : I
   no_events j u other is =
       let two = total_two (λ (w : Known). w.parts) vs id j v u other at is in
       let sum = core.parts in
-      (core.stands j u is).idle (omega arith)
+      (core.located j u is).idle (omega arith)
 
   -- an event that stands in some pass stands in this one
   pub here : (e : Event) → SomeHas vs e → Has v.events e
@@ -46,10 +46,10 @@ module _ (n next fault : ℕ) (vs : List Known) (id : ℕ) (v : Known) (core : I
   find_reports g b h = ⊎_elim inl (λ r. inr (here (Reported g) r)) (core.glances g b (id, v, at, h)).2
 
   pub is_least : IsLeast n v.events fault
-  is_least = (⊎_elim inl (λ r. inr (here (Reported fault) r)) core.least, (λ i h. (core.told i (id, v, at, h)).0), core.within)
+  is_least = (⊎_elim inl (λ r. inr (here (Reported fault) r)) core.least, (λ i h. (core.notified i (id, v, at, h)).0), core.within)
 
   pub all_drawn : v.ended ≡ true → (i : ℕ) → i < n → times i (draws v.events) ≡ 1
-  all_drawn over i low = let le = (core.stands id v at).over over in (each_below i).0 (omega arith)
+  all_drawn over i low = let le = (core.located id v at).over over in (each_below i).0 (omega arith)
 
   pub found : (g b : ℕ) → Has v.events (Glanced g b) → fault ≤ g
   found g b h = (core.glances g b (id, v, at, h)).1
@@ -68,11 +68,11 @@ no_cond j true true q = absurd (cc)
 no_cond j true false q = refl
 no_cond j false b q = refl
 
-not_asked : (j n : ℕ) → not (nat_lt j n) || false ≡ true → n ≤ j
-not_asked j n p = grind (arith, nat_tests)
+not_requested : (j n : ℕ) → not (nat_lt j n) || false ≡ true → n ≤ j
+not_requested j n p = grind (arith, nat_tests)
 
-not_asked_last : (j n : ℕ) → not (nat_lt j n) ≡ true → n ≤ j
-not_asked_last j n p = grind (arith, nat_tests)
+not_requested_last : (j n : ℕ) → not (nat_lt j n) ≡ true → n ≤ j
+not_requested_last j n p = grind (arith, nat_tests)
 
 module _ (n i least : ℕ) (low : i < n) (le : i ≤ least) where
   given_same : (j s g b : ℕ) → least ≤ g → times i (given_by n (Drew j s) (Glanced g b)) ≡ times i (j ∷ [])
@@ -84,14 +84,14 @@ module _ (n i least : ℕ) (low : i < n) (le : i ≤ least) where
   past_last j high = let z = one_else i j (λ e. omega arith) in omega arith
 
   same_one : (e f : Event) → (not (asks n e) || answers f) ≡ true → ((g b : ℕ) → f ≡ Glanced g b → least ≤ g) → times i (given_by n e f) ≡ times i (drawn_by e)
-  same_one (Drew j s) (Drew k t) p above = past_last j (not_asked j n p)
-  same_one (Drew j s) (Reported k) p above = past_last j (not_asked j n p)
+  same_one (Drew j s) (Drew k t) p above = past_last j (not_requested j n p)
+  same_one (Drew j s) (Reported k) p above = past_last j (not_requested j n p)
   same_one (Drew j s) (Glanced g b) p above = given_same j s g b (above g b refl)
   same_one (Reported j) f p above = refl
   same_one (Glanced g b) f p above = refl
 
   last_one : (e : Event) → not (asks n e) ≡ true → 0 ≡ times i (drawn_by e)
-  last_one (Drew j s) p = past_last j (not_asked_last j n p)
+  last_one (Drew j s) p = past_last j (not_requested_last j n p)
   last_one (Reported j) p = refl
   last_one (Glanced g b) p = refl
 

@@ -58,14 +58,14 @@ next_bounded n next fault vs core =
 
 pub sound : (n next fault : ℕ) (vs : List Known) (id : ℕ) (v : Known) → IsCore n next fault vs → get_elem? vs id ≡ some v → 0 < v.parts → IsSound v
 sound n next fault vs id v core at busy =
-    let mine = core.stands id v at in
+    let mine = core.located id v at in
     let bound = next_bounded n next fault vs core in
     let same = mine.pieces busy in
     record {
       once = λ x. (let t = total_at (λ u. weigh (one_at x) (draws u.events)) vs id v at in let d = core.drawn (one_at x) in let m = below_most x next in omega arith);
       heard = λ i s g b d h. core.heard i s g b (id, v, at, d) (id, v, at, h);
       within = (let w = mine.within busy in omega arith);
-      told = mine.told;
+      notified = mine.notified;
       found = mine.found;
       bounded = (let p = mine.drawn in omega arith);
       few = (let t = total_at (λ u. weigh (λ y. 1) (draws u.events)) vs id v at in let d = core.drawn (λ y. 1) in let c = below_count next in let w = weigh_count (draws v.events) in omega arith);

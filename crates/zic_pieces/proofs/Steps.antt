@@ -10,8 +10,8 @@ use Rattle.zic_pieces.specs.Events.{past}
 use Rattle.zic_pieces.specs.Core.{drew, reported, glanced, left, right, both, spent}
 use Rattle.zic_pieces.specs.code.Core.{IsCore}
 use Rattle.zic_pieces.specs.Passes.{IsSound}
-use Rattle.zic_pieces.specs.code.Rule.{Shows, Sat, Drawn, Told, Looked, Learned}
-use Rattle.zic_pieces.proofs.Keeps.{draw_keeps, report_keeps, glance_keeps, split_keeps, join_keeps}
+use Rattle.zic_pieces.specs.code.Rule.{Shows, Sat, Drawn, Notified, Looked, Learned}
+use Rattle.zic_pieces.proofs.AddsValue.{draw_keeps, report_keeps, glance_keeps, split_keeps, join_keeps}
 use Rattle.zic_pieces.proofs.Members.{there}
 use Rattle.zic_pieces.proofs.Sounds.{sound, next_bounded}
 
@@ -37,11 +37,11 @@ draws_allowed n slots id me most busy goes s (next, fault, words, core) _ at _ =
       keeps,
       tt,
       (suc next, fault, after, core'),
-      ((ap (λ x. drew x v) (sym found)), (let l = (core.stands id v at).drawn in subst (λ x. past v.events ≤ x) (sym found) l), here_sound n (suc next) fault s.views id v w at busy core', refl),
+      ((ap (λ x. drew x v) (sym found)), (let l = (core.located id v at).drawn in subst (λ x. past v.events ≤ x) (sym found) l), here_sound n (suc next) fault s.views id v w at busy core', refl),
     )
 
 pub report_allowed : (n slots id : ℕ) (me : Sat) (i : ℕ) → 0 < me.0.parts → i < n
-    → Allows (Shows n) slots id me 1 (λ x. min x i) (Told (step slots 1 i 0 none) me)
+    → Allows (Shows n) slots id me 1 (λ x. min x i) (Notified (step slots 1 i 0 none) me)
 report_allowed n slots id me i busy low s (next, fault, words, core) _ at _ =
     let v : Known = me.0 in
     let w : Known = reported i v in
@@ -62,7 +62,7 @@ glance_allowed n slots id me busy s (next, fault, words, core) _ at _ =
       keeps,
       tt,
       (next, fault, after, core'),
-      (ap (λ x. glanced x v) (sym found), (let l = (core.stands id v at).seen busy in subst (λ x. x ≤ v.seen) (sym found) l), here_sound n next fault s.views id v w at busy core', refl),
+      (ap (λ x. glanced x v) (sym found), (let l = (core.located id v at).seen busy in subst (λ x. x ≤ v.seen) (sym found) l), here_sound n next fault s.views id v w at busy core', refl),
     )
 
 pub learn_allowed : (n slots id : ℕ) (me : Sat) → 0 < me.0.parts

@@ -18,7 +18,7 @@ use Rattle.zic_pieces.specs.Core.{drew, reported, glanced}
 use Rattle.zic_pieces.specs.Passes.{IsSound}
 use Rattle.zic_pieces.specs.Answers.{Answers, DrawsThenGlances}
 use Rattle.zic_pieces.specs.Task.{IsReason}
-use Rattle.zic_pieces.specs.code.Work.{the_lesser, IsKeptAt, Keeps, IsHalt, IsWork}
+use Rattle.zic_pieces.specs.code.Work.{the_lesser, HasValueAt, AddsValue, IsHalt, IsWork}
 use Rattle.zic_pieces.proofs.Totals.{weigh_append, past_append}
 use Rattle.zic_pieces.proofs.Members.{has_front, has_back, has_either, has_none, has_one}
 use Rattle.zic_pieces.proofs.Givens.{given_append, whole_append, given_do, given_skip, given_end, whole_claim, whole_end}
@@ -72,7 +72,7 @@ module _ {X F : Type 0} (o : ℕ → Result X F → Type 0) (n : ℕ) where
     halts = halt_append xs ys h k p.halts q.halts;
   }
 
-  no_values : (i : ℕ) (x : X) → IsKeptAt {X = X} [] i x → ⊥
+  no_values : (i : ℕ) (x : X) → HasValueAt {X = X} [] i x → ⊥
   no_values i x m = some-ne-none (i, x) (sym m.1)
 
   -- nothing was done yet
@@ -108,7 +108,7 @@ module _ {X F : Type 0} (o : ℕ → Result X F → Type 0) (n : ℕ) where
   the_given i s g b j low le more = let e = ap (times j) (given_do n i s g b [] refl low le) in
       dite (ℕ_discrete i j) (λ is. is) (λ isnt. (let z = one_else j i isnt in absurd (omega arith)))
 
-  one_value : (i j : ℕ) (x y : X) → IsKeptAt ((i, x) ∷ []) j y → ◌≡◌ {A = ℕ × X} (i, x) (j, y)
+  one_value : (i j : ℕ) (x y : X) → HasValueAt ((i, x) ∷ []) j y → ◌≡◌ {A = ℕ × X} (i, x) (j, y)
   one_value i j x y (zero, is) = some-injective (i, x) (j, y) is
   one_value i j x y (suc k, is) = absurd (some-ne-none (j, y) (sym is))
 
@@ -160,7 +160,7 @@ module _ {X F : Type 0} (o : ℕ → Result X F → Type 0) (v : Known) (vals : 
       let tidy = subst (λ (h : Option (ℕ × PieceStop F)). IsWork o v.pieces (v.events ++ two) vals h) (lesser_none halt) (subst (λ (l : List (ℕ × X)). IsWork o v.pieces (v.events ++ two) l (the_lesser halt None)) (append-nil vals) more) in
       subst (λ (u : Known). IsWork o u.pieces u.events vals halt) (sym draws.3) (subst (λ (es : List Event). IsWork o v.pieces es vals halt) (sym (claim_events v.events i v.seen g b)) tidy)
 
-  pub step_keep : (i : ℕ) (w : Known) (vals' : List (ℕ × X)) → Answers v (Do i) w → Keeps (o i) i vals vals' → IsWork o w.pieces w.events vals' halt
+  pub step_keep : (i : ℕ) (w : Known) (vals' : List (ℕ × X)) → Answers v (Do i) w → AddsValue (o i) i vals vals' → IsWork o w.pieces w.events vals' halt
   step_keep i w vals' (g, draws, le) (x, is, adds) =
       let b : ℕ = past (drew i v).events in
       let two : List Event = Drew i v.seen ∷ Glanced g b ∷ [] in
@@ -170,14 +170,14 @@ module _ {X F : Type 0} (o : ℕ → Result X F → Type 0) (v : Known) (vals : 
 
   pub step_halt : (i : ℕ) (w u : Known) (vals' : List (ℕ × X)) (r : PieceStop F) (halt' : Option (ℕ × PieceStop F)) → Answers v (Do i) w → u ≡ reported i w → IsReason (o i) r → vals' ≡ vals → halt' ≡ the_lesser halt (Some (i, r))
       → IsWork o u.pieces u.events vals' halt'
-  step_halt i w u vals' r halt' (g, draws, le) told is same lower =
+  step_halt i w u vals' r halt' (g, draws, le) notified is same lower =
       let b : ℕ = past (drew i v).events in
       let two : List Event = Drew i v.seen ∷ Glanced g b ∷ [] in
       let low : Option (ℕ × PieceStop F) = the_lesser halt (Some (i, r)) in
       let more = work_append o v.pieces v.events (two ++ Reported i ∷ []) vals [] halt (Some (i, r)) so_far (work_halt o v.pieces i v.seen g b r draws.1 le is) in
       let tidy = subst (λ (h : Option (ℕ × PieceStop F)). IsWork o v.pieces (v.events ++ (two ++ Reported i ∷ [])) vals' h) (sym lower) (subst (λ (l : List (ℕ × X)). IsWork o v.pieces (v.events ++ (two ++ Reported i ∷ [])) l low) (append-nil vals ∙ sym same) more) in
       let place : ((v.events ++ Drew i v.seen ∷ []) ++ Glanced g b ∷ []) ++ Reported i ∷ [] ≡ v.events ++ (two ++ Reported i ∷ []) = ap (λ (es : List Event). es ++ Reported i ∷ []) (claim_events v.events i v.seen g b) ∙ append_assoc v.events two (Reported i ∷ []) in
-      subst (λ (k : Known). IsWork o k.pieces k.events vals' halt') (sym (told ∙ ap (reported i) draws.3)) (subst (λ (es : List Event). IsWork o v.pieces es vals' halt') (sym place) tidy)
+      subst (λ (k : Known). IsWork o k.pieces k.events vals' halt') (sym (notified ∙ ap (reported i) draws.3)) (subst (λ (es : List Event). IsWork o v.pieces es vals' halt') (sym place) tidy)
 
 -- a claim that draws a piece brings the end nearer
 pub nearer : (i g : ℕ) (v w : Known) → DrawsThenGlances i g v w → IsSound w → w.pieces + 1025 - past w.events < v.pieces + 1025 - past v.events

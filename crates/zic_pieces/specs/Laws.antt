@@ -25,7 +25,7 @@ ReportsAreHeard =
     → IsSound all → HasEventsOf all (drew a p) → HasEventsOf all r → g ≤ i
 
 module _ {X F : Type 0} where
-  -- each of n pieces comes to one value or one fault at most
+  -- each of n pieces has one value or one fault at most
   abbrev pub HasOneOutcomeEach : (ℕ → Result X F → Type 0) → ℕ → Type 0
   HasOneOutcomeEach outcome n =
       (i : ℕ) → i < n → (a b : Result X F) → outcome i a → outcome i b → a ≡ b

@@ -24,12 +24,12 @@ IsOf claims pass = (pass.table ≡ claims.table) × (pass.known.pieces ≡ claim
 pub record IsSound (v : Known) : Type 0 where
   -- no number was drawn twice
   pub once : (x : ℕ) → times x (draws v.events) ≤ 1
-  -- where a draw of i kept s, a glance that kept a draw of i or more found at most s
+  -- where a draw of i had seen s, a glance after a draw of i or more found at most s
   pub heard : (i s g b : ℕ) → Has v.events (Drew i s) → Has v.events (Glanced g b) → i < b → g ≤ s
   -- what the pass has seen is at most the number of pieces, and at most each number that it reported
   -- or found
   pub within : v.seen ≤ v.pieces
-  pub told : (i : ℕ) → Has v.events (Reported i) → v.seen ≤ i
+  pub notified : (i : ℕ) → Has v.events (Reported i) → v.seen ≤ i
   pub found : (g b : ℕ) → Has v.events (Glanced g b) → v.seen ≤ g
   -- no more than 1,024 numbers past the last piece are drawn
   pub bounded : past v.events ≤ v.pieces + 1024

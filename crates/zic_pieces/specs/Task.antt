@@ -8,7 +8,7 @@ use Rattle.zic_pieces.specs.declared.task.TaskStop.{TaskStop}
 use Rattle.zic_pieces.specs.declared.task.TaskStop.TheVariants.{Fault as FaultAt, Memory as MemoryAt, NoThread}
 
 module _ {X F : Type 0} where
-  -- a fault is the piece's own; that memory ran out tells nothing of it
+  -- a fault is the piece's own; that memory ran out says nothing about it
   abbrev pub IsReason : (Result X F → Type 0) → PieceStop F → Type 0
   IsReason outcome (Fault f) = outcome (Err f)
   IsReason outcome Memory = Unit {0}

@@ -1,5 +1,4 @@
 //! Pieces of work for several threads: numbers that threads claim by atomic steps, without a lock.
-//! The tests stand in `program_tests`.
 #![tactic(auto)]
 
 mod claim;

@@ -24,13 +24,13 @@ pub struct Pass {
 
 impl Model for Pass {
     ghost use Rattle.zic_pieces.specs.Passes.{Held};
-    ghost use Rattle.zic_pieces.specs.code.Rule.{IsKept};
+    ghost use Rattle.zic_pieces.specs.code.Rule.{IsBetweenCalls};
 
     ghost Value = { Held };
 
     ghost view = { λ p. record { table = p.seat.table_id; known = p.seat.me.0 } };
 
-    ghost invariant = { λ p. IsKept p.seat.me p.room p.ended p.given };
+    ghost invariant = { λ p. IsBetweenCalls p.seat.me p.room p.ended p.given };
 }
 
 impl Pass {

@@ -32,9 +32,9 @@ impl Play<(), Known> for Draw {
 pub(crate) struct Report;
 
 impl Play<(), Known> for Report {
-    ghost use Rattle.zic_pieces.specs.code.Rule.{Told};
+    ghost use Rattle.zic_pieces.specs.code.Rule.{Notified};
 
-    ghost then = { Told };
+    ghost then = { Notified };
 }
 
 pub(crate) struct Glance;

@@ -76,7 +76,7 @@ fn stop_at<F: Drop>(piece: u64, reason: PieceStop<F>) -> TaskStop<F>
     }
 }
 
-/// Returns what the task comes to, by the least piece that was reported.
+/// Returns the outcome of the task, by the least piece that was reported.
 fn answer<T: Task>(
     alloc: Global,
     task: &T,
@@ -110,7 +110,7 @@ fn answer<T: Task>(
 /// # Errors
 ///
 /// The least piece that stopped. `Memory(Some(i))` says that piece `i` ran out of memory, or that
-/// its value could not be kept, `Memory(None)` that memory ran out elsewhere. `NoThread` is never
+/// its value could not be stored, `Memory(None)` that memory ran out elsewhere. `NoThread` is never
 /// answered.
 pub fn run_task<R: Threads + Wait + Sync, T: Task + Sync, G: Gate + Sync>(
     rt: &R,

@@ -10,11 +10,11 @@ use std::alloc::Global;
 pub enum PieceStop<F> {
     /// The fault of the piece.
     Fault(F),
-    /// Memory ran out. That tells nothing of the piece.
+    /// Memory ran out. That says nothing about the piece.
     Memory,
 }
 
-/// A task of pieces 0, 1, 2, .., each of which comes to a value or a fault. Where more than one is
+/// A task of pieces 0, 1, 2, .., each of which has a value or a fault. Where more than one is
 /// right, the task's relation has them all.
 pub trait Task {
     type Out: Send + Drop;

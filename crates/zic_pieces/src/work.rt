@@ -3,7 +3,7 @@
 ghost use Rattle.std.specs.Prelude.{◌≡◌, ◌<◌, ◌++◌, [], ◌∷◌, Some, true, IfOk, IfErr, MatchResult, Ok};
 ghost use Rattle.zic_pieces.specs.Passes.{IsOf};
 ghost use Rattle.zic_pieces.specs.Task.{IsReason};
-ghost use Rattle.zic_pieces.specs.code.Work.{IsWork, the_lesser, Keeps};
+ghost use Rattle.zic_pieces.specs.code.Work.{IsWork, the_lesser, AddsValue};
 
 use crate::claim::Claim;
 use crate::claims::Claims;
@@ -44,7 +44,7 @@ fn keep<T: Task>(
 ) -> Result<(), PieceStop<T::Fault>>
     requires { i < T.count task.now }
     ensures ok { IfOk result
-        (λ _. Keeps (T.outcome task.now i) i values.old.items values.new.items) }
+        (λ _. AddsValue (T.outcome task.now i) i values.old.items values.new.items) }
     ensures err { IfErr result (λ stop.
         IsReason (T.outcome task.now i) stop × (values.new.items ≡ values.old.items)) }
 {

@@ -1,5 +1,5 @@
 -- How a column is read, and what its rows are: own choice.
-use Rattle.std.specs.Prelude.{◌≡◌, ℕ, Bool, ◌==◌, nat_le}
+use Rattle.std.specs.Prelude.{◌≡◌, ℕ, Bool, None, ◌==◌, nat_le}
 use Rattle.zic_plan.specs.declared.layout.AtFault.TheVariants as at
 use Rattle.zic_plan.specs.declared.layout.Layout.{Layout}
 use Rattle.zic_plan.specs.declared.layout.FieldCount.{FieldCount}
@@ -8,6 +8,7 @@ use Rattle.zic_plan.specs.declared.layout.Header.{Header}
 use Rattle.zic_plan.specs.declared.layout.Header.TheVariants as header
 use Rattle.zic_plan.specs.declared.layout.Records.TheVariants as by
 use Rattle.zic_plan.specs.declared.layout.RowStart.TheVariants as starts
+use Rattle.zic_plan.specs.declared.layout.Style.TheVariants as styles
 use Rattle.zic_plan.specs.declared.layout.TimeFrom.TheVariants as times
 use Rattle.zic_plan.specs.declared.layout.Unit.TheVariants as units
 use Rattle.zic_plan.specs.declared.layout.ZoneFrom.TheVariants as from
@@ -23,8 +24,8 @@ records_before header.Absent = 0
 records_before header.First = 1
 records_before header.Skipped = 1
 
--- A record is one of CSV and has two fields, the name of a zone and seconds, with a comma between them. Rows begin with these fields, and
--- the first fault ends the conversion.
+-- A record is one of CSV, of any length, and has two fields, the name of a zone and seconds, with a comma between them. Rows begin with
+-- these fields and have local time and UT offset in two more, and the first fault ends the conversion.
 pub record HasPlainRows (layout : Layout) : Type 0 where
   pub zone : layout.zone ≡ from.Field 0
   pub time : layout.time ≡ 1
@@ -33,5 +34,7 @@ pub record HasPlainRows (layout : Layout) : Type 0 where
   pub unit : layout.unit ≡ units.Second
   pub delimiter : layout.delimiter ≡ 44
   pub records : layout.records ≡ by.Csv
+  pub max_record : layout.max_record ≡ None
   pub start : layout.start ≡ starts.Fields
+  pub style : layout.style ≡ styles.Fields
   pub at_fault : layout.at_fault ≡ at.End

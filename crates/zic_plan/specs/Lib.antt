@@ -1,3 +1,4 @@
 pub mod Plan
 pub mod Delimiter
 pub mod Layout
+pub mod Noted

@@ -24,7 +24,7 @@ impl Model for Delimiter {
 }
 
 impl Delimiter {
-    /// Returns the delimiter that a byte is, or `None` where it can be none: a letter, a digit, one
+    /// Returns the byte as a delimiter, or `None` if it can't be one: a letter, a digit, one
     /// of `+ - . / : _`, a double quote, a line feed, a carriage return, or a byte above 127.
     pub fn new(byte: u8) -> Option<Delimiter>
         ensures none { IfNone result (is_delimiter byte ≡ false) }

@@ -4,13 +4,13 @@
 /// Temporal.
 #[derive(Clone, Copy, Debug, PartialEq, Eq)]
 pub enum Disambiguation {
-    /// Neither: only a local time with one instant will do.
+    /// Neither: the local time must have exactly one instant.
     Reject,
-    /// The first instant of a fold; in a gap the local time by the UT offset after it.
+    /// The first instant of a fold; in a gap, the instant of the local time by the offset after it.
     Earlier,
-    /// The last instant of a fold; in a gap the local time by the UT offset before it.
+    /// The last instant of a fold; in a gap, the instant of the local time by the offset before it.
     Later,
-    /// The first instant of a fold; in a gap the local time by the UT offset before it. RFC 5545,
-    /// 3.3.5.
+    /// The first instant of a fold; in a gap, the instant of the local time by the offset before it. RFC
+    /// 5545, 3.3.5.
     Compatible,
 }

@@ -15,15 +15,15 @@ pub enum Unit {
     Nanosecond,
 }
 
-/// How the field of the instant has it, or of the local time.
+/// How the field of the instant, or of the local time, is written.
 #[derive(Clone, Copy, Debug, PartialEq, Eq)]
 pub enum TimeFrom {
     /// As a count of units.
     Count,
     /// As a date and a time of day with a UT offset, `2007-03-11T01:59:59-05:00`. RFC 3339, 5.6.
     Rfc3339,
-    /// As a date and a time of day on the clocks of the row's zone, `2007-03-11T01:59:59`. What is
-    /// chosen for gaps and folds tells the instant.
+    /// As a date and a time of day on the clocks of the row's zone, `2007-03-11T01:59:59`. The choice
+    /// says which instant is meant in gaps and folds.
     Local(Disambiguation),
 }
 
@@ -87,14 +87,28 @@ pub enum RowStart {
     Record,
 }
 
+/// How a row has its local time and its UT offset.
+#[derive(Clone, Copy, Debug, PartialEq, Eq)]
+pub enum Style {
+    /// In two fields, `2007-03-11T03:00:00` and `-04:00:00`.
+    Fields,
+    /// In one field, `2007-03-11T03:00:00-04:00`. RFC 3339, 5.6; seconds of the offset are written
+    /// where it has some.
+    Iso,
+}
+
 /// What a row with a fault does.
 #[derive(Clone, Copy, Debug, PartialEq, Eq)]
 pub enum AtFault {
     /// It ends the conversion.
     End,
-    /// It is written without local time, and the conversion goes on. A row more than there may be
-    /// ends it.
+    /// It is written without local time, and the conversion goes on. A row more than there may be ends
+    /// it, and so does a record of CSV of more bytes than it may have. A longer line is written in part.
     GoOn,
+    /// It isn't written, its record is put aside, and the conversion goes on. A row more than there may
+    /// be ends it, and so does a record of CSV of more bytes than it may have. A longer line is put aside
+    /// in part.
+    Reject,
 }
 
 /// How a column is read, and what its rows are.
@@ -104,7 +118,7 @@ pub struct Layout {
     pub zone: ZoneFrom,
     /// The index of the field of the instant, or of the local time, from 0.
     pub time: usize,
-    /// How that field has it.
+    /// How that field is written.
     pub from: TimeFrom,
     /// How many fields each record has.
     pub count: FieldCount,
@@ -116,16 +130,20 @@ pub struct Layout {
     pub records: Records,
     /// Whether there is a header.
     pub header: Header,
+    /// The most bytes that a record may have, without its line end; `None` sets no limit.
+    pub max_record: Option<u64>,
     /// What a row begins with.
     pub start: RowStart,
+    /// How a row has its local time and its UT offset.
+    pub style: Style,
     /// What a row with a fault does.
     pub at_fault: AtFault,
 }
 
 impl Layout {
     /// Returns the layout of plain columns: two fields, the name of a zone and seconds, with a
-    /// comma between them, and records of CSV. Rows begin with these fields, and the first fault ends
-    /// the conversion.
+    /// comma between them, and records of CSV of any length. Rows begin with these fields and have
+    /// local time and offset in two more, and the first fault ends the conversion.
     pub fn plain(header: Header) -> Layout
         ensures rows { HasPlainRows result }
         ensures header { result.header ≡ header }
@@ -139,7 +157,9 @@ impl Layout {
             delimiter: Delimiter::comma(),
             records: Records::Csv,
             header,
+            max_record: None,
             start: RowStart::Fields,
+            style: Style::Fields,
             at_fault: AtFault::End,
         }
     }

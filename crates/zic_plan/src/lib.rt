@@ -1,15 +1,16 @@
 //! How work is cut and shared, how much of it there may be, and how a column is read.
-//! The tests stand in `program_tests`.
 #![tactic(auto)]
 
 mod delimiter;
 mod disambiguation;
 mod layout;
 mod plan;
+mod row_log;
 
 pub use delimiter::Delimiter;
 pub use disambiguation::Disambiguation;
 pub use layout::{
-    AtFault, FieldCount, Header, Layout, Records, RowStart, TimeFrom, Unit, ZoneFrom,
+    AtFault, FieldCount, Header, Layout, Records, RowStart, Style, TimeFrom, Unit, ZoneFrom,
 };
 pub use plan::{MAX_BYTES, MAX_OF_PIECE, MAX_ROWS, MAX_WORKERS, Plan};
+pub use row_log::{FaultyRow, RowLog, Unnoted};

@@ -4,17 +4,18 @@ use Rattle.std.proofs.lemmas.Bool.{eqb-true}
 use Rattle.std.proofs.lemmas.List.{append-nil}
 use Rattle.std.proofs.lemmas.List.Elements.{All-head}
 use Rattle.zic_base.specs.Option.{◌>>=◌}
-use Rattle.zic_posix.specs.Grammar.{is_digit, SpellsNumber, SpellsPart, SpellsClock}
+use Rattle.std.specs.Char.{is_ascii_digit}
+use Rattle.zic_posix.specs.Grammar.{SpellsNumber, SpellsPart, SpellsClock}
 use Rattle.zic_posix.specs.code.Reading.{number_at, part_at, clock_at}
 use Rattle.zic_posix.proofs.Steps.{bind_some, branch, some_is, NotFirst, BeginsWith}
-use Rattle.zic_posix.proofs.NumberLemmas.{number_again, number_takes}
+use Rattle.zic_posix.proofs.NumberLemmas.{number_has, number_again, number_takes}
 
 abbrev pub is_colon : ℕ → Bool
 is_colon b = eqb b 58
 
 -- nothing that goes on a clock stands there
 pub record EndsClock (rest : List ℕ) : Type 0 where
-  pub no_digit : NotFirst is_digit rest
+  pub no_digit : NotFirst is_ascii_digit rest
   pub no_colon : NotFirst is_colon rest
 
 part_none : (rest : List ℕ) → NotFirst is_colon rest → part_at rest ≡ Some (0, rest)
@@ -22,7 +23,7 @@ unfolding part_at
 part_none [] ends = refl
 part_none (b ∷ rest) ends = rw ends refl
 
-part_again : (digits : List ℕ) (n : ℕ) (rest : List ℕ) → SpellsPart digits n → NotFirst is_digit rest → part_at (58 ∷ (digits ++ rest)) ≡ Some (n, rest)
+part_again : (digits : List ℕ) (n : ℕ) (rest : List ℕ) → SpellsPart digits n → NotFirst is_ascii_digit rest → part_at (58 ∷ (digits ++ rest)) ≡ Some (n, rest)
 unfolding part_at
 part_again digits n rest spells ends = number_again 2 0 59 n digits rest spells ends
 
@@ -35,7 +36,7 @@ pub clock_again : (longest most : ℕ) (text : List ℕ) (seconds : ℕ) (rest :
 clock_again longest most text seconds rest clock ends =
     let hours = clock.hours in
     let h = clock.h in
-    let after_hours = λ (back : List ℕ) (ended : NotFirst is_digit back). number_again longest 0 most h hours back clock.spells_hours ended in
+    let after_hours = λ (back : List ℕ) (ended : NotFirst is_ascii_digit back). number_again longest 0 most h hours back clock.spells_hours ended in
     let nothing = part_none rest ends.no_colon in
     rw clock.value (elim clock.form [
       | inl f ↦ rw (f.0, f.1, f.2) (clock_three longest most h 0 0 (hours ++ rest) rest rest rest (after_hours rest ends.no_digit) nothing nothing)
@@ -124,12 +125,12 @@ clock_limit longest most text seconds clock =
     ]
 
 -- a number begins with a digit
-pub first_digit : (longest least most : ℕ) (text rest : List ℕ) (n : ℕ) → SpellsNumber longest least most text n → (b : ℕ) × (more : List ℕ) × (text ++ rest ≡ b ∷ more) × (is_digit b ≡ true)
-first_digit longest least most [] rest n spells = absurd (let some = spells.some in omega arith)
-first_digit longest least most (b ∷ more) rest n spells = (b, more ++ rest, refl, All-head (λ c. is_digit c ≡ true) b more spells.digits)
+pub first_digit : (longest least most : ℕ) (text rest : List ℕ) (n : ℕ) → SpellsNumber longest least most text n → (b : ℕ) × (more : List ℕ) × (text ++ rest ≡ b ∷ more) × (is_ascii_digit b ≡ true)
+first_digit longest least most [] rest n spells = absurd (let some = (number_has longest [] n spells.value).some in omega arith)
+first_digit longest least most (b ∷ more) rest n spells = (b, more ++ rest, refl, All-head (λ c. is_ascii_digit c ≡ true) b more (number_has longest (b ∷ more) n spells.value).digits)
 
 -- and so does a clock
-pub clock_first : (longest most : ℕ) (text : List ℕ) (seconds : ℕ) → SpellsClock longest most text seconds → (b : ℕ) × (more : List ℕ) × (text ≡ b ∷ more) × (is_digit b ≡ true)
+pub clock_first : (longest most : ℕ) (text : List ℕ) (seconds : ℕ) → SpellsClock longest most text seconds → (b : ℕ) × (more : List ℕ) × (text ≡ b ∷ more) × (is_ascii_digit b ≡ true)
 clock_first longest most text seconds clock =
     let first = λ (rest : List ℕ). first_digit longest 0 most clock.hours rest clock.h clock.spells_hours in
     elim clock.form [

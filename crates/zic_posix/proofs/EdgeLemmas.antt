@@ -5,7 +5,8 @@ use Rattle.zic_base.specs.Option.{◌>>=◌}
 use Rattle.zic_posix.specs.declared.footer.DayRule.{DayRule}
 use Rattle.zic_posix.specs.declared.footer.DayRule.TheVariants.{J, N, M}
 use Rattle.zic_posix.specs.declared.footer.Edge.{Edge}
-use Rattle.zic_posix.specs.Grammar.{is_digit, SpellsNumber, SpellsDay, SpellsTime, SpellsEdge, IsDay, IsEdge}
+use Rattle.std.specs.Char.{is_ascii_digit}
+use Rattle.zic_posix.specs.Grammar.{SpellsNumber, SpellsDay, SpellsTime, SpellsEdge, IsDay, IsEdge}
 use Rattle.zic_posix.specs.code.Reading.{after, number_at, julian_at, numbered_at, digit_at, weekday_at, day_at, time_at, edge_time_at, edge_at, next_edge_at}
 use Rattle.zic_posix.proofs.Steps.{bind_some, branch, some_is, after_takes, NotFirst, BeginsWith}
 use Rattle.zic_posix.proofs.NumberLemmas.{digit_range, number_again, number_takes}
@@ -14,21 +15,21 @@ use Rattle.zic_posix.proofs.SignedLemmas.{time_again, time_takes, time_limit}
 
 -- ---- days
 
-julian_again : (digits : List ℕ) (day : ℕ) (rest : List ℕ) → SpellsNumber 3 1 365 digits day → NotFirst is_digit rest → day_at (74 ∷ (digits ++ rest)) ≡ Some (J day, rest)
+julian_again : (digits : List ℕ) (day : ℕ) (rest : List ℕ) → SpellsNumber 3 1 365 digits day → NotFirst is_ascii_digit rest → day_at (74 ∷ (digits ++ rest)) ≡ Some (J day, rest)
 unfolding day_at julian_at
 julian_again digits day rest spells ends = rw (number_again 3 1 365 day digits rest spells ends) refl
 
-numbered_by : (text : List ℕ) (b : ℕ) (more : List ℕ) → text ≡ b ∷ more → is_digit b ≡ true → day_at text ≡ numbered_at text
+numbered_by : (text : List ℕ) (b : ℕ) (more : List ℕ) → text ≡ b ∷ more → is_ascii_digit b ≡ true → day_at text ≡ numbered_at text
 unfolding day_at
 numbered_by text b more e digit =
     let range = digit_range b digit in
     rw e (rw (ne_eqb b 74 (λ e. omega arith), ne_eqb b 77 (λ e. omega arith)) refl)
 
-numbered_again : (text : List ℕ) (day : ℕ) (rest : List ℕ) → SpellsNumber 3 0 365 text day → NotFirst is_digit rest → numbered_at (text ++ rest) ≡ Some (N day, rest)
+numbered_again : (text : List ℕ) (day : ℕ) (rest : List ℕ) → SpellsNumber 3 0 365 text day → NotFirst is_ascii_digit rest → numbered_at (text ++ rest) ≡ Some (N day, rest)
 unfolding numbered_at
 numbered_again text day rest spells ends = rw (number_again 3 0 365 day text rest spells ends) refl
 
-digit_again : (least most n : ℕ) (text rest : List ℕ) → SpellsNumber 1 least most text n → NotFirst is_digit rest → digit_at least most (46 ∷ (text ++ rest)) ≡ Some (n, rest)
+digit_again : (least most n : ℕ) (text rest : List ℕ) → SpellsNumber 1 least most text n → NotFirst is_ascii_digit rest → digit_at least most (46 ∷ (text ++ rest)) ≡ Some (n, rest)
 unfolding digit_at after
 digit_again least most n text rest spells ends = number_again 1 least most n text rest spells ends
 
@@ -37,7 +38,7 @@ unfolding day_at weekday_at
 weekday_by text a b rest month week weekday em ew ed = rw (em, ew, ed) refl
 
 -- what is spelled is read
-pub day_again : (text : List ℕ) (day : DayRule) (rest : List ℕ) → SpellsDay text day → NotFirst is_digit rest → day_at (text ++ rest) ≡ Some (day, rest)
+pub day_again : (text : List ℕ) (day : DayRule) (rest : List ℕ) → SpellsDay text day → NotFirst is_ascii_digit rest → day_at (text ++ rest) ≡ Some (day, rest)
 day_again text (J day) rest spells ends = rw spells.1 (julian_again spells.0 day rest spells.2 ends)
 day_again text (N day) rest spells ends =
     let first = first_digit 3 0 365 text rest day spells in
@@ -168,7 +169,7 @@ edge_by version text back rest edge ed et = rw (ed, et) refl
 pub edge_again : (version : ℕ) (text : List ℕ) (edge : Edge) (rest : List ℕ) → SpellsEdge version text edge → EndsEdge rest → edge_at version (text ++ rest) ≡ Some (edge, rest)
 edge_again version text edge rest spells ends =
     let day = spells.day in
-    let read = λ (back : List ℕ) (ended : NotFirst is_digit back). day_again day edge.day back spells.spells_day ended in
+    let read = λ (back : List ℕ) (ended : NotFirst is_ascii_digit back). day_again day edge.day back spells.spells_day ended in
     elim spells.form [
       | inl f ↦ rw f.0 (edge_by version (day ++ rest) rest rest edge (read rest ends.clock.no_digit) (edge_time_none version rest ends.no_slash ∙ ap (λ (t : ℤ). Some (t, rest)) (sym f.1)))
       | inr f ↦ rw (f.1, append_assoc day (47 ∷ f.0) rest) (edge_by version (day ++ 47 ∷ (f.0 ++ rest)) (47 ∷ (f.0 ++ rest)) rest edge (read (47 ∷ (f.0 ++ rest)) refl) (edge_time_again version f.0 edge.time rest f.2 ends))

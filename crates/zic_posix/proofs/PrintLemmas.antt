@@ -15,30 +15,28 @@ use Rattle.zic_posix.specs.declared.footer.DayRule.TheVariants.{J, N, M}
 use Rattle.zic_posix.specs.declared.footer.Dst.{Dst}
 use Rattle.zic_posix.specs.declared.footer.Edge.{Edge}
 use Rattle.zic_posix.specs.Footer.{TzString, is_of_day, version_by, version_of}
-use Rattle.zic_posix.specs.Grammar.{is_letter, is_digit, SpellsName, SpellsNumber, SpellsClock, SpellsSigned, SpellsOffset, SpellsTime, SpellsDay, SpellsEdge, SpellsDaylight, Spells, IsName, IsOffset, IsDay, IsEdge, IsDaylight, IsTzString}
+use Rattle.std.specs.Char.{is_ascii_digit}
+use Rattle.zic_posix.specs.Grammar.{is_letter, SpellsName, SpellsNumber, SpellsClock, SpellsSigned, SpellsOffset, SpellsTime, SpellsDay, SpellsEdge, SpellsDaylight, Spells, IsName, IsOffset, IsDay, IsEdge, IsDaylight, IsTzString}
 use Rattle.zic_base.specs.Digits.{two_digits}
 use Rattle.zic_posix.specs.Printing.{printed_name, printed_number, printed_clock, printed_seconds, printed_signed, printed_offset, printed_day, printed_edge, printed_saving, printed_daylight, printed_rest, printed}
-use Rattle.zic_posix.proofs.NumberLemmas.{AreDigits}
+use Rattle.zic_posix.proofs.NumberLemmas.{number_by, AreDigits}
 use Rattle.zic_posix.proofs.SignedLemmas.{abs_neg}
 
 -- ---- numbers
 
-digit_of : (n : ℕ) → n < 10 → is_digit (48 + n) ≡ true
+digit_of : (n : ℕ) → n < 10 → is_ascii_digit (48 + n) ≡ true
 digit_of n small = and_from _ _ (le-leb 48 (48 + n) (omega arith)) (le-leb (48 + n) 57 (omega arith))
 
 one_more : (n : ℕ) (digits : List ℕ) → n < 10 → AreDigits digits → AreDigits ((48 + n) ∷ digits)
-one_more n digits small rest = All-cons (λ b. is_digit b ≡ true) (48 + n) digits (digit_of n small) rest
+one_more n digits small rest = All-cons (λ b. is_ascii_digit b ≡ true) (48 + n) digits (digit_of n small) rest
 
 two : (n : ℕ) → n < 100 → AreDigits (two_digits n)
 two n small =
-    one_more (n / 10) ((48 + n % 10) ∷ []) (omega arith) (one_more (n % 10) [] (omega arith) (All-nil (λ b. is_digit b ≡ true)))
+    one_more (n / 10) ((48 + n % 10) ∷ []) (omega arith) (one_more (n % 10) [] (omega arith) (All-nil (λ b. is_ascii_digit b ≡ true)))
 
 two_spell : (longest least most n : ℕ) → 2 ≤ longest → n < 100 → least ≤ n → n ≤ most → SpellsNumber longest least most (two_digits n) n
 two_spell longest least most n room small low high = record {
-  some = omega arith;
-  short = omega arith;
-  digits = two n small;
-  value = omega arith;
+  value = number_by longest (two_digits n) n (record { some = omega arith; short = omega arith; digits = two n small; value = omega arith });
   at_least = low;
   at_most = high;
 }
@@ -46,10 +44,8 @@ two_spell longest least most n room small low high = record {
 one_spell : (longest least most n : ℕ) → 1 ≤ longest → n < 10 → least ≤ n → n ≤ most → SpellsNumber longest least most (printed_number n) n
 one_spell longest least most n room small low high =
     rw (lt-ltb n 10 small) (record {
-      some = omega arith;
-      short = omega arith;
-      digits = one_more n [] small (All-nil (λ b. is_digit b ≡ true));
-      value = omega arith;
+      value = number_by longest ((48 + n) ∷ []) n
+          (record { some = omega arith; short = omega arith; digits = one_more n [] small (All-nil (λ b. is_ascii_digit b ≡ true)); value = omega arith });
       at_least = low;
       at_most = high;
     })
@@ -68,10 +64,12 @@ number_of_three least most n small low high =
     elim (cases_lt n 100) [
       | inl two ↦ number_of_two 3 least most n (omega arith) two low high
       | inr more ↦ rw (le-ltb n 10 (omega arith), le-ltb n 100 more) (record {
-        some = omega arith;
-        short = omega arith;
-        digits = one_more (n / 100) (two_digits (n % 100)) (omega arith) (two (n % 100) (omega arith));
-        value = omega arith;
+        value = number_by 3 ((48 + n / 100) ∷ two_digits (n % 100)) n (record {
+          some = omega arith;
+          short = omega arith;
+          digits = one_more (n / 100) (two_digits (n % 100)) (omega arith) (two (n % 100) (omega arith));
+          value = omega arith;
+        });
         at_least = low;
         at_most = high;
       })

@@ -1,7 +1,8 @@
 -- A clock with a sign, an offset or a time that is read is what is spelled, and what is spelled is read.
 use Rattle.std.proofs.Common.{◌≡◌, ℕ, zero, suc, ◌+◌, ◌*◌, ◌<◌, ◌⊎◌, eqb, leb, ◌&&◌, Bool, true, false, cond, Some, List, [], ◌∷◌, ◌++◌, ℤ, pos, negsuc, neg_ℤ, unsigned_abs, refl, ap, subst, ◌∙◌, arith, inl, inr}
 use Rattle.std.proofs.lemmas.Bool.{eqb-true, ne_eqb, and_left, or_from, lt-leb, cases_Bool}
-use Rattle.zic_posix.specs.Grammar.{is_letter, is_digit, SpellsClock, SpellsSigned, SpellsOffset, SpellsTime}
+use Rattle.std.specs.Char.{is_ascii_digit}
+use Rattle.zic_posix.specs.Grammar.{is_letter, SpellsClock, SpellsSigned, SpellsOffset, SpellsTime}
 use Rattle.zic_posix.specs.code.Reading.{clock_at, sign_at, signed_at, offset_at, plain_time_at, time_at}
 use Rattle.zic_posix.proofs.Steps.{bind_some, some_is, BeginsWith}
 use Rattle.zic_posix.proofs.NumberLemmas.{digit_range}
@@ -10,7 +11,7 @@ use Rattle.zic_posix.proofs.ClockLemmas.{EndsClock, clock_again, clock_takes, cl
 -- ---- signs
 
 -- a digit is no sign
-sign_none : (text : List ℕ) (b : ℕ) (more : List ℕ) → text ≡ b ∷ more → is_digit b ≡ true → sign_at text ≡ (false, text)
+sign_none : (text : List ℕ) (b : ℕ) (more : List ℕ) → text ≡ b ∷ more → is_ascii_digit b ≡ true → sign_at text ≡ (false, text)
 unfolding sign_at
 sign_none text b more e digit =
     let range = digit_range b digit in
@@ -110,7 +111,7 @@ signed_limit longest most text seconds spells =
       | inr (inr f) ↦ rw (f.1, abs_neg (pos spells.size)) small
     ]
 
-digit_first : (b : ℕ) → is_digit b ≡ true → (is_letter b ≡ false) × (eqb b 44 ≡ false)
+digit_first : (b : ℕ) → is_ascii_digit b ≡ true → (is_letter b ≡ false) × (eqb b 44 ≡ false)
 digit_first b digit =
     let range = digit_range b digit in
     (or_from (leb 65 b && leb b 90) (leb 97 b && leb b 122) (and_left (leb 65 b) (leb b 90) (lt-leb 65 b (omega arith))) (and_left (leb 97 b) (leb b 122) (lt-leb 97 b (omega arith))), ne_eqb b 44 (λ e. omega arith))

@@ -142,8 +142,8 @@ module _ (f : TzString) (dst : Dst) (t in_cycle : ℤ) (phase : Phase) (instants
   last_to : instants.last ≤ℤ (t +ℤ (phase.until -ℤ in_cycle -ℤ pos 1))
   last_to = elim cut_last [ inl same ↦ omega (arith, ints) | inr cut ↦ omega (arith, ints, cut.1) ]
 
-  pub asked : Includes instants t
-  asked = record {
+  pub requested : Includes instants t
+  requested = record {
     from = elim cut_first [ inl same ↦ omega (arith, ints, is.not_after) | inr cut ↦ omega (arith, ints, cut.0) ];
     to = elim cut_last [ inl same ↦ omega (arith, ints, is.after) | inr cut ↦ omega (arith, ints, cut.0) ];
   }

@@ -18,30 +18,30 @@ use Rattle.zic_posix.proofs.EdgeLemmas.{ends_edge, comma_ends_edge, next_edge_ag
 -- ---- daylight parts
 
 -- how a daylight part tells its offset
-abbrev TellsOffset : ℤ → List ℕ → ℤ → Type 0
-TellsOffset standard text offset = ((text ≡ []) × (offset ≡ standard +ℤ pos 3600)) ⊎ SpellsOffset text offset
+abbrev GivesOffset : ℤ → List ℕ → ℤ → Type 0
+GivesOffset standard text offset = ((text ≡ []) × (offset ≡ standard +ℤ pos 3600)) ⊎ SpellsOffset text offset
 
-told_none : (standard : ℤ) (rest : List ℕ) → daylight_offset_at standard (44 ∷ rest) ≡ Some (standard +ℤ pos 3600, 44 ∷ rest)
+none_facts : (standard : ℤ) (rest : List ℕ) → daylight_offset_at standard (44 ∷ rest) ≡ Some (standard +ℤ pos 3600, 44 ∷ rest)
 unfolding daylight_offset_at
-told_none standard rest = refl
+none_facts standard rest = refl
 
-told_some : (standard : ℤ) (text : List ℕ) (b : ℕ) (more : List ℕ) → text ≡ b ∷ more → eqb b 44 ≡ false → daylight_offset_at standard text ≡ offset_at text
+some_facts : (standard : ℤ) (text : List ℕ) (b : ℕ) (more : List ℕ) → text ≡ b ∷ more → eqb b 44 ≡ false → daylight_offset_at standard text ≡ offset_at text
 unfolding daylight_offset_at
-told_some standard text b more e other = rw e (rw other refl)
+some_facts standard text b more e other = rw e (rw other refl)
 
-told_again : (standard offset : ℤ) (text rest : List ℕ) → TellsOffset standard text offset → daylight_offset_at standard (text ++ 44 ∷ rest) ≡ Some (offset, 44 ∷ rest)
-told_again standard offset text rest (inl none) = rw (none.0, none.1) (told_none standard rest)
-told_again standard offset text rest (inr some) =
+facts_again : (standard offset : ℤ) (text rest : List ℕ) → GivesOffset standard text offset → daylight_offset_at standard (text ++ 44 ∷ rest) ≡ Some (offset, 44 ∷ rest)
+facts_again standard offset text rest (inl none) = rw (none.0, none.1) (none_facts standard rest)
+facts_again standard offset text rest (inr some) =
     let first = offset_first text offset some in
-    told_some standard (text ++ 44 ∷ rest) first.0 (first.1 ++ 44 ∷ rest) (ap (λ (x : List ℕ). x ++ 44 ∷ rest) first.2) first.4
+    some_facts standard (text ++ 44 ∷ rest) first.0 (first.1 ++ 44 ∷ rest) (ap (λ (x : List ℕ). x ++ 44 ∷ rest) first.2) first.4
     ∙ offset_again text offset (44 ∷ rest) some (record { no_digit = refl; no_colon = refl })
 
-told_takes : (standard offset : ℤ) (text rest : List ℕ) → daylight_offset_at standard text ≡ Some (offset, rest) → (front : List ℕ) × (text ≡ front ++ rest) × TellsOffset standard front offset
+takes_facts : (standard offset : ℤ) (text rest : List ℕ) → daylight_offset_at standard text ≡ Some (offset, rest) → (front : List ℕ) × (text ≡ front ++ rest) × GivesOffset standard front offset
 unfolding daylight_offset_at
-told_takes standard offset [] rest e =
+takes_facts standard offset [] rest e =
     let t = offset_takes [] offset rest e in
     (t.front, t.parts, inr t.spells)
-told_takes standard offset (b ∷ text) rest e =
+takes_facts standard offset (b ∷ text) rest e =
     elim (branch (eqb b 44) (Some (standard +ℤ pos 3600, b ∷ text)) (offset_at (b ∷ text)) (Some (offset, rest)) e) [
       | inl comma ↦ (
           let p = some_is (standard +ℤ pos 3600, b ∷ text) (offset, rest) comma.1 in
@@ -50,9 +50,9 @@ told_takes standard offset (b ∷ text) rest e =
     ]
 
 -- after a name of a daylight part stands no letter
-told_first : (standard offset : ℤ) (text rest : List ℕ) → TellsOffset standard text offset → NotFirst is_letter (text ++ 44 ∷ rest)
-told_first standard offset text rest (inl none) = rw none.0 refl
-told_first standard offset text rest (inr some) =
+first_facts : (standard offset : ℤ) (text rest : List ℕ) → GivesOffset standard text offset → NotFirst is_letter (text ++ 44 ∷ rest)
+first_facts standard offset text rest (inl none) = rw none.0 refl
+first_facts standard offset text rest (inr some) =
     let first = offset_first text offset some in
     rw first.2 first.3
 
@@ -67,8 +67,8 @@ daylight_again version standard text dst spells =
     let start = spells.start in
     let stop = spells.stop in
     rw spells.parts (daylight_by version standard (spells.name ++ (offset ++ 44 ∷ (start ++ 44 ∷ stop))) (offset ++ 44 ∷ (start ++ 44 ∷ stop)) (44 ∷ (start ++ 44 ∷ stop)) (44 ∷ stop) [] dst
-    (name_again spells.name dst.name (offset ++ 44 ∷ (start ++ 44 ∷ stop)) spells.spells_name (told_first standard dst.offset offset (start ++ 44 ∷ stop) spells.spells_offset))
-    (told_again standard dst.offset offset (start ++ 44 ∷ stop) spells.spells_offset)
+    (name_again spells.name dst.name (offset ++ 44 ∷ (start ++ 44 ∷ stop)) spells.spells_name (first_facts standard dst.offset offset (start ++ 44 ∷ stop) spells.spells_offset))
+    (facts_again standard dst.offset offset (start ++ 44 ∷ stop) spells.spells_offset)
     (next_edge_again version start dst.start (44 ∷ stop) spells.spells_start (comma_ends_edge stop))
     (subst (λ (x : List ℕ). next_edge_at version (44 ∷ x) ≡ Some (dst.stop, [])) (append-nil stop) (next_edge_again version stop dst.stop [] spells.spells_stop ends_edge)))
 
@@ -76,7 +76,7 @@ daylight_made : (version : ℕ) (standard offset : ℤ) (text name a b c : List 
     → SpellsDaylight version standard text (record { name = name; offset = offset; start = start; stop = stop })
 daylight_made version standard offset text name a b c start stop known en eo es et =
     let n = name_takes text name a en in
-    let o = told_takes standard offset a b eo in
+    let o = takes_facts standard offset a b eo in
     let s = next_edge_takes version b start c known es in
     let t = next_edge_takes version c stop [] known et in
     record {
@@ -215,15 +215,15 @@ spells_one version text f g p q = some_is f g (sym (string_again version text f 
 name_limit : (text name : List ℕ) → SpellsName text name → IsName name
 name_limit text name spells = record { long = spells.long; bytes = name_bytes text name spells }
 
-told_limit : (standard offset : ℤ) (text : List ℕ) → TellsOffset standard text offset → (offset ≡ standard +ℤ pos 3600) ⊎ IsOffset offset
-told_limit standard offset text (inl none) = inl none.1
-told_limit standard offset text (inr some) = inr (offset_limit text offset some)
+limit_facts : (standard offset : ℤ) (text : List ℕ) → GivesOffset standard text offset → (offset ≡ standard +ℤ pos 3600) ⊎ IsOffset offset
+limit_facts standard offset text (inl none) = inl none.1
+limit_facts standard offset text (inr some) = inr (offset_limit text offset some)
 
 rest_limit : (version : ℕ) (standard : ℤ) (rest : List ℕ) (dst : Option Dst) → MatchOption dst (rest ≡ []) (SpellsDaylight version standard rest) → MatchOption dst (Unit {0}) (IsDaylight standard)
 rest_limit version standard rest None spells = tt
 rest_limit version standard rest (Some dst) spells = record {
   name = name_limit spells.name dst.name spells.spells_name;
-  offset = told_limit standard dst.offset spells.offset spells.spells_offset;
+  offset = limit_facts standard dst.offset spells.offset spells.spells_offset;
   start = edge_limit version spells.start dst.start spells.spells_start;
   stop = edge_limit version spells.stop dst.stop spells.spells_stop;
 }

@@ -5,13 +5,16 @@ use Rattle.zic_posix.specs.declared.footer.Dst.{Dst}
 use Rattle.zic_posix.specs.declared.footer.Edge.{Edge}
 use Rattle.zic_posix.specs.Footer.{TzString}
 use Rattle.zic_posix.specs.Grammar.{SpellsNumber, SpellsClock, SpellsTime, SpellsEdge, SpellsDaylight, Spells}
+use Rattle.zic_posix.proofs.NumberLemmas.{number_by, number_has}
 
 hours_wider : (text : List ℕ) (n : ℕ) → SpellsNumber 2 0 24 text n → SpellsNumber 3 0 167 text n
 hours_wider text n spells = record {
-  some = spells.some;
-  short = omega (arith, spells.short);
-  digits = spells.digits;
-  value = spells.value;
+  value = (let has = number_has 2 text n spells.value in number_by 3 text n (record {
+    some = has.some;
+    short = omega (arith, has.short);
+    digits = has.digits;
+    value = has.value;
+  }));
   at_least = spells.at_least;
   at_most = omega (arith, spells.at_most);
 }
@@ -38,7 +41,7 @@ edge_wider text edge spells = record {
   spells_day = spells.spells_day;
   form = elim spells.form [
     | inl usual ↦ inl usual
-    | inr told ↦ inr (told.0, told.1, time_wider told.0 edge.time told.2)
+    | inr facts ↦ inr (facts.0, facts.1, time_wider facts.0 edge.time facts.2)
   ];
 }
 

@@ -1,10 +1,10 @@
 -- The grammar of POSIX TZ strings: POSIX.1-2017, TZ; RFC 9636, 3.3.1, for the wider times of version 3. Own choices: how many digits a
 -- number may have (hours, minutes, seconds and a month two, hours of version 3 and a day three, week and weekday one), and that a
 -- daylight part without edges is refused, since POSIX leaves its meaning open.
-use Rattle.std.specs.Prelude.{◌≡◌, ℕ, ◌+◌, ◌-◌, ◌*◌, ◌<◌, ◌≤◌, ℤ, pos, neg_ℤ, ◌+ℤ◌, Bool, ◌||◌, ◌&&◌, nat_le, List, [], ◌∷◌, ◌++◌, ◌⊎◌, length, unsigned_abs, IsTrue, All}
+use Rattle.std.specs.Prelude.{◌≡◌, ℕ, ◌+◌, ◌*◌, ◌<◌, ◌≤◌, ℤ, pos, neg_ℤ, ◌+ℤ◌, Bool, ◌||◌, ◌&&◌, nat_le, List, [], ◌∷◌, ◌++◌, ◌⊎◌, Some, length, unsigned_abs, IsTrue, All}
 use Rattle.std.specs.Option.{MatchOption}
 use Rattle.zic_base.specs.Byte.{is_abbreviation_byte}
-use Rattle.zic_base.specs.Number.{decimal_value}
+use Rattle.zic_base.specs.Number.{number}
 use Rattle.zic_posix.specs.declared.footer.DayRule.{DayRule}
 use Rattle.zic_posix.specs.declared.footer.DayRule.TheVariants.{J, N, M}
 use Rattle.zic_posix.specs.declared.footer.Dst.{Dst}
@@ -16,10 +16,6 @@ use Rattle.zic_posix.specs.Footer.{TzString, version_of}
 abbrev pub is_letter : ℕ → Bool
 is_letter b = (nat_le 65 b && nat_le b 90) || (nat_le 97 b && nat_le b 122)
 
--- an ASCII digit
-abbrev pub is_digit : ℕ → Bool
-is_digit b = nat_le 48 b && nat_le b 57
-
 -- a name: three letters or more, or three or more letters, digits, `+` and `-` between `<` and `>`. POSIX TZ
 pub record SpellsName (text name : List ℕ) : Type 0 where
   pub long : SHORTEST_NAME ≤ length name
@@ -28,10 +24,7 @@ pub record SpellsName (text name : List ℕ) : Type 0 where
 
 -- from one to `longest` digits for a number from `least` to `most`. POSIX TZ
 pub record SpellsNumber (longest least most : ℕ) (text : List ℕ) (n : ℕ) : Type 0 where
-  pub some : 1 ≤ length text
-  pub short : length text ≤ longest
-  pub digits : All (λ b. IsTrue (is_digit b)) text
-  pub value : n ≡ decimal_value text
+  pub value : number longest text ≡ Some n
   pub at_least : least ≤ n
   pub at_most : n ≤ most
 

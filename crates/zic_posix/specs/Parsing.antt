@@ -11,7 +11,7 @@ abbrev pub refusal_of : ParseStop → Option (Unit {0})
 refusal_of stop.BadFooter = Some tt
 refusal_of stop.Memory = None
 
--- a name that isn't kept without memory
+-- a name that isn't stored without memory
 abbrev pub IsLong : List ℕ → Type 0
 IsLong name = LONGEST_ABBREVIATION < length name
 

@@ -1,5 +1,5 @@
 //! POSIX TZ strings, as footers of TZif files have them: from text, as text, and what they mean at
-//! every instant. The rows of `witness/rows` test it.
+//! every instant.
 #![tactic(auto)]
 
 mod footer;

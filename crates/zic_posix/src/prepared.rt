@@ -71,7 +71,7 @@ impl PreparedFooter {
     /// Returns the state at an instant, in seconds since 1970-01-01 00:00 UT, and the instants
     /// round it up to the next edges, as `Footer::span` has them.
     pub fn span(&self, t: i64) -> StateSpan<'_>
-        ensures asked { Includes result.instants t }
+        ensures requested { Includes result.instants t }
         ensures means { MeansThroughout self.now result.instants (shown result.state) }
         ensures edges { AreBetween (HasEdgeAt self.now) result.instants }
     {

@@ -35,7 +35,7 @@ impl Footer {
     /// round it up to the next edges, at which it is the same: from the last edge that isn't after
     /// it to just before the first one after it, or all instants where there is no daylight part.
     pub fn span(&self, t: i64) -> StateSpan<'_>
-        ensures asked { Includes result.instants t }
+        ensures requested { Includes result.instants t }
         ensures means { MeansThroughout self.now result.instants (shown result.state) }
         ensures edges { AreBetween (HasEdgeAt self.now) result.instants }
     {
@@ -46,7 +46,7 @@ impl Footer {
     /// of a table of the years' edges if there is one.
     pub(crate) fn span_by(&self, years: Option<&YearTable>, t: i64) -> StateSpan<'_>
         requires { IfSome years (λ table. IsTableOf self.now table.now) }
-        ensures asked { Includes result.instants t }
+        ensures requested { Includes result.instants t }
         ensures means { MeansThroughout self.now result.instants (shown result.state) }
         ensures edges { AreBetween (HasEdgeAt self.now) result.instants }
     {

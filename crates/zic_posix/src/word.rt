@@ -5,7 +5,8 @@ ghost use Rattle.std.specs.Prelude.{◌≡◌, ◌≤◌, IsTrue, All, length, I
 ghost use Rattle.std.specs.List.{prefix_len};
 ghost use Rattle.zic_base.specs.Byte.{is_abbreviation_byte};
 ghost use Rattle.zic_base.specs.Number.{decimal_value};
-ghost use Rattle.zic_posix.specs.Grammar.{is_letter, is_digit};
+ghost use Rattle.std.specs.Char.{is_ascii_digit};
+ghost use Rattle.zic_posix.specs.Grammar.{is_letter};
 ghost use Rattle.zic_posix.specs.code.Reading.{Reads, after, plain_name_at, quoted_name_at, name_at, number_at};
 
 use crate::limit::SHORTEST_NAME;
@@ -76,7 +77,7 @@ pub(crate) fn number_at(longest: usize, least: u16, most: u16, text: &[u8]) -> O
 /// Returns the number that at most three digits stand for.
 fn decimal(digits: &[u8]) -> u16
     requires short { length digits.now ≤ 3 }
-    requires digits { All (λ b. IsTrue (is_digit b)) digits.now }
+    requires digits { All (λ b. IsTrue (is_ascii_digit b)) digits.now }
     ensures { result ≡ decimal_value digits.now }
 {
     let mut number = 0;
@@ -106,7 +107,7 @@ fn abbreviation_bytes(text: &[u8]) -> usize
 
 /// Counts the digits at the start.
 fn digits(text: &[u8]) -> usize
-    ensures count { result ≡ prefix_len is_digit text.now }
+    ensures count { result ≡ prefix_len is_ascii_digit text.now }
     ensures within { result ≤ length text.now }
 {
     text.iter().take_while(|b| b.is_ascii_digit()).count()

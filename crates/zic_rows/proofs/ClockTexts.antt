@@ -34,7 +34,7 @@ clock_text_at n h = below 60 n tt h
 two_of : (l : List ℕ) (n : ℕ) → take 3 l ≡ colon_after n → take 2 l ≡ two_digits n
 two_of l n is = sym (take-take 2 3 l (omega arith)) ∙ ap (λ (m : List ℕ). take 2 m) is
 
--- three parts, each written over what is behind the three bytes of the one before it
+-- three parts, each written over what is after the three bytes of the one before it
 pub clock_written : (text a b c first second third : List ℕ) (at s : ℕ) → at + 16 ≤ length text → length first ≡ length text → length second ≡ length text
     → take (at + 8) first ≡ take at text ++ a → take (at + 3 + 8) second ≡ take (at + 3) first ++ b → take (at + 6 + 8) third ≡ take (at + 6) second ++ c
     → take 3 a ≡ colon_after (s / 3600) → take 3 b ≡ colon_after (s / 60 % 60) → take 3 c ≡ colon_after (s % 60)

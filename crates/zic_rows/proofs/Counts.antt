@@ -6,13 +6,15 @@ use Rattle.std.specs.Int.{w128}
 use Rattle.std.specs.Fmt.{signed_decimal}
 use Rattle.zic_base.specs.State.{Shown}
 use Rattle.zic_base.specs.Digits.{clock_text}
+use Rattle.zic_plan.specs.declared.layout.Style.{Style}
+use Rattle.zic_plan.specs.declared.layout.Style.TheVariants as styles
 use Rattle.zic_plan.specs.declared.layout.Unit.{Unit}
 use Rattle.zic_plan.specs.declared.layout.Unit.TheVariants as unit
 use Rattle.zic_rows.specs.Instant.{IsRowInstant, instant_of}
-use Rattle.zic_rows.specs.Row.{rest_text, row_text, state_text}
-use Rattle.zic_rows.specs.code.Kept.{kept_date}
+use Rattle.zic_rows.specs.Row.{rest_text, row_text, styled_text}
+use Rattle.zic_rows.specs.code.Cached.{cached_date}
 use Rattle.zic_rows.specs.Count.{count_of, counted_rest_text, counted_row_text, fraction_of, fraction_text, second_of, timed_rest_text}
-use Rattle.zic_rows.proofs.RowTexts.{local_kept}
+use Rattle.zic_rows.proofs.RowTexts.{local_cached}
 
 -- the whole second of a count of seconds
 pub second_one : (t : ℤ) → second_of unit.Second t ≡ t
@@ -36,10 +38,10 @@ counted_seconds name t s = rw (second_one t) refl
 
 -- a row of a count, appended in its parts
 pub counted_joined : (old named parted numbered new name digits : List ℕ) (u : Unit) (count : ℤ) (s : Shown) → named ≡ old ++ name → parted ≡ named ++ 44 ∷ []
-    → digits ≡ signed_decimal count → numbered ≡ parted ++ digits → new ≡ numbered ++ counted_rest_text u count s → new ≡ old ++ counted_row_text u name count s
+    → digits ≡ signed_decimal count → numbered ≡ parted ++ digits → new ≡ numbered ++ counted_rest_text styles.Fields u count s → new ≡ old ++ counted_row_text u name count s
 unfolding counted_row_text
 counted_joined old named parted numbered new name digits u count s with_name with_comma are with_digits with_rest =
-    let R = counted_rest_text u count s in
+    let R = counted_rest_text styles.Fields u count s in
     let D = signed_decimal count in
     let all : new ≡ (((old ++ name) ++ 44 ∷ []) ++ D) ++ R =
     with_rest ∙ ap (λ (l : List ℕ). l ++ R) (with_digits ∙ ap (λ (l : List ℕ). parted ++ l) are
@@ -47,17 +49,18 @@ counted_joined old named parted numbered new name digits u count s with_name wit
     all ∙ simp append_assoc
 
 -- the rest of a row of a count, by the date that is kept
-pub counted_rest_kept : (u : Unit) (count : ℤ) (s : Shown) (seconds day : ℕ) → pos seconds ≡ second_of u count +ℤ s.offset +ℤ pos (719_162 * 86_400) → day ≡ seconds / 86_400
+pub counted_rest_cached : (style : Style) (u : Unit) (count : ℤ) (s : Shown) (seconds day : ℕ) → pos seconds ≡ second_of u count +ℤ s.offset +ℤ pos (719_162 * 86_400) → day ≡ seconds / 86_400
     → let second = seconds % 86_400 in
-    kept_date day ++ (clock_text second ++ (fraction_text u (fraction_of u count) ++ state_text s)) ≡ counted_rest_text u count s
+    cached_date day ++ (clock_text second ++ (fraction_text u (fraction_of u count) ++ styled_text style s)) ≡ counted_rest_text style u count s
 unfolding counted_rest_text timed_rest_text
-counted_rest_kept u count s seconds day counted of_day = local_kept (second_of u count) s.offset seconds day (fraction_text u (fraction_of u count) ++ state_text s) counted of_day
+counted_rest_cached style u count s seconds day counted of_day =
+    local_cached (second_of u count) s.offset seconds day (fraction_text u (fraction_of u count) ++ styled_text style s) counted of_day
 
 -- what follows a count, by the date that is kept
-pub timed_rest_kept : (u : Unit) (t : ℤ) (n : ℕ) (s : Shown) (seconds day : ℕ) → pos seconds ≡ t +ℤ s.offset +ℤ pos (719_162 * 86_400) → day ≡ seconds / 86_400
-    → kept_date day ++ (clock_text (seconds % 86_400) ++ (fraction_text u n ++ state_text s)) ≡ timed_rest_text u t n s
+pub timed_rest_cached : (style : Style) (u : Unit) (t : ℤ) (n : ℕ) (s : Shown) (seconds day : ℕ) → pos seconds ≡ t +ℤ s.offset +ℤ pos (719_162 * 86_400) → day ≡ seconds / 86_400
+    → cached_date day ++ (clock_text (seconds % 86_400) ++ (fraction_text u n ++ styled_text style s)) ≡ timed_rest_text style u t n s
 unfolding timed_rest_text
-timed_rest_kept u t n s seconds day counted of_day = local_kept t s.offset seconds day (fraction_text u n ++ state_text s) counted of_day
+timed_rest_cached style u t n s seconds day counted of_day = local_cached t s.offset seconds day (fraction_text u n ++ styled_text style s) counted of_day
 
 -- a row, appended in its parts
 pub timed_joined : (old started dated timed parted new start date clock fraction text rest : List ℕ) → started ≡ old ++ start → dated ≡ started ++ date → timed ≡ dated ++ clock
@@ -67,11 +70,11 @@ timed_joined old started dated timed parted new start date clock fraction text r
     all ∙ (simp append_assoc) ∙ ap (λ (l : List ℕ). old ++ (start ++ l)) is_rest
 
 -- the rest of a row, appended in its parts
-pub rest_appended : (old dated timed parted new octets date clock fraction text : List ℕ) (len : ℕ) → take 12 octets ≡ date → take len (drop 20 octets) ≡ text
-    → dated ≡ old ++ take 12 octets → timed ≡ dated ++ clock → parted ≡ timed ++ fraction → new ≡ parted ++ take len (drop 20 octets)
+pub rest_appended : (old dated timed parted new octets date clock fraction text : List ℕ) → take 12 octets ≡ date
+    → dated ≡ old ++ take 12 octets → timed ≡ dated ++ clock → parted ≡ timed ++ fraction → new ≡ parted ++ text
     → new ≡ old ++ (date ++ (clock ++ (fraction ++ text)))
-rest_appended old dated timed parted new octets date clock fraction text len is_date is_text with_date with_clock with_fraction with_text =
-    let all : new ≡ (((old ++ date) ++ clock) ++ fraction) ++ text = rw (with_text, with_fraction, with_clock, with_date, is_date, is_text) refl in
+rest_appended old dated timed parted new octets date clock fraction text is_date with_date with_clock with_fraction with_text =
+    let all : new ≡ (((old ++ date) ++ clock) ++ fraction) ++ text = rw (with_text, with_fraction, with_clock, with_date, is_date) refl in
     all ∙ simp append_assoc
 
 -- a second that a row may have fits

@@ -35,16 +35,16 @@ mask_part w n keep clear short =
 -- ---- bytes, against '0'
 
 -- what is so of the bytes below this one
-abbrev are_told : ℕ → Bool
-are_told zero = true
-are_told (suc n) = (ltb (bit_xor n 48) 256 && (not (ltb (bit_xor n 48) 10) || (is_ascii_digit n && eqb (bit_xor n 48) (n - 48)))) && are_told n
+abbrev are_digits_in_lanes : ℕ → Bool
+are_digits_in_lanes zero = true
+are_digits_in_lanes (suc n) = (ltb (bit_xor n 48) 256 && (not (ltb (bit_xor n 48) 10) || (is_ascii_digit n && eqb (bit_xor n 48) (n - 48)))) && are_digits_in_lanes n
 
-told_below : (n k : ℕ) → T (are_told n) → k < n → T (ltb (bit_xor k 48) 256 && (not (ltb (bit_xor k 48) 10) || (is_ascii_digit k && eqb (bit_xor k 48) (k - 48))))
-told_below zero k all h = absurd (omega arith)
-told_below (suc n) k all h =
+lane_below : (n k : ℕ) → T (are_digits_in_lanes n) → k < n → T (ltb (bit_xor k 48) 256 && (not (ltb (bit_xor k 48) 10) || (is_ascii_digit k && eqb (bit_xor k 48) (k - 48))))
+lane_below zero k all h = absurd (omega arith)
+lane_below (suc n) k all h =
     elim (eq-zero-or-pos (n - k)) [
-      | inl none ↦ let last : k ≡ n = omega arith in rw last (and_l _ (are_told n) all)
-      | inr some ↦ told_below n k (and_r _ (are_told n) all) (omega arith)
+      | inl none ↦ let last : k ≡ n = omega arith in rw last (and_l _ (are_digits_in_lanes n) all)
+      | inr some ↦ lane_below n k (and_r _ (are_digits_in_lanes n) all) (omega arith)
     ]
 
 is_true : (b : Bool) → T b → b ≡ true
@@ -53,28 +53,28 @@ is_true false t = absurd t
 
 -- a byte that differs from '0' stays a byte, and is a digit where the difference is below ten
 fits : (x : ℕ) → x < 256 → bit_xor x 48 < 256
-fits x byte = ltb-true (bit_xor x 48) 256 (is_true _ (and_l _ _ (told_below 256 x tt byte)))
+fits x byte = ltb-true (bit_xor x 48) 256 (is_true _ (and_l _ _ (lane_below 256 x tt byte)))
 
 digit : (x : ℕ) → x < 256 → bit_xor x 48 < 10 → (is_ascii_digit x ≡ true) × (bit_xor x 48 ≡ x - 48)
 digit x byte low =
-    let told = and_r (ltb (bit_xor x 48) 256) _ (told_below 256 x tt byte) in
+    let facts = and_r (ltb (bit_xor x 48) 256) _ (lane_below 256 x tt byte) in
     let ten : ltb (bit_xor x 48) 10 ≡ true = grind (arith, nat_tests, low) in
-    let both : T (is_ascii_digit x && eqb (bit_xor x 48) (x - 48)) = rw ten at told in
+    let both : T (is_ascii_digit x && eqb (bit_xor x 48) (x - 48)) = rw ten at facts in
     (is_true _ (and_l _ _ both), eqb-true (bit_xor x 48) (x - 48) (is_true _ (and_r (is_ascii_digit x) _ both)))
 
 -- ---- lanes under a mask
 
-kept : (xs : List ℕ) (n : ℕ) → length xs ≡ n → Each1 (λ x. x < 256) xs
+same_length : (xs : List ℕ) (n : ℕ) → length xs ≡ n → Each1 (λ x. x < 256) xs
     → zip2 bit_and (zip2 bit_xor xs (replicate n 48)) (replicate n 255) ≡ map (λ x. bit_xor x 48) xs
-kept [] zero long bytes = refl
-kept [] (suc n) long bytes = absurd (omega (arith, long))
-kept (x ∷ xs) zero long bytes = absurd (omega (arith, long))
-kept (x ∷ xs) (suc n) long bytes =
-    ap₂ (λ (a : ℕ) (t : List ℕ). a ∷ t) (and_mask (bit_xor x 48) 8 ∙ omega (arith, fits x bytes.0)) (kept xs n (omega (arith, long)) bytes.1)
+same_length [] zero long bytes = refl
+same_length [] (suc n) long bytes = absurd (omega (arith, long))
+same_length (x ∷ xs) zero long bytes = absurd (omega (arith, long))
+same_length (x ∷ xs) (suc n) long bytes =
+    ap₂ (λ (a : ℕ) (t : List ℕ). a ∷ t) (and_mask (bit_xor x 48) 8 ∙ omega (arith, fits x bytes.0)) (same_length xs n (omega (arith, long)) bytes.1)
 
 pub masked : (xs : List ℕ) (m n k : ℕ) → length xs ≡ k → k ≡ m + n → Each1 (λ x. x < 256) xs
     → zip2 bit_and (zip2 bit_xor xs (replicate k 48)) (replicate m 0 ++ replicate n 255) ≡ replicate m 0 ++ map (λ x. bit_xor x 48) (drop m xs)
-masked xs zero n k long sum bytes = let same : k ≡ n = omega (arith, sum) in rw same (kept xs n (long ∙ same) bytes)
+masked xs zero n k long sum bytes = let same : k ≡ n = omega (arith, sum) in rw same (same_length xs n (long ∙ same) bytes)
 masked [] (suc m) n k long sum bytes = absurd (omega (arith, long, sum))
 masked (x ∷ xs) (suc m) n zero long sum bytes = absurd (omega (arith, sum))
 masked (x ∷ xs) (suc m) n (suc k) long sum bytes =
@@ -103,12 +103,12 @@ zeros_first : (m : ℕ) (ys : List ℕ) → fold (λ n d. 10 * n + d) 0 (replica
 zeros_first zero ys = refl
 zeros_first (suc m) ys = zeros_first m ys
 
-digits_told : (a : ℕ) (xs : List ℕ) → Each1 (λ x. x < 256) xs → Each1 (λ x. x < 10) (map (λ x. bit_xor x 48) xs)
+digits_are : (a : ℕ) (xs : List ℕ) → Each1 (λ x. x < 256) xs → Each1 (λ x. x < 10) (map (λ x. bit_xor x 48) xs)
     → (list_all is_ascii_digit xs ≡ true) × (fold (λ n d. 10 * n + d) a (map (λ x. bit_xor x 48) xs) ≡ fold (λ n d. 10 * n + (d - 48)) a xs)
-digits_told a [] bytes low = (refl, refl)
-digits_told a (x ∷ xs) bytes low =
+digits_are a [] bytes low = (refl, refl)
+digits_are a (x ∷ xs) bytes low =
     let here = digit x bytes.0 low.0 in
-    let rest = digits_told (10 * a + bit_xor x 48) xs bytes.1 low.1 in
+    let rest = digits_are (10 * a + bit_xor x 48) xs bytes.1 low.1 in
     (rw here.0 rest.0, rest.1 ∙ ap (λ (d : ℕ). fold (λ n e. 10 * n + (e - 48)) (10 * a + d) xs) here.1)
 
 -- the number of a text, in its lanes
@@ -117,11 +117,11 @@ pub number_of_lanes : (text : List ℕ) → 1 ≤ length text → length text �
 unfolding number
 number_of_lanes text some few bytes low =
     let m = 16 - length text in
-    let told = digits_told 0 text bytes (each_after m _ low) in
-    let value = zeros_first m (map (λ x. bit_xor x 48) text) ∙ told.1 in
+    let facts = digits_are 0 text bytes (each_after m _ low) in
+    let value = zeros_first m (map (λ x. bit_xor x 48) text) ∙ facts.1 in
     let one : nat_le 1 (length text) ≡ true = grind (arith, nat_tests, some) in
     let two : nat_le (length text) 16 ≡ true = grind (arith, nat_tests, few) in
-    rw (one, two, told.0) (ap Some (sym value))
+    rw (one, two, facts.0) (ap Some (sym value))
 
 -- sums of digits fit
 pub sums_fit : (xs weights : List ℕ) → Each1 (λ x. x < 10) xs → all_below 65 weights ≡ true → T (all_below 32768 (pair_sums (products xs weights)))

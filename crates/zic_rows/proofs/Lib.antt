@@ -12,3 +12,4 @@ pub mod DayTexts
 pub mod ClockTexts
 pub mod DateTimes
 pub mod LocalTimes
+pub mod IsoTexts

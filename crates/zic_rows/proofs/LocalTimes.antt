@@ -13,7 +13,7 @@ use Rattle.zic_rows.specs.DateTime.{civil_second}
 use Rattle.zic_rows.specs.Local.{IsLocalSecond, civil_of, day_at, local_time, second_at}
 use Rattle.zic_rows.specs.Row.{civil_text, date_text}
 use Rattle.zic_rows.specs.code.Civils.{IsCivil}
-use Rattle.zic_rows.specs.code.Kept.{kept_date}
+use Rattle.zic_rows.specs.code.Cached.{cached_date}
 use Rattle.zic_rows.proofs.RowTexts.{day_at-counted, second_at-counted}
 
 -- a civil time of these years is a second of them
@@ -36,8 +36,8 @@ second_counted unit.Nanosecond (negsuc a) second n e lt = omega (arith, ints)
 
 -- a comma and a local time, in the parts in which they are appended
 pub local_parts : (u : Unit) (count : ℤ) (seconds : ℕ) → pos seconds ≡ second_of u count +ℤ pos (719_162 * 86_400)
-    → kept_date (seconds / 86_400) ++ (clock_text (seconds % 86_400) ++ fraction_text u (fraction_of u count)) ≡ 44 ∷ local_count_text u count
-unfolding local_count_text local_time kept_date
+    → cached_date (seconds / 86_400) ++ (clock_text (seconds % 86_400) ++ fraction_text u (fraction_of u count)) ≡ 44 ∷ local_count_text u count
+unfolding local_count_text local_time cached_date
 local_parts u count seconds counted =
     let t = second_of u count in
     let more = fraction_text u (fraction_of u count) in

@@ -16,7 +16,7 @@ use Rattle.zic_base.specs.State.{Shown, shown}
 use Rattle.zic_base.specs.declared.state.State.{State}
 use Rattle.zic_rows.specs.Local.{day_at, second_at, local_time, civil_of}
 use Rattle.zic_rows.specs.Row.{four_digits, date_text, civil_text, local_text, state_text, rest_text, row_text, IsRowState}
-use Rattle.zic_rows.specs.code.Kept.{kept_date, before_name, IsRestOf}
+use Rattle.zic_rows.specs.code.Cached.{cached_date, before_name, IsRestOf}
 use Rattle.zic_rows.proofs.LocalTime.{on_day}
 
 -- a date
@@ -48,8 +48,8 @@ second_at-counted (negsuc a) seconds e = omega (arith, ints)
 -- what follows the instant, in the parts that are kept
 pub rest_text-parts : (instant : ℤ) (shown : Shown) (seconds : ℕ) → instant +ℤ shown.offset +ℤ pos (719_162 * 86_400) ≡ pos seconds
     → let second = seconds % 86_400 in
-    rest_text instant shown ≡ kept_date (seconds / 86_400) ++ (clock_text second ++ state_text shown)
-unfolding rest_text local_text local_time kept_date
+    rest_text instant shown ≡ cached_date (seconds / 86_400) ++ (clock_text second ++ state_text shown)
+unfolding rest_text local_text local_time cached_date
 rest_text-parts instant shown seconds e =
     let t = instant +ℤ shown.offset in
     let second = seconds % 86_400 in
@@ -59,12 +59,12 @@ rest_text-parts instant shown seconds e =
     ap (λ (d : ℤ). P d (second_at t)) (day_at-counted t seconds e) ∙ ap (λ (s : ℕ). P day s) (second_at-counted t seconds e) ∙ here
 
 -- the date of a day, from any civil time of it
-pub kept_date-octets : (day : ℕ) (x : ℤ) (c : Civil) (y : ℕ) → day < 3_652_059 → x ≡ pos day -ℤ pos 719_162 → IsOnDay x c → IsSupportedYear c.year → c.year ≡ pos y
-    → kept_date day
+pub cached_date-octets : (day : ℕ) (x : ℤ) (c : Civil) (y : ℕ) → day < 3_652_059 → x ≡ pos day -ℤ pos 719_162 → IsOnDay x c → IsSupportedYear c.year → c.year ≡ pos y
+    → cached_date day
     ≡ 44 ∷ (48 + y / 100 / 10) ∷ (48 + y / 100 % 10) ∷ (48 + y % 100 / 10) ∷ (48 + y % 100 % 10)
     ∷ 45 ∷ (48 + c.month / 10) ∷ (48 + c.month % 10) ∷ 45 ∷ (48 + c.day / 10) ∷ (48 + c.day % 10) ∷ 84 ∷ []
-unfolding kept_date
-kept_date-octets day x c y lt e is year e₂ =
+unfolding cached_date
+cached_date-octets day x c y lt e is year e₂ =
     let d = pos day -ℤ pos 719_162 in
     let on : IsOnDay d c = (is.0, is.1 ∙ e) in
     let supported : IsSupportedDay d = (omega (arith, ints), omega (arith, ints)) in
@@ -101,12 +101,12 @@ state_written state octets front name n may long front_is front_long e e₂ =
     ∙ append_assoc B state.name.now (10 ∷ []) ∙ before_name-state (shown state)
 
 -- the rest of a row, by the date that is kept
-pub rest_kept : (instant : ℤ) (s : Shown) (seconds day : ℕ) → pos seconds ≡ instant +ℤ s.offset +ℤ pos (719_162 * 86_400) → day ≡ seconds / 86_400
+pub rest_cached : (instant : ℤ) (s : Shown) (seconds day : ℕ) → pos seconds ≡ instant +ℤ s.offset +ℤ pos (719_162 * 86_400) → day ≡ seconds / 86_400
     → let second = seconds % 86_400 in
-    kept_date day ++ (clock_text second ++ state_text s) ≡ rest_text instant s
-rest_kept instant s seconds day counted of_day =
+    cached_date day ++ (clock_text second ++ state_text s) ≡ rest_text instant s
+rest_cached instant s seconds day counted of_day =
     let second = seconds % 86_400 in
-    ap (λ (d : ℕ). kept_date d ++ (clock_text second ++ state_text s)) of_day ∙ sym (rest_text-parts instant s seconds (sym counted))
+    ap (λ (d : ℕ). cached_date d ++ (clock_text second ++ state_text s)) of_day ∙ sym (rest_text-parts instant s seconds (sym counted))
 
 -- the date that stands before a text which was written after it
 pub date_before : (old new date : List ℕ) → take 20 new ≡ take 20 old → take 12 old ≡ date → take 12 new ≡ date
@@ -114,7 +114,7 @@ date_before old new date same is =
     sym (take-take 12 20 new (omega arith)) ∙ ap (take 12) same ∙ take-take 12 20 old (omega arith) ∙ is
 
 -- the rest of rows of a day and a state
-pub rest_of : (day : ℕ) (text : Shown) (state : Shown) (octets : List ℕ) (len : ℕ) → state ≡ text → IsRowState text → take 12 octets ≡ kept_date day
+pub rest_of : (day : ℕ) (text : Shown) (state : Shown) (octets : List ℕ) (len : ℕ) → state ≡ text → IsRowState text → take 12 octets ≡ cached_date day
     → take len (drop 20 octets) ≡ state_text text → len ≤ 32 → IsRestOf day state octets len
 rest_of day text state octets len is may date written fits = record {
   may = subst IsRowState (sym is) may;
@@ -138,21 +138,21 @@ rest_copied old octets date clock text start len at long is_date eight is_text =
     ∙ take-append-add (old ++ (date ++ clock)) (drop 20 octets) len ∙ ap (λ (l : List ℕ). (old ++ (date ++ clock)) ++ l) is_text ∙ simp append_assoc
 
 -- the same, as a slice of what was appended is written back
-pub rest_written : (old octets copied given date clock text behind : List ℕ) (start len size : ℕ) → start ≡ length old → length octets ≡ 52 → take 12 octets ≡ date → length clock ≡ 8
+pub rest_written : (old octets copied given date clock text after_text : List ℕ) (start len size : ℕ) → start ≡ length old → length octets ≡ 52 → take 12 octets ≡ date → length clock ≡ 8
     → take len (drop 20 octets) ≡ text → len ≤ 32 → copied ≡ old ++ octets → given ≡ clock → size ≡ start + 52
-    → take (start + 20 + len) (take size (put_mid (start + 12) (start + 20 - (start + 12)) copied given ++ behind)) ≡ old ++ (date ++ (clock ++ text))
-rest_written old octets copied given date clock text behind start len size at long is_date eight is_text fits with_octets with_clock room =
+    → take (start + 20 + len) (take size (put_mid (start + 12) (start + 20 - (start + 12)) copied given ++ after_text)) ≡ old ++ (date ++ (clock ++ text))
+rest_written old octets copied given date clock text after_text start len size at long is_date eight is_text fits with_octets with_clock room =
     let written = put_mid (start + 12) (start + 20 - (start + 12)) copied given in
     let of_time : start + 20 - (start + 12) ≡ 8 = omega arith in
     let same : written ≡ put_mid (start + 12) 8 (old ++ octets) clock =
     ap₂ (λ (xs ys : List ℕ). put_mid (start + 12) (start + 20 - (start + 12)) xs ys) with_octets with_clock
     ∙ ap (λ (k : ℕ). put_mid (start + 12) k (old ++ octets) clock) of_time in
     let all : length (old ++ octets) ≡ start + 52 = omega (arith, length-append old octets, at, long) in
-    let behind_date = length-take-le 8 (drop (start + 12) (old ++ octets)) (omega (arith, all, length-drop (start + 12) (old ++ octets))) in
+    let after_date = length-take-le 8 (drop (start + 12) (old ++ octets)) (omega (arith, all, length-drop (start + 12) (old ++ octets))) in
     let size_of : length written ≡ start + 52 =
-    ap length same ∙ same_len_mid (start + 12) 8 (old ++ octets) clock (omega (arith, eight, behind_date)) ∙ all in
-    take-take (start + 20 + len) size (written ++ behind) (omega (arith, fits, room))
-    ∙ take-append-le (start + 20 + len) written behind (omega (arith, fits, size_of))
+    ap length same ∙ same_len_mid (start + 12) 8 (old ++ octets) clock (omega (arith, eight, after_date)) ∙ all in
+    take-take (start + 20 + len) size (written ++ after_text) (omega (arith, fits, room))
+    ∙ take-append-le (start + 20 + len) written after_text (omega (arith, fits, size_of))
     ∙ ap (take (start + 20 + len)) same ∙ rest_copied old octets date clock text start len at long is_date eight is_text
 
 -- a row, appended in its parts
@@ -168,15 +168,15 @@ row_joined old named parted numbered new name digits instant s with_name with_co
     all ∙ simp append_assoc
 
 -- the local time of an instant, by the date that is kept, and what follows it
-pub local_kept : (instant offset : ℤ) (seconds day : ℕ) (more : List ℕ) → pos seconds ≡ instant +ℤ offset +ℤ pos (719_162 * 86_400) → day ≡ seconds / 86_400
+pub local_cached : (instant offset : ℤ) (seconds day : ℕ) (more : List ℕ) → pos seconds ≡ instant +ℤ offset +ℤ pos (719_162 * 86_400) → day ≡ seconds / 86_400
     → let second = seconds % 86_400 in
-    kept_date day ++ (clock_text second ++ more) ≡ 44 ∷ (local_text instant offset ++ more)
-unfolding local_text local_time kept_date
-local_kept instant offset seconds day more counted of_day =
+    cached_date day ++ (clock_text second ++ more) ≡ 44 ∷ (local_text instant offset ++ more)
+unfolding local_text local_time cached_date
+local_cached instant offset seconds day more counted of_day =
     let t = instant +ℤ offset in
     let second = seconds % 86_400 in
     let at = pos (seconds / 86_400) -ℤ pos 719_162 in
     let P : ℤ → ℕ → List ℕ = λ d s. 44 ∷ (civil_text (civil_of d s) ++ more) in
     let here : P at second ≡ 44 ∷ (date_text (civil_of at 0) ++ 84 ∷ []) ++ (clock_text second ++ more) = simp append_assoc in
-    ap (λ (n : ℕ). kept_date n ++ (clock_text second ++ more)) of_day
+    ap (λ (n : ℕ). cached_date n ++ (clock_text second ++ more)) of_day
     ∙ sym (ap (λ (d : ℤ). P d (second_at t)) (day_at-counted t seconds (sym counted)) ∙ ap (λ (s : ℕ). P at s) (second_at-counted t seconds (sym counted)) ∙ here)

@@ -25,16 +25,16 @@ pub loaded : (source : List ℕ) (from size len : ℕ) → len ≤ size → take
 loaded source from size len short = take-take len size (drop from source) short ∙ ap (λ (m : ℕ). take m (drop from source)) (omega arith)
 
 -- what stands first in a text that was written back
-pub written_back : (new behind : List ℕ) (len size : ℕ) → len ≤ size → len ≤ length new → take len (take size (new ++ behind)) ≡ take len new
-written_back new behind len size within long = take-take len size (new ++ behind) within ∙ take-append-le len new behind long
+pub written_back : (new after_text : List ℕ) (len size : ℕ) → len ≤ size → len ≤ length new → take len (take size (new ++ after_text)) ≡ take len new
+written_back new after_text len size within long = take-take len size (new ++ after_text) within ∙ take-append-le len new after_text long
 
 -- a row, written after its start
-pub row_written : (old started new behind start rest : List ℕ) (len size : ℕ) → started ≡ old ++ start → take len new ≡ started ++ rest → len ≤ size → len ≤ length new
-    → take len (take size (new ++ behind)) ≡ old ++ (start ++ rest)
-row_written old started new behind start rest len size with_start written within long =
-    written_back new behind len size within long ∙ written ∙ ap (λ (l : List ℕ). l ++ rest) with_start ∙ append_assoc old start rest
+pub row_written : (old started new after_text start rest : List ℕ) (len size : ℕ) → started ≡ old ++ start → take len new ≡ started ++ rest → len ≤ size → len ≤ length new
+    → take len (take size (new ++ after_text)) ≡ old ++ (start ++ rest)
+row_written old started new after_text start rest len size with_start written within long =
+    written_back new after_text len size within long ∙ written ∙ ap (λ (l : List ℕ). l ++ rest) with_start ∙ append_assoc old start rest
 
--- the first elements of what stands behind a part
+-- the first elements of what stands after a part
 pub parted : (front part whole : List ℕ) (at k n : ℕ) → length front ≡ at → take k whole ≡ front ++ part → at + n ≤ k → take (at + n) whole ≡ front ++ take n part
 parted front part whole at k n long is within =
     sym (take-take (at + n) k whole within) ∙ ap (take (at + n)) is ∙ ap (λ (m : ℕ). take (m + n) (front ++ part)) (sym long) ∙ take-append-add front part n

@@ -5,11 +5,13 @@ use Rattle.std.specs.Fmt.{signed_decimal}
 use Rattle.zic_base.specs.Digits.{two_digits}
 use Rattle.zic_base.specs.Number.{number, signed}
 use Rattle.zic_base.specs.State.{Shown}
+use Rattle.zic_plan.specs.declared.layout.Style.{Style}
+use Rattle.zic_plan.specs.declared.layout.Style.TheVariants as styles
 use Rattle.zic_plan.specs.declared.layout.Unit.{Unit}
 use Rattle.zic_plan.specs.declared.layout.Unit.TheVariants as unit
 use Rattle.zic_rows.specs.declared.limit.TheConstants.{MAX_DIGITS}
 use Rattle.zic_rows.specs.Local.{local_time}
-use Rattle.zic_rows.specs.Row.{civil_text, local_text, state_text}
+use Rattle.zic_rows.specs.Row.{civil_text, local_text, styled_text}
 
 -- the digits of a fraction of a second
 abbrev pub fraction_digits : Unit → ℕ
@@ -41,7 +43,7 @@ fraction_of u count = unsigned_abs (int_rem_euclid count (pos (units_of_second u
 abbrev pub three_digits : ℕ → List ℕ
 three_digits n = (48 + n / 100) ∷ two_digits (n % 100)
 
--- so many units of a second, as `.123`
+-- a number of units of a second, as `.123`
 abbrev pub fraction_text : Unit → ℕ → List ℕ
 fraction_text unit.Second n = []
 fraction_text unit.Millisecond n = 46 ∷ three_digits n
@@ -52,14 +54,15 @@ fraction_text unit.Nanosecond n = 46 ∷ (three_digits (n / 1_000_000) ++ three_
 unfoldable pub local_count_text : Unit → ℤ → List ℕ
 local_count_text u count = civil_text (local_time (second_of u count)) ++ fraction_text u (fraction_of u count)
 
--- what follows a count of this whole second and so many units: its local time and the state, as `,1970-01-01T00:00:00.000,+00:00:00,0,UTC` and a newline
-unfoldable pub timed_rest_text : Unit → ℤ → ℕ → Shown → List ℕ
-timed_rest_text u second fraction shown = 44 ∷ (local_text second shown.offset ++ (fraction_text u fraction ++ state_text shown))
+-- what follows a count of this whole second and this number of units: its local time and the state, as `,1970-01-01T00:00:00.000,+00:00:00,0,UTC` or,
+-- with the offset in the field of the local time, `,1970-01-01T00:00:00.000+00:00,0,UTC`, and a newline
+unfoldable pub timed_rest_text : Style → Unit → ℤ → ℕ → Shown → List ℕ
+timed_rest_text style u second fraction shown = 44 ∷ (local_text second shown.offset ++ (fraction_text u fraction ++ styled_text style shown))
 
 -- the text that follows a count
-unfoldable pub counted_rest_text : Unit → ℤ → Shown → List ℕ
-counted_rest_text u count shown = timed_rest_text u (second_of u count) (fraction_of u count) shown
+unfoldable pub counted_rest_text : Style → Unit → ℤ → Shown → List ℕ
+counted_rest_text style u count shown = timed_rest_text style u (second_of u count) (fraction_of u count) shown
 
--- the text of a row: its name, its count in plain decimals, and the rest
+-- the text of a row with local time and offset in two fields: its name, its count in plain decimals, and the rest
 unfoldable pub counted_row_text : Unit → List ℕ → ℤ → Shown → List ℕ
-counted_row_text u name count shown = name ++ 44 ∷ (signed_decimal count ++ counted_rest_text u count shown)
+counted_row_text u name count shown = name ++ 44 ∷ (signed_decimal count ++ counted_rest_text styles.Fields u count shown)

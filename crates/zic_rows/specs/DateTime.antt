@@ -60,7 +60,7 @@ counted u _ _ = None
 unfoldable pub local_count_of : Unit → List ℕ → Option ℤ
 local_count_of u field = counted u (second_in (take 19 field)) (fraction_in u (drop 19 field))
 
--- a UT offset of so many hours and minutes, in seconds
+-- a UT offset of these hours and minutes, in seconds
 abbrev pub offset_from : Option ℕ → Option ℕ → Option ℤ
 offset_from (Some hours) (Some minutes) = if nat_le hours 23 && nat_le minutes 59 then Some (pos (hours * 3600 + minutes * 60)) else None
 offset_from _ _ = None

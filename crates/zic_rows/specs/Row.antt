@@ -1,10 +1,12 @@
 -- The text of a row: own choice, in the manner of RFC 3339 for local time and offset.
-use Rattle.std.specs.Prelude.{ℕ, ◌/◌, ◌%◌, ◌==◌, ℤ, ◌+ℤ◌, ◌≤◌, length, unsigned_abs, if◌then◌else◌, List, [], ◌∷◌, ◌++◌}
+use Rattle.std.specs.Prelude.{ℕ, ◌/◌, ◌%◌, ◌==◌, ℤ, ◌+ℤ◌, ◌≤◌, length, take, unsigned_abs, if◌then◌else◌, List, [], ◌∷◌, ◌++◌}
 use Rattle.std.specs.Fmt.{signed_decimal}
 use Rattle.zic_base.specs.Digits.{two_digits, offset_text}
 use Rattle.zic_base.specs.State.{Shown}
 use Rattle.zic_calendar.specs.declared.civil_time.Civil.{Civil}
 use Rattle.zic_base.specs.declared.limit.TheConstants.{LONGEST_ABBREVIATION}
+use Rattle.zic_plan.specs.declared.layout.Style.{Style}
+use Rattle.zic_plan.specs.declared.layout.Style.TheVariants as styles
 use Rattle.zic_rows.specs.Instant.{IsRowOffset}
 use Rattle.zic_rows.specs.Local.{local_time}
 
@@ -28,6 +30,20 @@ local_text instant offset = civil_text (local_time (instant +ℤ offset))
 unfoldable pub state_text : Shown → List ℕ
 state_text shown = 44 ∷ (offset_text shown.offset ++ 44 ∷ (if shown.daylight then 49 else 48) ∷ 44 ∷ (shown.name ++ 10 ∷ []))
 
+-- a UT offset after a local time, as `-04:00`, and with its seconds where it has some, as `-04:56:02`: RFC 3339, 5.6, has no seconds
+abbrev pub iso_offset_text : ℤ → List ℕ
+iso_offset_text offset = if unsigned_abs offset % 60 == 0 then take 6 (offset_text offset) else offset_text offset
+
+-- a state after a local time in one field with the offset: the offset, then the daylight flag and the abbreviation, each after a comma, and a
+-- newline
+unfoldable pub iso_state_text : Shown → List ℕ
+iso_state_text shown = iso_offset_text shown.offset ++ 44 ∷ (if shown.daylight then 49 else 48) ∷ 44 ∷ (shown.name ++ 10 ∷ [])
+
+-- a state after the local time of a row of this style
+abbrev pub styled_text : Style → Shown → List ℕ
+styled_text styles.Fields shown = state_text shown
+styled_text styles.Iso shown = iso_state_text shown
+
 -- the text that follows the instant: its local time and the state, as `,1970-01-01T00:00:00,+00:00:00,0,UTC` and a newline
 unfoldable pub rest_text : ℤ → Shown → List ℕ
 rest_text instant shown = 44 ∷ (local_text instant shown.offset ++ state_text shown)
@@ -40,7 +56,3 @@ row_text name instant shown = name ++ 44 ∷ (signed_decimal instant ++ rest_tex
 pub record IsRowState (shown : Shown) : Type 0 where
   pub offset : IsRowOffset shown.offset
   pub name : length shown.name ≤ LONGEST_ABBREVIATION
-
--- another byte for a comma, a comma for that byte, and any other as it is
-abbrev pub for_comma : ℕ → ℕ → ℕ
-for_comma other byte = if byte == 44 then other else if byte == other then 44 else byte

@@ -1,6 +1,7 @@
 -- Definitions for the code of this crate and for proofs. No contract of an exported function cites them.
-pub mod Kept
+pub mod Cached
 pub mod PlainNumber
 pub mod Lanes
 pub mod March
 pub mod Civils
+pub mod Iso

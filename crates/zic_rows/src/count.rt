@@ -112,7 +112,7 @@ pub fn moment_of(count: i128, unit: Unit) -> Moment
     }
 }
 
-/// Returns the count of a whole second and of so many units after it.
+/// Returns the count of units from 1970 to this fraction after a whole second.
 pub fn count_from(second: i64, fraction: u32, unit: Unit) -> i128
     ensures { result ≡ (second *ℤ pos (units_of_second unit)) +ℤ pos fraction }
 {

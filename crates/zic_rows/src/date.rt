@@ -1,7 +1,7 @@
 //! The date of local time.
 
 ghost use Rattle.std.specs.Prelude.{◌≡◌, ◌<◌, ◌++◌, take, drop};
-ghost use Rattle.zic_rows.specs.code.Kept.{kept_date};
+ghost use Rattle.zic_rows.specs.code.Cached.{cached_date};
 
 use crate::digits::digit_pair;
 use crate::limit::{DAYS, REST_ROOM};
@@ -20,7 +20,7 @@ pub(crate) struct DateText {
 #[inline(never)]
 pub(crate) fn write_date(rest: &mut [u8; REST_ROOM], day: u32)
     requires { day < DAYS }
-    ensures date { take 12 rest.new ≡ kept_date day }
+    ensures date { take 12 rest.new ≡ cached_date day }
     ensures after { drop 20 rest.new ≡ drop 20 rest.old }
 {
     let text = date_text(day);
@@ -32,7 +32,7 @@ pub(crate) fn write_date(rest: &mut [u8; REST_ROOM], day: u32)
 #[inline(always)]
 pub(crate) fn date_text(day: u32) -> DateText
     requires { day < DAYS }
-    ensures { take 5 result.year ++ take 7 result.day ≡ kept_date day }
+    ensures { take 5 result.year ++ take 7 result.day ≡ cached_date day }
 {
     let date = march_day(day);
     let year = if date.day < DAYS_TO_JANUARY {

@@ -45,7 +45,7 @@ fn clock_part(n: u32) -> [u8; 8]
 pub(crate) fn put_clock(text: &mut [u8], at: usize, second: u32)
     requires room { at + 16 ≤ length text.old }
     requires second { second < DAY }
-    ensures kept { length text.new ≡ length text.old }
+    ensures same_length { length text.new ≡ length text.old }
     ensures written { take (at + 8) text.new ≡ take at text.old ++ clock_text second }
 {
     put_8(text, at, clock_part(second / 3600));

@@ -1,13 +1,12 @@
-//! One row of a converted column: the instant that a field names, and the text of the row. The
-//! tests stand in `program_tests`.
+//! One row of a converted column: the instant that a field names, and the text of the row.
 #![tactic(auto)]
 
+mod cached_date;
 mod count;
 mod date;
 mod date_time;
 mod digits;
 mod instant;
-mod kept_date;
 pub mod laws;
 mod limit;
 mod local_text;
@@ -31,3 +30,4 @@ pub use row::{RowWriter, push_row};
 pub use row_text::RowText;
 pub use row_time::{RowTime, quick_time};
 pub use state_text::StateText;
+pub use timed_rest::RowRest;

@@ -28,7 +28,7 @@ pub fn push_local_time(text: &mut Vec<u8>, count: i128, unit: Unit) -> Result<()
 }
 
 /// Returns a second of local time, counted from 0001-01-01T00:00:00.
-fn seconds_from_year_1(second: i64) -> u64
+pub(crate) fn seconds_from_year_1(second: i64) -> u64
     requires { IsLocalSecond second }
     ensures value { pos result ≡ second +ℤ pos (DAYS_TO_1970 * DAY) }
     ensures fits { result < DAYS * DAY }

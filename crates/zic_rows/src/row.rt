@@ -8,13 +8,13 @@ ghost use Rattle.zic_rows.specs.Count.{counted_rest_text, counted_row_text, seco
 
 use crate::count::moment_of;
 use crate::limit::{DAY, DAYS, DAYS_TO_1970};
-use crate::rest::KeptRest;
+use crate::rest::CachedRest;
 use crate::state_text::StateText;
 use itoa::Buffer;
 use std::alloc::AllocError;
 use std::marker::Model;
 use zic_base::State;
-use zic_plan::Unit;
+use zic_plan::{Style, Unit};
 
 /// What stands between fields.
 const COMMA: u8 = b',';
@@ -41,7 +41,7 @@ pub fn push_row(
 /// the state's text. Clauses see the state.
 #[derive(Drop)]
 pub struct RowWriter {
-    rest: KeptRest,
+    rest: CachedRest,
 }
 
 impl Model for RowWriter {
@@ -60,7 +60,7 @@ impl RowWriter {
         ensures { result ≡ shown state.entry }
     {
         RowWriter {
-            rest: KeptRest::new(DAYS_TO_1970, &StateText::new(state)),
+            rest: CachedRest::new(DAYS_TO_1970, &StateText::new(state)),
         }
     }
 
@@ -124,30 +124,32 @@ impl RowWriter {
         text.extend_from_slice(name)?;
         text.push(COMMA)?;
         text.extend_from_slice(Buffer::new().format(count).as_bytes())?;
-        self.push_counted_rest(text, count, unit)
+        self.push_counted_rest(text, count, unit, Style::Fields)
     }
 
-    /// Appends the rest of the text of a row after a count of units, whose whole second is one that
-    /// a row may have. Where memory runs out, a part may be there.
+    /// Appends the rest of the text of a row of a style after a count of units, whose whole second
+    /// is one that a row may have. Where memory runs out, a part may be there.
     pub fn push_counted_rest(
         &mut self,
         text: &mut Vec<u8>,
         count: i128,
         unit: Unit,
+        style: Style,
     ) -> Result<(), AllocError>
         requires { IsRowInstant (second_of unit count) }
         ensures state { self.new ≡ self.old }
         ensures ok { OnOk result
-            (text.new.items ≡ text.old.items ++ counted_rest_text unit count self.old) }
+            (text.new.items ≡ text.old.items ++ counted_rest_text style unit count self.old) }
     {
         let moment = moment_of(count, unit);
         let seconds = local_seconds(moment.second as i64, self.rest.offset());
         self.rest.turn_to((seconds / DAY as u64) as u32);
         let second = (seconds % DAY as u64) as u32;
-        self.rest.push_counted(text, second, unit, moment.fraction)
+        self.rest
+            .push_counted(text, second, unit, moment.fraction, style)
     }
 
-    /// Appends the text of the state at the end of a row: the UT offset, the daylight flag and the
+    /// Appends the text of the state after other fields of a row: the UT offset, the daylight flag and the
     /// abbreviation after a comma each, and a newline. Where memory runs out, a part may be there.
     pub fn push_state(&self, text: &mut Vec<u8>) -> Result<(), AllocError>
         ensures { OnOk result (text.new.items ≡ text.old.items ++ state_text self.now) }

@@ -1,20 +1,24 @@
 //! The text of rows.
 
+ghost use Rattle.zic_plan.specs.Delimiter.{exchange};
 ghost use Rattle.std.specs.Prelude.{◌≡◌, ◌+◌, ◌<◌, ◌≤◌, ◌++◌, ◌∷◌, [], drop, length, map, slice_range, take, IfOk, OnOk};
 ghost use Rattle.zic_rows.specs.Instant.{IsRowInstant};
-ghost use Rattle.zic_rows.specs.Row.{for_comma};
-ghost use Rattle.zic_rows.specs.Count.{timed_rest_text, units_of_second};
+ghost use Rattle.zic_rows.specs.Count.{local_count_text, second_of, timed_rest_text, units_of_second};
+ghost use Rattle.zic_rows.specs.Local.{IsLocalSecond};
+ghost use Rattle.zic_rows.specs.Row.{state_text};
 
-use crate::kept_date::KeptDate;
+use crate::cached_date::CachedDate;
+use crate::count::moment_of;
 use crate::limit::{DAY, DAYS_TO_1970};
+use crate::local_text::seconds_from_year_1;
 use crate::row::local_seconds;
-use crate::row_time::RowTime;
-use crate::state_text::StateText;
+use crate::state_text::{STATE_ROOM, StateText};
 use crate::store::{put_16, put_64};
-use crate::timed_rest::{TIMED_ROOM, put_rest};
+use crate::timed_rest::{LOCAL_ROOM, RowRest, TIMED_ROOM, put_rest, put_time};
 use std::alloc::{AllocError, Global};
 use std::marker::Model;
 use std::simd::prelude::*;
+use zic_plan::Unit;
 
 /// The room that the start of a row has, in bytes: where it is no longer, it is written at once.
 const START_ROOM: usize = 64;
@@ -28,7 +32,7 @@ pub struct RowText {
     /// The length of the text in bytes.
     len: usize,
     /// The date of the last row.
-    date: KeptDate,
+    date: CachedDate,
 }
 
 impl Model for RowText {
@@ -49,11 +53,11 @@ impl RowText {
         RowText {
             bytes: Vec::new(alloc),
             len: 0,
-            date: KeptDate::new(DAYS_TO_1970),
+            date: CachedDate::new(DAYS_TO_1970),
         }
     }
 
-    /// Returns an empty text with room for as many bytes.
+    /// Returns an empty text with room for `room` bytes.
     pub fn with_capacity(alloc: Global, room: usize) -> Result<RowText, AllocError>
         ensures { IfOk result (λ t. t ≡ []) }
     {
@@ -126,56 +130,80 @@ impl RowText {
     }
 
     /// Appends a part of some bytes, `start..end`, and what follows it in a row: the local time and
-    /// the state at a time that a row may have. Where memory runs out, a part may be there.
+    /// the state at a time that a row may have, in a style. Where memory runs out, a part may be there.
     #[inline(always)]
     pub fn push_row(
         &mut self,
         bytes: &[u8],
         start: usize,
         end: usize,
-        time: RowTime,
-        state: &StateText,
+        rest: &RowRest<'_>,
     ) -> Result<(), AllocError>
         requires order { start ≤ end }
         requires within { end ≤ length bytes.now }
-        requires second { IsRowInstant time.second }
-        requires fraction { time.fraction < units_of_second time.unit }
+        requires second { IsRowInstant rest.now.time.second }
+        requires fraction { rest.now.time.fraction < units_of_second rest.now.time.unit }
         ensures { OnOk result (self.new ≡ self.old ++ (slice_range bytes.now start end
-            ++ timed_rest_text time.unit time.second time.fraction state.now)) }
+            ++ timed_rest_text rest.now.style rest.now.time.unit rest.now.time.second
+            rest.now.time.fraction rest.now.state.now)) }
     {
         let len = end - start;
         let room = self.bytes.len() - self.len;
         if len > START_ROOM || bytes.len() - start < START_ROOM || room < START_ROOM + TIMED_ROOM {
-            return self.push_parts(&bytes[start..end], time, state);
+            return self.push_parts(&bytes[start..end], rest);
         }
-        let seconds = local_seconds(time.second, state.offset());
+        let seconds = local_seconds(rest.time.second, rest.state.offset());
         let second = (seconds % DAY as u64) as u32;
         self.date.turn_to((seconds / DAY as u64) as u32);
         let text: &mut [u8] = &mut self.bytes;
         put_64(text, self.len, bytes, start, len);
-        self.len = put_rest(text, self.len + len, &self.date, second, time, state);
+        self.len = put_rest(text, self.len + len, &self.date, second, rest);
+        Ok(())
+    }
+
+    /// Appends a comma and the local time of a count of units from 1970-01-01T00:00:00 on the clocks
+    /// of a place. Where memory runs out, the text stays.
+    #[inline(always)]
+    pub fn push_local_time(&mut self, count: i128, unit: Unit) -> Result<(), AllocError>
+        requires { IsLocalSecond (second_of unit count) }
+        ensures { OnOk result (self.new ≡ self.old ++ 44 ∷ local_count_text unit count) }
+    {
+        make_room(&mut self.bytes, self.len, LOCAL_ROOM)?;
+        let moment = moment_of(count, unit);
+        let seconds = seconds_from_year_1(moment.second as i64);
+        let second = (seconds % DAY as u64) as u32;
+        self.date.turn_to((seconds / DAY as u64) as u32);
+        let text: &mut [u8] = &mut self.bytes;
+        self.len = put_time(text, self.len, &self.date, second, unit, moment.fraction);
+        Ok(())
+    }
+
+    /// Appends the text of a state: the UT offset, the daylight flag and the abbreviation after a comma
+    /// each, and a newline. Where memory runs out, the text stays.
+    #[inline(always)]
+    pub fn push_state(&mut self, state: &StateText) -> Result<(), AllocError>
+        ensures { OnOk result (self.new ≡ self.old ++ state_text state.now) }
+    {
+        make_room(&mut self.bytes, self.len, STATE_ROOM)?;
+        self.len = state.put(&mut self.bytes, self.len);
         Ok(())
     }
 
     /// Appends the start of a row of any length, and what follows it. It makes room for rows to come.
     #[inline(never)]
-    fn push_parts(
-        &mut self,
-        start: &[u8],
-        time: RowTime,
-        state: &StateText,
-    ) -> Result<(), AllocError>
-        requires second { IsRowInstant time.second }
-        requires fraction { time.fraction < units_of_second time.unit }
+    fn push_parts(&mut self, start: &[u8], rest: &RowRest<'_>) -> Result<(), AllocError>
+        requires second { IsRowInstant rest.now.time.second }
+        requires fraction { rest.now.time.fraction < units_of_second rest.now.time.unit }
         ensures { OnOk result (self.new ≡ self.old ++ (start.now
-            ++ timed_rest_text time.unit time.second time.fraction state.now)) }
+            ++ timed_rest_text rest.now.style rest.now.time.unit rest.now.time.second
+            rest.now.time.fraction rest.now.state.now)) }
     {
         self.push(start)?;
         make_room(&mut self.bytes, self.len, START_ROOM + TIMED_ROOM)?;
-        let seconds = local_seconds(time.second, state.offset());
+        let seconds = local_seconds(rest.time.second, rest.state.offset());
         let second = (seconds % DAY as u64) as u32;
         self.date.turn_to((seconds / DAY as u64) as u32);
-        self.len = put_rest(&mut self.bytes, self.len, &self.date, second, time, state);
+        self.len = put_rest(&mut self.bytes, self.len, &self.date, second, rest);
         Ok(())
     }
 
@@ -183,7 +211,7 @@ impl RowText {
     /// text on.
     pub fn exchange(&mut self, from: usize, byte: u8)
         requires { from ≤ length self.old }
-        ensures { self.new ≡ take from self.old ++ map (for_comma byte) (drop from self.old) }
+        ensures { self.new ≡ take from self.old ++ map (exchange byte) (drop from self.old) }
     {
         exchange(&mut self.bytes[from..self.len], byte);
     }
@@ -191,7 +219,7 @@ impl RowText {
 
 /// Puts a byte in the place of commas, and commas in the place of the byte.
 fn exchange(bytes: &mut [u8], other: u8)
-    ensures { bytes.new ≡ map (for_comma other) bytes.old }
+    ensures { bytes.new ≡ map (exchange other) bytes.old }
 {
     for byte in bytes.iter_mut() {
         *byte = for_comma(*byte, other);
@@ -201,7 +229,7 @@ fn exchange(bytes: &mut [u8], other: u8)
 /// Returns another byte for a comma, a comma for that byte, and any other as it is.
 #[inline(always)]
 fn for_comma(byte: u8, other: u8) -> u8
-    ensures { result ≡ for_comma other byte }
+    ensures { result ≡ exchange other byte }
 {
     if byte == b',' {
         other

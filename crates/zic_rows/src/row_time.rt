@@ -21,8 +21,8 @@ pub struct RowTime {
     pub unit: Unit,
 }
 
-/// Reads the instant that a part of some bytes, `start..end`, has in plain decimals, where a row may
-/// have it. `None` says nothing.
+/// Reads the instant that a part of some bytes, `start..end`, has in plain decimals, if a row may have
+/// it. `None` doesn't mean that there is none.
 #[inline(always)]
 pub fn quick_time(bytes: &[u8], start: usize, end: usize, unit: Unit) -> Option<RowTime>
     requires order { start ≤ end }

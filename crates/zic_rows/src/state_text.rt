@@ -3,24 +3,26 @@
 ghost use Rattle.std.specs.Prelude.{◌≡◌, ◌+◌, ◌≤◌, ◌++◌, ◌↔◌, IsTrue, length, take, drop};
 ghost use Rattle.zic_base.specs.State.{shown};
 ghost use Rattle.zic_rows.specs.Instant.{IsRowOffset};
-ghost use Rattle.zic_rows.specs.Row.{state_text, IsRowState};
-ghost use Rattle.zic_rows.specs.code.Kept.{before_name, IsTextOf};
+ghost use Rattle.zic_rows.specs.Row.{iso_state_text, state_text, styled_text, IsRowState};
+ghost use Rattle.zic_rows.specs.code.Iso.{iso_width};
+ghost use Rattle.zic_rows.specs.code.Cached.{before_name, IsTextOf};
 
 use crate::limit::REST_ROOM;
 use crate::row_state::RowState;
-use crate::store::put_32;
+use crate::store::{put_32, put_part};
 use std::marker::Model;
 use zic_base::{State, offset_text};
+use zic_plan::Style;
 
 /// The room of a text in bytes: a writer copies all of it, since that is quicker.
-const ROOM: usize = 32;
+pub(crate) const STATE_ROOM: usize = 32;
 
 /// The text of a state at the end of a row, made once for many rows: the UT offset, the daylight
 /// flag and the abbreviation after a comma each, and a newline. Clauses see the state.
 #[derive(Drop)]
 pub struct StateText {
     state: RowState,
-    octets: [u8; ROOM],
+    octets: [u8; STATE_ROOM],
     /// The length of the text in bytes.
     len: usize,
     ghost is_text: { IsTextOf state octets len },
@@ -41,7 +43,7 @@ impl StateText {
         requires { IsRowState (shown state) }
         ensures { result ≡ shown state.entry }
     {
-        let mut octets = [0; ROOM];
+        let mut octets = [0; STATE_ROOM];
         let len = write_text(&mut octets, &state);
         let state = RowState::new(state);
         StateText { state, octets, len }
@@ -64,19 +66,47 @@ impl StateText {
 
     /// Returns the UT offset in seconds, positive east.
     #[inline(always)]
-    pub(crate) fn offset(&self) -> i32
+    pub fn offset(&self) -> i32
         ensures value { result ≡ self.now.offset }
         ensures may { IsRowOffset result }
     {
         self.state.offset()
     }
 
+    /// Writes the text of the state in a row of a style into another text with room for 32 bytes,
+    /// and returns where it ends.
+    #[inline(always)]
+    pub(crate) fn put_styled(&self, text: &mut [u8], at: usize, style: Style) -> usize
+        requires { at + STATE_ROOM ≤ length text.old }
+        ensures end { result ≤ at + STATE_ROOM }
+        ensures same_length { length text.new ≡ length text.old }
+        ensures written { take result text.new ≡ take at text.old ++ styled_text style self.now }
+    {
+        match style {
+            Style::Fields => self.put(text, at),
+            Style::Iso => self.put_iso(text, at),
+        }
+    }
+
+    /// Writes the text without the comma before the offset, and without its seconds where it has
+    /// none. Returns where it ends.
+    fn put_iso(&self, text: &mut [u8], at: usize) -> usize
+        requires { at + STATE_ROOM ≤ length text.old }
+        ensures end { result ≤ at + STATE_ROOM }
+        ensures same_length { length text.new ≡ length text.old }
+        ensures written { take result text.new ≡ take at text.old ++ iso_state_text self.now }
+    {
+        let width = iso_width(self.state.offset());
+        let end = put_part(text, at, &self.octets[1..1 + width]);
+        put_part(text, end, &self.octets[10..self.len])
+    }
+
     /// Writes the text into another with room for 32 bytes, and returns where it ends.
     #[inline(always)]
     pub(crate) fn put(&self, text: &mut [u8], at: usize) -> usize
-        requires { at + ROOM ≤ length text.old }
-        ensures end { result ≤ at + ROOM }
-        ensures kept { length text.new ≡ length text.old }
+        requires { at + STATE_ROOM ≤ length text.old }
+        ensures end { result ≤ at + STATE_ROOM }
+        ensures same_length { length text.new ≡ length text.old }
         ensures written { take result text.new ≡ take at text.old ++ state_text self.now }
     {
         put_32(text, at, &self.octets, self.len);
@@ -89,7 +119,7 @@ impl StateText {
     pub(crate) fn copy_to(&self, rest: &mut [u8; REST_ROOM]) -> usize
         ensures text { take result (drop 20 rest.new) ≡ state_text self.now }
         ensures before { take 20 rest.new ≡ take 20 rest.old }
-        ensures fits { result ≤ ROOM }
+        ensures fits { result ≤ STATE_ROOM }
         ensures may { IsRowState self.now }
     {
         rest[20..].copy_from_slice(&self.octets);
@@ -97,8 +127,22 @@ impl StateText {
     }
 }
 
+/// Returns how many bytes of the text of an offset stand after a local time: not its seconds, where
+/// it has none.
+#[inline(always)]
+pub(crate) fn iso_width(offset: i32) -> usize
+    ensures value { result ≡ iso_width offset }
+    ensures few { result ≤ 9 }
+{
+    if offset.unsigned_abs() % 60 == 0 {
+        6
+    } else {
+        9
+    }
+}
+
 /// Writes the text of a state, and returns its length.
-fn write_text(octets: &mut [u8; ROOM], state: &State<'_>) -> usize
+fn write_text(octets: &mut [u8; STATE_ROOM], state: &State<'_>) -> usize
     requires { IsRowState (shown state.now) }
     ensures text { take result octets.new ≡ state_text (shown state.now) }
     ensures fits { result ≤ 32 }

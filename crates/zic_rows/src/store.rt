@@ -11,7 +11,7 @@ pub(crate) fn put_64(text: &mut [u8], at: usize, source: &[u8], from: usize, len
     requires room { at + 64 ≤ length text.old }
     requires ahead { from + 64 ≤ length source.now }
     requires short { len ≤ 64 }
-    ensures kept { length text.new ≡ length text.old }
+    ensures same_length { length text.new ≡ length text.old }
     ensures written { take (at + len) text.new
         ≡ take at text.old ++ slice_range source.now from (from + len) }
 {
@@ -23,7 +23,7 @@ pub(crate) fn put_64(text: &mut [u8], at: usize, source: &[u8], from: usize, len
 pub(crate) fn put_32(text: &mut [u8], at: usize, part: &[u8; 32], len: usize)
     requires room { at + 32 ≤ length text.old }
     requires short { len ≤ 32 }
-    ensures kept { length text.new ≡ length text.old }
+    ensures same_length { length text.new ≡ length text.old }
     ensures written { take (at + len) text.new ≡ take at text.old ++ take len part.now }
 {
     u8x32::from_slice(part).copy_to_slice(&mut text[at..]);
@@ -35,17 +35,30 @@ pub(crate) fn put_16(text: &mut [u8], at: usize, part: u8x16, len: usize)
     requires room { at + 16 ≤ length text.old }
     requires whole { length part ≡ 16 }
     requires short { len ≤ 16 }
-    ensures kept { length text.new ≡ length text.old }
+    ensures same_length { length text.new ≡ length text.old }
     ensures written { take (at + len) text.new ≡ take at text.old ++ take len part }
 {
     part.copy_to_slice(&mut text[at..]);
+}
+
+/// Writes some bytes, and returns where they end.
+#[inline(always)]
+pub(crate) fn put_part(text: &mut [u8], at: usize, part: &[u8]) -> usize
+    requires { at + length part.now ≤ length text.old }
+    ensures end { result ≡ at + length part.now }
+    ensures same_length { length text.new ≡ length text.old }
+    ensures written { take result text.new ≡ take at text.old ++ part.now }
+{
+    let end = at + part.len();
+    text[at..end].copy_from_slice(part);
+    end
 }
 
 /// Writes 8 bytes.
 #[inline(always)]
 pub(crate) fn put_8(text: &mut [u8], at: usize, part: [u8; 8])
     requires { at + 8 ≤ length text.old }
-    ensures kept { length text.new ≡ length text.old }
+    ensures same_length { length text.new ≡ length text.old }
     ensures written { take (at + 8) text.new ≡ take at text.old ++ part }
 {
     u8x8::from_array(part).copy_to_slice(&mut text[at..]);

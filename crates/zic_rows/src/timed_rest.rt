@@ -2,22 +2,33 @@
 
 ghost use Rattle.std.specs.Prelude.{◌≡◌, ◌+◌, ◌<◌, ◌≤◌, ◌++◌, length, take};
 ghost use Rattle.zic_base.specs.Digits.{clock_text};
-ghost use Rattle.zic_rows.specs.Row.{state_text};
+ghost use Rattle.zic_rows.specs.Row.{styled_text};
 ghost use Rattle.zic_rows.specs.Count.{fraction_text, units_of_second};
-ghost use Rattle.zic_rows.specs.code.Kept.{kept_date};
+ghost use Rattle.zic_rows.specs.code.Cached.{cached_date};
 
+use crate::cached_date::CachedDate;
 use crate::count::three_digits;
 use crate::digits::put_clock;
-use crate::kept_date::KeptDate;
 use crate::limit::DAY;
 use crate::row_time::RowTime;
 use crate::state_text::StateText;
 use crate::store::put_16;
 use std::simd::prelude::*;
-use zic_plan::Unit;
+use zic_plan::{Style, Unit};
 
 /// The room that is wanted after the instant, in bytes.
 pub(crate) const TIMED_ROOM: usize = 64;
+
+/// The room that is wanted for a comma and a local time, in bytes.
+pub(crate) const LOCAL_ROOM: usize = 36;
+
+/// What a row has after its instant, by a style: the local time and the state of a time.
+#[derive(Clone, Copy, Drop)]
+pub struct RowRest<'s> {
+    pub time: RowTime,
+    pub state: &'s StateText,
+    pub style: Style,
+}
 
 /// Writes what follows an instant: a date, a second of the day, the fraction of a time, and a state.
 /// Returns where it ends.
@@ -25,23 +36,44 @@ pub(crate) const TIMED_ROOM: usize = 64;
 pub(crate) fn put_rest(
     text: &mut [u8],
     at: usize,
-    date: &KeptDate,
+    date: &CachedDate,
     second: u32,
-    time: RowTime,
-    state: &StateText,
+    rest: &RowRest<'_>,
 ) -> usize
     requires room { at + TIMED_ROOM ≤ length text.old }
     requires second { second < DAY }
-    requires fraction { time.fraction < units_of_second time.unit }
+    requires fraction { rest.now.time.fraction < units_of_second rest.now.time.unit }
     ensures end { result ≤ at + TIMED_ROOM }
-    ensures kept { length text.new ≡ length text.old }
-    ensures written { take result text.new ≡ take at text.old ++ (kept_date date.now.day
-        ++ (clock_text second ++ (fraction_text time.unit time.fraction ++ state_text state.now))) }
+    ensures same_length { length text.new ≡ length text.old }
+    ensures written { take result text.new ≡ take at text.old ++ (cached_date date.now.day
+        ++ (clock_text second ++ (fraction_text rest.now.time.unit rest.now.time.fraction
+        ++ styled_text rest.now.style rest.now.state.now))) }
+{
+    let end = put_time(text, at, date, second, rest.time.unit, rest.time.fraction);
+    rest.state.put_styled(text, end, rest.style)
+}
+
+/// Writes a date, a second of the day, and a fraction of a second. Returns where it ends.
+#[inline(always)]
+pub(crate) fn put_time(
+    text: &mut [u8],
+    at: usize,
+    date: &CachedDate,
+    second: u32,
+    unit: Unit,
+    fraction: u32,
+) -> usize
+    requires room { at + LOCAL_ROOM ≤ length text.old }
+    requires second { second < DAY }
+    requires fraction { fraction < units_of_second unit }
+    ensures end { result ≤ at + 30 }
+    ensures same_length { length text.new ≡ length text.old }
+    ensures written { take result text.new ≡ take at text.old ++ (cached_date date.now.day
+        ++ (clock_text second ++ fraction_text unit fraction)) }
 {
     date.put(text, at);
     put_clock(text, at + 12, second);
-    let end = put_fraction(text, at + 20, time.unit, time.fraction);
-    state.put(text, end)
+    put_fraction(text, at + 20, unit, fraction)
 }
 
 /// Writes this number of units of a second, as `.123`, or nothing where seconds are counted, and
@@ -51,7 +83,7 @@ fn put_fraction(text: &mut [u8], at: usize, unit: Unit, n: u32) -> usize
     requires room { at + 16 ≤ length text.old }
     requires below { n < units_of_second unit }
     ensures end { result ≤ at + 10 }
-    ensures kept { length text.new ≡ length text.old }
+    ensures same_length { length text.new ≡ length text.old }
     ensures written { take result text.new ≡ take at text.old ++ fraction_text unit n }
 {
     match unit {

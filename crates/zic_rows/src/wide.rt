@@ -7,7 +7,7 @@ ghost use Rattle.zic_rows.specs.code.Lanes.{lanes_of, lane_value};
 
 use std::simd::prelude::*;
 
-/// Bytes that clear, and bytes that keep.
+/// Any 16 bytes in a row are a mask: zeros clear, and others keep.
 static MASKS: [u8; 32] = [
     0, 0, 0, 0, 0, 0, 0, 0, 0, 0, 0, 0, 0, 0, 0, 0, 255, 255, 255, 255, 255, 255, 255, 255, 255,
     255, 255, 255, 255, 255, 255, 255,
@@ -46,7 +46,7 @@ fn lanes(bytes: &[u8], start: usize, end: usize) -> u8x16
     (u8x16::from_slice(&bytes[end - 16..]) ^ u8x16::splat(b'0')) & mask_of(16 - (end - start))
 }
 
-/// Returns bytes that clear the first, and keep the others.
+/// Returns a mask that clears the first `cleared` bytes and keeps the others.
 #[inline(always)]
 fn mask_of(cleared: usize) -> u8x16
     requires { cleared ≤ 16 }

@@ -13,13 +13,13 @@ use Rattle.zic_source.specs.Source.{ZoneLines, zone_at, lines_of_zone}
 use Rattle.zic_base.proofs.Elements.{cons_cases, contains_got, got}
 use Rattle.zic_occurrences.specs.declared.occurrence.TimedOccurrence.{TimedOccurrence}
 use Rattle.zic_states.specs.ByList.{AreRising, before, not_after, rule_at}
-use Rattle.zic_states.specs.Zone.{Zone, line_at, Keeps}
+use Rattle.zic_states.specs.Zone.{Zone, line_at, HasInForce}
 use Rattle.zic_states.proofs.Lines.{line_at_is}
 use Rattle.zic_states.proofs.Filters.{int_le-true, not_after_from_test, into_filter}
 use Rattle.zic_rules.specs.declared.period.Period.{Period}
 use Rattle.zic_rules.specs.code.Period.{Holds}
 use Rattle.zic_rules.specs.code.Held.{AreHeld, HeldTo, AreSoFar, last_line}
-use Rattle.zic_rules.specs.code.Line.{TellsKept, IsLineTo, IsEndOfWindow, period_at}
+use Rattle.zic_rules.specs.code.Line.{GivesInForce, IsLineTo, IsEndOfWindow, period_at}
 use Rattle.zic_rules.specs.code.End.{IsInYears}
 use Rattle.zic_rules.proofs.Years.{small}
 use Rattle.zic_rules.proofs.Held.{joined, last_line_joined}
@@ -63,11 +63,11 @@ late mine rest t split k d within =
     (λ lt. lt)
     (λ le.
     let has = contains_got rest k x (slice_get-get_or rest k d within) in
-    let kept = into_filter test rest x has (int_le-true x.instant t le) in
+    let in_force = into_filter test rest x has (int_le-true x.instant t le) in
     let own : filter test done ≡ done = filter_all test done (λ i c inside. filter_passes test mine i c inside) in
     let whole : done ++ filter test rest ≡ done = ap (λ (l : List TimedOccurrence). l ++ filter test rest) (sym own) ∙ sym (filter-append test done rest) ∙ ap (filter test) split in
     let lengths : length (done ++ filter test rest) ≡ length done = ap length whole in
-    absurd (omega (arith, lengths, kept.1, length-append done (filter test rest))))
+    absurd (omega (arith, lengths, in_force.1, length-append done (filter test rest))))
 
 pub last_line_of_each : (n : ℕ) (xs : List TimedOccurrence) → last_line n (map (period_at n) xs) ≡ n
 last_line_of_each n [] = refl
@@ -77,27 +77,27 @@ last_line_of_each n (x ∷ xs) = last_line_of_each n xs
 
 holds_first : (zone : Zone) (end : ℤ) (line : ZoneLine) (mine : List TimedOccurrence) → line_at zone 0 ≡ Some line → IsLineTo zone 0 None end mine
     → (t : ℤ) → t <ℤ end → Holds zone t 0 (rule_at mine t)
-unfolding Keeps
+unfolding HasInForce
 holds_first zone end line mine at is t lt =
-    let tells = is.tells line at in
+    let gives = is.gives line at in
     record {
       line = line;
       governs = is.governs line at t tt lt;
-      of_line = tells.is_rule t;
-      keeps = λ kept by. tells.keeps t kept lt by;
+      of_line = gives.is_rule t;
+      keeps = λ in_force by. gives.keeps t in_force lt by;
     }
 
 pub added_first : (zone : Zone) (number : ℕ) (end : ℤ) (line : ZoneLine) (mine : List TimedOccurrence) (old new : List Period) → line_at zone number ≡ Some line
     → AreSoFar zone number None old → IsLineTo zone number None end mine → new ≡ old ++ map (period_at number) mine → HeldTo zone number end new
 added_first zone (suc i) end line mine old new at so_far is e = absurd so_far
 added_first zone zero end line mine old new at so_far is e =
-    let tells = is.tells line at in
+    let gives = is.gives line at in
     let whole : new ≡ map (period_at 0) mine = e ∙ ap (λ (l : List Period). l ++ map (period_at 0) mine) so_far in
     let held = held_by_each zone 0 end (λ t. t) mine (λ t. omega (arith, ints)) [] mine None refl
     (λ t from lt. holds_first zone end line mine at is t lt)
     (λ t from. All-nil (λ x. x.instant ≤ℤ t))
     (λ t k d within lt. lt)
-    tells.rising is.before_end (λ k d within. tt)
+    gives.rising is.before_end (λ k d within. tt)
     in
     subst (HeldTo zone 0 end) (sym whole) (record { held = held; last = last_line_of_each 0 mine })
 
@@ -118,26 +118,26 @@ both_before t w u v lt less = grind (arith, ints)
 module _ (zone : Zone) (i : ℕ) (start end window : ℤ) (line : ZoneLine) (mine : List TimedOccurrence) (at : line_at zone (suc i) ≡ Some line)
     (is : IsLineTo zone (suc i) (Some start) end mine) (is_window : IsEndOfWindow zone (suc i) line window) (to : window <ℤ (start +ℤ pos 432_000)) where
   holds_later : (t : ℤ) → start ≤ℤ t → t <ℤ end → Holds zone t (suc i) (rule_at mine (int_max t window))
-  unfolding Keeps
+  unfolding HasInForce
   holds_later t from lt =
-      let tells = is.tells line at in
+      let gives = is.gives line at in
       record {
         line = line;
         governs = is.governs line at t from lt;
-        of_line = tells.is_rule (int_max t window);
-        keeps = λ kept by. (window, is_window, tells.keeps (int_max t window) kept (both_before t window end (start +ℤ pos 432_000) lt to) by);
+        of_line = gives.is_rule (int_max t window);
+        keeps = λ in_force by. (window, is_window, gives.keeps (int_max t window) in_force (both_before t window end (start +ℤ pos 432_000) lt to) by);
       }
 
   held_later : (rest : List TimedOccurrence) → start ≤ℤ window → not_after mine window ++ rest ≡ mine
       → AreHeld zone end (Some start) (suc i) (rule_at mine window) (map (period_at (suc i)) rest)
   held_later rest from split =
-      let tells = is.tells line at in
+      let gives = is.gives line at in
       let after = late mine rest window split in
       held_by_each zone (suc i) end (λ t. int_max t window) mine (λ t. up t window) (not_after mine window) rest (Some start) split
       holds_later
       (λ t le. All-weaker (λ x. x.instant ≤ℤ window) (λ x. x.instant ≤ℤ int_max t window) (λ x early. let more = to_window t window in omega (arith, ints)) (not_after mine window) (not_after_all mine window))
       (λ t k d within lt. before_both t window (get_or rest k d).instant lt (after k d within))
-      (rising_after (not_after mine window) rest (subst AreRising (sym split) tells.rising))
+      (rising_after (not_after mine window) rest (subst AreRising (sym split) gives.rising))
       (all_after (λ x. x.instant <ℤ end) (not_after mine window) rest (subst (All (λ x. x.instant <ℤ end)) (sym split) is.before_end))
       (All-weaker (λ x. window <ℤ x.instant) (λ x. start <ℤ x.instant) (λ x lt. omega (arith, ints)) rest after)
 
@@ -174,19 +174,19 @@ has_line zone number there h =
     let line = got (lines_of_zone found.0) number within in
     record { lines = found.0; are = found.1; within = within; line = line.0; at = line_at_is zone found.0 number found.1 ∙ line.1 }
 
-tells_sooner : (zone : Zone) (sooner later : ℤ) (line : ZoneLine) (xs : List TimedOccurrence) → sooner ≤ℤ later → TellsKept zone later line xs → TellsKept zone sooner line xs
-tells_sooner zone sooner later line xs le tells = record {
-  rising = tells.rising;
-  is_rule = tells.is_rule;
-  keeps = λ t kept lt by. tells.keeps t kept (omega (arith, ints)) by;
+gives_sooner : (zone : Zone) (sooner later : ℤ) (line : ZoneLine) (xs : List TimedOccurrence) → sooner ≤ℤ later → GivesInForce zone later line xs → GivesInForce zone sooner line xs
+gives_sooner zone sooner later line xs le gives = record {
+  rising = gives.rising;
+  is_rule = gives.is_rule;
+  keeps = λ t in_force lt by. gives.keeps t in_force (omega (arith, ints)) by;
 }
 
 -- the window asks for no more than the line tells
-pub tells_to_window : (zone : Zone) (number : ℕ) (start end : ℤ) (mine : List TimedOccurrence) → HasLine zone number → IsLineTo zone number (Some start) end mine
-    → IfSome (line_at zone number) (λ line. TellsKept zone (start +ℤ pos 432_000) line mine)
-tells_to_window zone number start end mine has is =
-    subst (λ (o : Option ZoneLine). IfSome o (λ line. TellsKept zone (start +ℤ pos 432_000) line mine)) (sym has.at)
-    (tells_sooner zone (start +ℤ pos 432_000) (int_max end (start +ℤ pos 432_000)) has.line mine (to_window end (start +ℤ pos 432_000)) (is.tells has.line has.at))
+pub gives_to_window : (zone : Zone) (number : ℕ) (start end : ℤ) (mine : List TimedOccurrence) → HasLine zone number → IsLineTo zone number (Some start) end mine
+    → IfSome (line_at zone number) (λ line. GivesInForce zone (start +ℤ pos 432_000) line mine)
+gives_to_window zone number start end mine has is =
+    subst (λ (o : Option ZoneLine). IfSome o (λ line. GivesInForce zone (start +ℤ pos 432_000) line mine)) (sym has.at)
+    (gives_sooner zone (start +ℤ pos 432_000) (int_max end (start +ℤ pos 432_000)) has.line mine (to_window end (start +ℤ pos 432_000)) (is.gives has.line has.at))
 
 pub window_of_line : (zone : Zone) (number : ℕ) (end : ℤ) (has : HasLine zone number) → IfSome (line_at zone number) (λ line. IsEndOfWindow zone number line end) → IsEndOfWindow zone number has.line end
 window_of_line zone number end has h = subst (λ (o : Option ZoneLine). IfSome o (λ line. IsEndOfWindow zone number line end)) has.at h

@@ -2,7 +2,7 @@ pub mod TimelineBefore
 pub mod TimelineChanges
 pub mod TimelineStates
 pub mod TimelineFaults
-pub mod TimelineKept
+pub mod TimelineFields
 pub mod TimelineOffsets
 pub mod TailHeld
 pub mod TailRules
@@ -16,7 +16,7 @@ pub mod Ends
 pub mod Held
 pub mod Mine
 pub mod Untils
-pub mod Tells
+pub mod OccurrencesOfLines
 pub mod Windows
 pub mod Added
 pub mod Outcomes

@@ -13,34 +13,34 @@ use Rattle.zic_source.specs.Sound.{IsSoundSource}
 use Rattle.zic_words.specs.declared.time.TheConstants.{GREATEST_OFFSET}
 use Rattle.zic_words.specs.Limits.{is_abbreviation, IsWithinLimits}
 use Rattle.zic_states.specs.Fault.{IsSavingOf, IsSound}
-use Rattle.zic_states.specs.Kept.{Kept, RulesKeep}
-use Rattle.zic_states.specs.Zone.{Zone, Keeps, Shows}
+use Rattle.zic_states.specs.InForce.{InForce, RulesHaveInForce}
+use Rattle.zic_states.specs.Zone.{Zone, HasInForce, Shows}
 use Rattle.zic_states.proofs.Lines.{orderly, sound_line}
 use Rattle.zic_rules.specs.Laws.{ShowsWithinLimits}
 
 -- what is saved is a saving of RULES, or nothing
-saving_of : (rules : List Rule) (line : ZoneLine) (says : Rules) (IsSuch : ℤ → Type 0) (kept : Kept) → RulesKeep rules line says IsSuch kept
-    → IsSavingOf rules says kept.saving ⊎ (kept.saving ≡ pos 0)
-saving_of rules line Standard IsSuch kept e = inl (ap (λ (k : Kept). k.saving) e)
-saving_of rules line (Amount amount) IsSuch kept e = inl (ap (λ (k : Kept). k.saving) e)
-saving_of rules line (Set name) IsSuch kept (inl (o, last, e)) = inl (o.number, o.rule, last.is.member, ap (λ (k : Kept). k.saving) e)
-saving_of rules line (Set name) IsSuch kept (inr none) = inr none.1
+saving_of : (rules : List Rule) (line : ZoneLine) (says : Rules) (IsSuch : ℤ → Type 0) (in_force : InForce) → RulesHaveInForce rules line says IsSuch in_force
+    → IsSavingOf rules says in_force.saving ⊎ (in_force.saving ≡ pos 0)
+saving_of rules line Standard IsSuch in_force e = inl (ap (λ (k : InForce). k.saving) e)
+saving_of rules line (Amount amount) IsSuch in_force e = inl (ap (λ (k : InForce). k.saving) e)
+saving_of rules line (Set name) IsSuch in_force (inl (o, last, e)) = inl (o.number, o.rule, last.is.member, ap (λ (k : InForce). k.saving) e)
+saving_of rules line (Set name) IsSuch in_force (inr none) = inr none.1
 
-saved_by : (zone : Zone) (i : ℕ) (line : ZoneLine) (t : ℤ) (kept : Kept) → Keeps zone i line t kept
-    → IsSavingOf zone.source.rules line.rules kept.saving ⊎ (kept.saving ≡ pos 0)
-unfolding Keeps
-saved_by zone zero line t kept keeps = saving_of zone.source.rules line line.rules _ kept keeps
-saved_by zone (suc i) line t kept (end, window, keeps) = saving_of zone.source.rules line line.rules _ kept keeps
+saved_by : (zone : Zone) (i : ℕ) (line : ZoneLine) (t : ℤ) (in_force : InForce) → HasInForce zone i line t in_force
+    → IsSavingOf zone.source.rules line.rules in_force.saving ⊎ (in_force.saving ≡ pos 0)
+unfolding HasInForce
+saved_by zone zero line t in_force keeps = saving_of zone.source.rules line line.rules _ in_force keeps
+saved_by zone (suc i) line t in_force (end, window, keeps) = saving_of zone.source.rules line line.rules _ in_force keeps
 
 module _ (zone : Zone) (source : IsSoundSource zone.source) (sound : IsSound zone) (t : ℤ) (state : Shown) (shows : Shows zone t state) where
-  offset_within : unsigned_abs (shows.line.offset +ℤ shows.kept.saving) ≤ GREATEST_OFFSET
+  offset_within : unsigned_abs (shows.line.offset +ℤ shows.in_force.saving) ≤ GREATEST_OFFSET
   offset_within = ⊎_elim
-      (λ is. elim (cases_lt GREATEST_OFFSET (unsigned_abs (shows.line.offset +ℤ shows.kept.saving))) [
+      (λ is. elim (cases_lt GREATEST_OFFSET (unsigned_abs (shows.line.offset +ℤ shows.in_force.saving))) [
         | inl passes ↦ absurd (sound kind.OffsetRange record {
           number = shows.keeps.number;
           line = shows.line;
           is_line = shows.keeps.governs.is_line;
-          saving = shows.kept.saving;
+          saving = shows.in_force.saving;
           is_saving = is;
           passes = passes;
         })
@@ -49,7 +49,7 @@ module _ (zone : Zone) (source : IsSoundSource zone.source) (sound : IsSound zon
       (λ none.
       let within = (sound_line zone (orderly zone source sound).sets shows.keeps.number shows.line shows.keeps.governs.is_line).offset in
       omega (arith, ints, within, none))
-      (saved_by zone shows.keeps.number shows.line t shows.kept shows.keeps.keeps)
+      (saved_by zone shows.keeps.number shows.line t shows.in_force shows.keeps.keeps)
 
   within_limits : IsWithinLimits state
   within_limits = record {

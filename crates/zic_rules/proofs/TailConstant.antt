@@ -7,15 +7,15 @@ use Rattle.zic_lines.specs.declared.zone_line.ZoneLine.{ZoneLine}
 use Rattle.zic_base.proofs.Elements.{only_one}
 use Rattle.zic_states.specs.End.{IsEnd}
 use Rattle.zic_states.specs.Fault.{HasNoLetter}
-use Rattle.zic_states.specs.Kept.{Kept, kept_of}
+use Rattle.zic_states.specs.InForce.{InForce, in_force_of}
 use Rattle.zic_states.specs.Laws.{IsOrderly}
-use Rattle.zic_states.specs.Tail.{HasContinuing, IsOnlyContinuing, KeepsFrom}
+use Rattle.zic_states.specs.Tail.{HasContinuing, IsOnlyContinuing, HasInForceFrom}
 use Rattle.zic_states.specs.Until.{set_of}
 use Rattle.zic_states.specs.Zone.{Zone, Shows}
 use Rattle.zic_states.proofs.Ends.{one_end}
 use Rattle.zic_states.proofs.TailChanges.{one_state_after_changes}
 use Rattle.zic_states.proofs.TailForEver.{at_both}
-use Rattle.zic_states.proofs.TailKept.{by_one, by_none}
+use Rattle.zic_states.proofs.TailInForce.{by_one, by_none}
 use Rattle.zic_states.proofs.TailLine.{governs_from_end, fixed_tail}
 use Rattle.zic_rules.specs.Tail.{AreContinuing, HasConstantTail, IsConstantTail}
 use Rattle.zic_rules.specs.declared.tail.TailRule.{TailRule}
@@ -23,21 +23,21 @@ use Rattle.zic_rules.specs.code.Tail.{HasTailRules}
 use Rattle.zic_rules.proofs.TailLines.{IsFixedLine, IsSetLine, fixed_or_set}
 
 -- from one second before the end on the zone keeps one thing
-record KeepsOneThing (zone : Zone) (end : ℤ) : Type 0 where
+record HasOneThingInForce (zone : Zone) (end : ℤ) : Type 0 where
   pub few : HasConstantTail zone
   pub line : ZoneLine
-  pub kept : Kept
-  pub from : KeepsFrom zone (end -ℤ pos 1) line kept
+  pub in_force : InForce
+  pub from : HasInForceFrom zone (end -ℤ pos 1) line in_force
 
 module _ (zone : Zone) (orderly : IsOrderly zone) (end : ℤ) (is_end : IsEnd zone end) (tails : List TailRule) where
-  by_fixed : IsFixedLine zone tails → KeepsOneThing zone end
+  by_fixed : IsFixedLine zone tails → HasOneThingInForce zone end
   by_fixed of =
-      let (kept, from) = fixed_tail zone orderly of.number of.line of.is_last of.none in
+      let (in_force, from) = fixed_tail zone orderly of.number of.line of.is_last of.none in
       let governs = governs_from_end zone orderly.sets of.number of.line end (end -ℤ pos 1) of.is_last is_end (omega (arith, ints)) in
       record {
         few = record { number = of.number; line = of.line; last = of.is_last; few = inl of.none };
         line = of.line;
-        kept = kept;
+        in_force = in_force;
         from = from (end -ℤ pos 1) governs.begun;
       }
 
@@ -51,19 +51,19 @@ module _ (zone : Zone) (orderly : IsOrderly zone) (end : ℤ) (is_end : IsEnd zo
     }
 
     -- by the numbers of those that go on
-    by_numbers : (numbers : List ℕ) → of.numbers ≡ numbers → length numbers ≤ 1 → KeepsOneThing zone end
+    by_numbers : (numbers : List ℕ) → of.numbers ≡ numbers → length numbers ≤ 1 → HasOneThingInForce zone end
     by_numbers [] e le =
         let none = λ (has : HasContinuing (set_of zone.source.rules of.name)).
         let found = subst (λ (ns : List ℕ). Contains ns has.0) e (of.continuing.all has.0 has.1 has.2 has.3) in
         let lt = found.1 in
         let nothing : ⊥ = omega (arith, lt) in
         nothing in
-        let (kept, from) = by_none zone orderly of.number of.line of.name of.year of.tail none in
+        let (in_force, from) = by_none zone orderly of.number of.line of.name of.year of.tail none in
         record {
           few = few_of (subst (λ (ns : List ℕ). length ns ≤ 1) (sym e) le);
           line = of.line;
-          kept = kept;
-          from = subst (λ (t : ℤ). KeepsFrom zone (t -ℤ pos 1) of.line kept) (sym of.end_is) from;
+          in_force = in_force;
+          from = subst (λ (t : ℤ). HasInForceFrom zone (t -ℤ pos 1) of.line in_force) (sym of.end_is) from;
         }
     by_numbers (n ∷ []) e le =
         let set = set_of zone.source.rules of.name in
@@ -77,16 +77,16 @@ module _ (zone : Zone) (orderly : IsOrderly zone) (end : ℤ) (is_end : IsEnd zo
         record {
           few = few_of (subst (λ (ns : List ℕ). length ns ≤ 1) (sym e) le);
           line = of.line;
-          kept = kept_of rule;
-          from = subst (λ (t : ℤ). KeepsFrom zone (t -ℤ pos 1) of.line (kept_of rule)) (sym of.end_is)
+          in_force = in_force_of rule;
+          from = subst (λ (t : ℤ). HasInForceFrom zone (t -ℤ pos 1) of.line (in_force_of rule)) (sym of.end_is)
               (by_one zone orderly of.number of.line of.name of.year of.tail n rule only);
         }
     by_numbers (n ∷ m ∷ rest) e le = absurd (omega (arith, le))
 
-    by_set : length tails ≤ 1 → KeepsOneThing zone end
+    by_set : length tails ≤ 1 → HasOneThingInForce zone end
     by_set le = let many = of.rules.as_many in by_numbers of.numbers refl (omega (arith, many))
 
-  one_thing : HasTailRules zone tails → length tails ≤ 1 → KeepsOneThing zone end
+  one_thing : HasTailRules zone tails → length tails ≤ 1 → HasOneThingInForce zone end
   one_thing has le = elim (fixed_or_set zone orderly end is_end tails has) [ inl fixed ↦ by_fixed fixed | inr of ↦ by_set of le ]
 
   pub constant_tail : zone.number < length zone.source.zones → (HasNoLetter zone → ⊥) → HasTailRules zone tails → length tails ≤ 1
@@ -101,12 +101,12 @@ module _ (zone : Zone) (orderly : IsOrderly zone) (end : ℤ) (is_end : IsEnd zo
             let not_before : (end -ℤ pos 1) ≤ℤ t = omega (arith, ints) in
             record {
               line = shown.line;
-              kept = shown.kept;
-              keeps = at_both zone (end -ℤ pos 1) t keeps.line keeps.kept (keeps.from (end -ℤ pos 1) (omega (arith, ints)))
-                  (keeps.from t not_before) shown.line shown.kept shown.keeps;
+              in_force = shown.in_force;
+              keeps = at_both zone (end -ℤ pos 1) t keeps.line keeps.in_force (keeps.from (end -ℤ pos 1) (omega (arith, ints)))
+                  (keeps.from t not_before) shown.line shown.in_force shown.keeps;
               offset = shown.offset;
               daylight = shown.daylight;
               name = shown.name;
             };
-        from_change = one_state_after_changes zone orderly is_zone letters end keeps.line keeps.kept is_end keeps.from state shown;
+        from_change = one_state_after_changes zone orderly is_zone letters end keeps.line keeps.in_force is_end keeps.from state shown;
       }

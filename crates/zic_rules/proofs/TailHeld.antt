@@ -13,15 +13,15 @@ use Rattle.zic_words.specs.declared.time.TheConstants.{GREATEST_OFFSET}
 use Rattle.zic_occurrences.specs.Occurrence.{IsMember, year_second}
 use Rattle.zic_states.specs.End.{IsLastLine, IsEndBy, IsEnd}
 use Rattle.zic_states.specs.Fault.{HasOffsetOutOfRange, IsSavingOf}
-use Rattle.zic_states.specs.Kept.{Kept, IsRuleOf, IsKeptBy, kept_of}
+use Rattle.zic_states.specs.InForce.{InForce, IsRuleOf, IsInForceBy, in_force_of}
 use Rattle.zic_states.specs.Laws.{IsOrderly}
 use Rattle.zic_states.specs.Tail.{IsContinuing, HasLastSet}
 use Rattle.zic_states.specs.Until.{set_of}
-use Rattle.zic_states.specs.Zone.{Zone, line_at, Governs, Keeps, ZoneKeeps}
+use Rattle.zic_states.specs.Zone.{Zone, line_at, Governs, HasInForce, ZoneHasInForce}
 use Rattle.zic_states.proofs.Governing.{one_line}
 use Rattle.zic_states.proofs.Lines.{last_line}
 use Rattle.zic_states.proofs.Orders.{same_number}
-use Rattle.zic_states.proofs.TailKept.{given, keeps_from_last}
+use Rattle.zic_states.proofs.TailInForce.{given, has_from_last}
 use Rattle.zic_states.proofs.TailLine.{governs_from_start}
 use Rattle.zic_states.proofs.TailSet.{rule_in, own_instant}
 use Rattle.zic_states.proofs.TailWindow.{begun_when_settled}
@@ -45,10 +45,10 @@ module _ (zone : Zone) (orderly : IsOrderly zone) (number : ℕ) (line : ZoneLin
       subst (λ (l : ZoneLine). IsEndBy zone number l.rules end) is (subst (λ (n : ℕ). IsEndBy zone n other.rules end) same by)
 
   -- where it governs, it keeps what the zone does
-  line_keeps : (t : ℤ) (kept : Kept) → Governs zone number line t → ZoneKeeps zone t line kept → Keeps zone number line t kept
-  line_keeps t kept governs keeps =
+  line_has : (t : ℤ) (in_force : InForce) → Governs zone number line t → ZoneHasInForce zone t line in_force → HasInForce zone number line t in_force
+  line_has t in_force governs keeps =
       let (same, same_line) = one_line zone orderly t keeps.number number line line keeps.governs governs in
-      subst (λ (i : ℕ). Keeps zone i line t kept) same keeps.keeps
+      subst (λ (i : ℕ). HasInForce zone i line t in_force) same keeps.keeps
 
   module _ (end : ℤ) (is_end : IsEnd zone end) (name : List ℕ) (has_set : line.rules ≡ Set name) where
     -- the last year that it names
@@ -59,10 +59,10 @@ module _ (zone : Zone) (orderly : IsOrderly zone) (number : ℕ) (line : ZoneLin
 
     module _ (n : ℕ) (rule : Rule) (member : IsMember (set_of zone.source.rules name) n rule) where
       -- what is kept by the rule of this number
-      by_rule : (kept : Kept) → IsKeptBy zone.source.rules line.rules (Some n) kept → kept ≡ kept_of rule
-      by_rule kept is_kept =
-          let (other, is, e) = subst (λ (says : Rules). IsKeptBy zone.source.rules says (Some n) kept) has_set is_kept in
-          e ∙ ap kept_of (same_Some other rule (sym is.numbered ∙ member.numbered))
+      by_rule : (in_force : InForce) → IsInForceBy zone.source.rules line.rules (Some n) in_force → in_force ≡ in_force_of rule
+      by_rule in_force is_in_force =
+          let (other, is, e) = subst (λ (says : Rules). IsInForceBy zone.source.rules says (Some n) in_force) has_set is_in_force in
+          e ∙ ap in_force_of (same_Some other rule (sym is.numbered ∙ member.numbered))
 
       -- at some instant it holds by a rule that goes on for ever
       pub held_for_ever : IsContinuing rule → IsHeld zone number (Some n)
@@ -70,17 +70,17 @@ module _ (zone : Zone) (orderly : IsOrderly zone) (number : ℕ) (line : ZoneLin
           let (year, tail, is) = last_set in
           let (later, u, is_one, at, late, before) = own_instant (set_of zone.source.rules name) line.offset year
           (given zone orderly number line name year tail) n rule member continues in
-          let own = keeps_from_last zone orderly number line name year tail u (rule_in n rule later) u (omega (arith, ints))
+          let own = has_from_last zone orderly number line name year tail u (rule_in n rule later) u (omega (arith, ints))
           (record { is = is_one; instant = at; not_after = omega (arith, ints); last = λ q v is_q at_v not_after. not_after }) in
           let governs : Governs zone number line u = governs_from_start zone number line u last
           (begun_when_settled zone orderly.sets number name year u tail.last_year (omega (arith, ints))) in
-          let keeps = line_keeps u (kept_of rule) governs own.keeps in (
+          let keeps = line_has u (in_force_of rule) governs own.keeps in (
             u,
             record {
               line = line;
               governs = governs;
               of_line = subst (λ (says : Rules). IsRuleOf zone.source.rules says (Some n)) (sym has_set) (rule, member);
-              keeps = λ kept is_kept. subst (λ (k : Kept). Keeps zone number line u k) (sym (by_rule kept is_kept)) keeps;
+              keeps = λ in_force is_in_force. subst (λ (k : InForce). HasInForce zone number line u k) (sym (by_rule in_force is_in_force)) keeps;
             },
           )
 
@@ -90,8 +90,8 @@ module _ (zone : Zone) (orderly : IsOrderly zone) (number : ℕ) (line : ZoneLin
           let held = held_for_ever continues in
           unnamed_from zone number (Some n) reason held
           (unnamed_at zone number (Some n) line reason last.is_line held record {
-            kept = kept_of rule;
-            is_kept = subst (λ (says : Rules). IsKeptBy zone.source.rules says (Some n) (kept_of rule)) (sym has_set) (rule, member, refl);
+            in_force = in_force_of rule;
+            is_in_force = subst (λ (says : Rules). IsInForceBy zone.source.rules says (Some n) (in_force_of rule)) (sym has_set) (rule, member, refl);
             offset = line.offset +ℤ rule.saving.seconds;
             total = refl;
             refused = refused;

@@ -28,12 +28,12 @@ with_first : {A : Type 0} (b : Bool) (y : A) (xs : List A) (x : A) → Contains 
 with_first true y xs x has = Contains-append_right (y ∷ []) xs x has
 with_first false y xs x has = has
 
-kept_by_filter : {A : Type 0} (test : A → Bool) (xs : List A) (x : A) → Contains xs x → test x ≡ true → Contains (filter test xs) x
-kept_by_filter test [] x has e = absurd (omega (arith, has.1))
-kept_by_filter test (y ∷ xs) x has e = ⊎_elim
+left_by_filter : {A : Type 0} (test : A → Bool) (xs : List A) (x : A) → Contains xs x → test x ≡ true → Contains (filter test xs) x
+left_by_filter test [] x has e = absurd (omega (arith, has.1))
+left_by_filter test (y ∷ xs) x has e = ⊎_elim
     (λ same. subst (λ (b : Bool). Contains (cond b (y ∷ filter test xs) (filter test xs)) x) (sym (ap test same ∙ e))
     (subst (λ (z : _). Contains (y ∷ filter test xs) z) same (first_contained y (filter test xs))))
-    (λ later. with_first (test y) y (filter test xs) x (kept_by_filter test xs x later e))
+    (λ later. with_first (test y) y (filter test xs) x (left_by_filter test xs x later e))
     (cons_cases y xs x has)
 
 is_none_of : {A : Type 0} (o : Option A) → o ≡ None → is_none o ≡ true
@@ -49,7 +49,7 @@ module _ (set : RuleSet) where
         let passes = filter_passes (λ n. goes_on (slice_get set.rules n)) (set_rules set.name set.rules) k d lt in
         (is.rule, is.member, never_ends is.rule (sym (ap goes_on is.member.numbered) ∙ passes));
     all = λ n rule member continues.
-        kept_by_filter (λ m. goes_on (slice_get set.rules m)) (set_rules set.name set.rules) n (has_members set n rule member)
+        left_by_filter (λ m. goes_on (slice_get set.rules m)) (set_rules set.name set.rules) n (has_members set n rule member)
         (ap goes_on member.numbered ∙ is_none_of rule.last continues);
   }
 

@@ -72,8 +72,8 @@ longer : {A : Type 0} (xs : List A) (x : A) → length (xs ++ x ∷ []) ≡ leng
 longer [] x = refl
 longer (y ∷ xs) x = let rest = longer xs x in omega (arith, rest)
 
-pub none_kept : (rules : List Rule) (line : ZoneLine) → AreTailRules rules line [] []
-none_kept rules line = record { as_many = refl; each = λ k n rule tail at_n at_rule at_tail. absurd (omega (arith, slice_get_within [] k n at_n)) }
+pub none_in_force : (rules : List Rule) (line : ZoneLine) → AreTailRules rules line [] []
+none_in_force rules line = record { as_many = refl; each = λ k n rule tail at_n at_rule at_tail. absurd (omega (arith, slice_get_within [] k n at_n)) }
 
 module _ (rules : List Rule) (line : ZoneLine) where
   one_more : (numbers : List ℕ) (tails : List TailRule) (n : ℕ) (rule : Rule) (tail : TailRule) → AreTailRules rules line numbers tails
@@ -104,15 +104,15 @@ module _ (rules : List Rule) (line : ZoneLine) where
         filter_more (λ (n : ℕ). goes_on (slice_get rules n)) numbers i 0 within
         ∙ ap (λ (x : Bool). continuing rules (take i numbers) ++ cond x (get_or numbers i 0 ∷ []) []) test
 
-    pub kept_more : (tails : List TailRule) (tail : TailRule) → is_none rule.last ≡ true → IsTailRule line rule tail
+    pub so_far_more : (tails : List TailRule) (tail : TailRule) → is_none rule.last ≡ true → IsTailRule line rule tail
         → AreTailRules rules line (continuing rules (take i numbers)) tails → AreTailRules rules line (continuing rules (take (i + 1) numbers)) (tails ++ tail ∷ [])
-    kept_more tails tail continues is so_far =
+    so_far_more tails tail continues is so_far =
         subst (λ (ns : List ℕ). AreTailRules rules line ns (tails ++ tail ∷ [])) (sym (continuing_more true continues))
         (one_more (continuing rules (take i numbers)) tails (get_or numbers i 0) rule tail so_far numbered is)
 
-    pub kept_same : (tails : List TailRule) → is_none rule.last ≡ false
+    pub so_far_same : (tails : List TailRule) → is_none rule.last ≡ false
         → AreTailRules rules line (continuing rules (take i numbers)) tails → AreTailRules rules line (continuing rules (take (i + 1) numbers)) tails
-    kept_same tails ends so_far =
+    so_far_same tails ends so_far =
         subst (λ (ns : List ℕ). AreTailRules rules line ns tails) (sym (continuing_more false ends ∙ append-nil (continuing rules (take i numbers)))) so_far
 
 -- ---- a zone of one line without a set

@@ -13,14 +13,14 @@ use Rattle.zic_occurrences.proofs.Instants.{some_instant, instants_rise}
 use Rattle.zic_states.specs.Abbreviation.{abbreviation}
 use Rattle.zic_states.specs.Change.{IsChange, IsAfterChanges}
 use Rattle.zic_states.specs.End.{IsEndBy, IsEnd}
-use Rattle.zic_states.specs.Kept.{kept_from}
+use Rattle.zic_states.specs.InForce.{in_force_from}
 use Rattle.zic_states.specs.Laws.{IsOrderly}
-use Rattle.zic_states.specs.Tail.{IsContinuing, HasContinuing, KeepsJust, Alternate, FollowsAnother}
+use Rattle.zic_states.specs.Tail.{IsContinuing, HasContinuing, HasJustInForce, Alternate, FollowsAnother}
 use Rattle.zic_states.specs.Until.{set_of}
 use Rattle.zic_states.specs.Zone.{Zone}
 use Rattle.zic_states.proofs.Ends.{one_end}
 use Rattle.zic_states.proofs.TailForEver.{alternates_for_ever}
-use Rattle.zic_states.proofs.TailKept.{given, keeps_from_last, by_continuing}
+use Rattle.zic_states.proofs.TailInForce.{given, has_from_last, by_continuing}
 use Rattle.zic_states.proofs.TailRepeats.{follow}
 use Rattle.zic_states.proofs.TailSet.{rule_in, some_last, last_is_after, continues_after, own_instant}
 use Rattle.zic_states.proofs.TailWindow.{settled}
@@ -82,7 +82,7 @@ module _ (zone : Zone) (orderly : IsOrderly zone) (end : ℤ) (is_end : IsEnd zo
 
   -- where an occurrence of a later year is the last, it is of one of these rules, and the zone shows what the rule begins
   shows_by : (t : ℤ) (o : Occurrence) (u : ℤ) → IsLastOccurrence set of.line.offset t o u → of.year <ℤ o.year → IsContinuing o.rule
-      → KeepsJust zone t of.line (kept_from o) → ShowsFrom t o
+      → HasJustInForce zone t of.line (in_force_from o) → ShowsFrom t o
   shows_by t o u last after continues keeps =
       let has = of.continuing.all o.number o.rule last.is.member continues in
       let at = get_contained of.numbers o.number has in
@@ -101,7 +101,7 @@ module _ (zone : Zone) (orderly : IsOrderly zone) (end : ℤ) (is_end : IsEnd zo
           is_tail = at_tail;
           shows = record {
             line = of.line;
-            kept = kept_from o;
+            in_force = in_force_from o;
             keeps = keeps.keeps;
             offset = offset;
             daylight = λ k. (is.saving k).daylight;
@@ -184,7 +184,7 @@ module _ (zone : Zone) (orderly : IsOrderly zone) (end : ℤ) (is_end : IsEnd zo
           last = λ q v is_q at_q not_after. last.last q v is_q at_q (omega (arith, ints));
         } in
         shows_by t o u current after continues
-        (keeps_from_last zone orderly of.number of.line of.name of.year of.tail t o u (omega (arith, ints)) current)
+        (has_from_last zone orderly of.number of.line of.name of.year of.tail t o u (omega (arith, ints)) current)
 
     -- one second before the last occurrence the zone shows what the one before it begins
     one_before : (w : ℤ) → IsLastOccurrence set of.line.offset (u -ℤ pos 1) follows.before w → ShowsFrom (u -ℤ pos 1) follows.before
@@ -192,7 +192,7 @@ module _ (zone : Zone) (orderly : IsOrderly zone) (end : ℤ) (is_end : IsEnd zo
         let settled_by = not_before w before in
         let earlier = before.not_after in
         shows_by (u -ℤ pos 1) follows.before w before follows.after follows.continues
-        (keeps_from_last zone orderly of.number of.line of.name of.year of.tail (u -ℤ pos 1) follows.before w (omega (arith, ints)) before)
+        (has_from_last zone orderly of.number of.line of.name of.year of.tail (u -ℤ pos 1) follows.before w (omega (arith, ints)) before)
 
     -- so the last occurrence before the end is a change
     pub last_is_change : IsChange zone u

@@ -12,11 +12,11 @@ use Rattle.zic_words.specs.Limits.{is_abbreviation}
 use Rattle.zic_states.specs.Change.{Change}
 use Rattle.zic_states.specs.End.{IsEnd}
 use Rattle.zic_states.specs.Fault.{HasOffsetOutOfRange, HasRulesOutOfOrder, HasUntilNotRising, HasNoLetter, HasBadAbbreviation, Applies, IsSound, IsFaultOfStates}
-use Rattle.zic_states.specs.Kept.{Kept}
+use Rattle.zic_states.specs.InForce.{InForce}
 use Rattle.zic_states.specs.Laws.{IsOrderly}
 use Rattle.zic_base.specs.State.{Shown}
-use Rattle.zic_states.specs.Zone.{Zone, lines_of, Keeps, ZoneKeeps, Shows}
-use Rattle.zic_states.proofs.Kept.{one_kept}
+use Rattle.zic_states.specs.Zone.{Zone, lines_of, HasInForce, ZoneHasInForce, Shows}
+use Rattle.zic_states.proofs.InForce.{one_in_force}
 use Rattle.zic_states.proofs.Governing.{one_line}
 use Rattle.zic_states.proofs.States.{one_state}
 use Rattle.zic_rules.specs.declared.period.Periods.{Periods}
@@ -97,24 +97,24 @@ module _ (zone : Zone) where
   -- the same at the Zone line
   pub fault_of_states : (place : Place) → IsSomeAnd (lines_of zone) (λ lines. place ≡ lines.first.place) → (fault : Kind) → IsFirstFault zone fault
       → IsFaultOfStates zone (fault_at place fault)
-  fault_of_states place stands fault is = record { applies = is.applies; least = is.least; place = stands }
+  fault_of_states place located fault is = record { applies = is.applies; least = is.least; place = located }
 
 -- ---- before the end
 
 module _ (zone : Zone) (orderly : IsOrderly zone) (end : ℤ) (is_end : IsEnd zone end) where
   -- what a zone keeps, it keeps before its end
-  earlier : (t : ℤ) (line : ZoneLine) (kept : Kept) → ZoneKeeps zone t line kept → (u : ℤ) × (u <ℤ end) × ZoneKeeps zone u line kept
-  earlier t line kept keeps = by_lt_z t end (λ lt. (t, lt, keeps)) (λ ge. shown_before zone orderly end t is_end ge line kept keeps)
+  earlier : (t : ℤ) (line : ZoneLine) (in_force : InForce) → ZoneHasInForce zone t line in_force → (u : ℤ) × (u <ℤ end) × ZoneHasInForce zone u line in_force
+  earlier t line in_force keeps = by_lt_z t end (λ lt. (t, lt, keeps)) (λ ge. shown_before zone orderly end t is_end ge line in_force keeps)
 
   -- what it shows, it shows before its end
   shown_earlier : (t : ℤ) (state : Shown) → Shows zone t state → (u : ℤ) × (u <ℤ end) × Shows zone u state
   shown_earlier t state shows =
-      let (u, before, keeps) = earlier t shows.line shows.kept shows.keeps in (
+      let (u, before, keeps) = earlier t shows.line shows.in_force shows.keeps in (
         u,
         before,
         record {
           line = shows.line;
-          kept = shows.kept;
+          in_force = shows.in_force;
           keeps = keeps;
           offset = shows.offset;
           daylight = shows.daylight;
@@ -123,23 +123,23 @@ module _ (zone : Zone) (orderly : IsOrderly zone) (end : ℤ) (is_end : IsEnd zo
       )
 
   -- a line and what it keeps are one
-  filled_once : (t : ℤ) (line line' : ZoneLine) (kept kept' : Kept) → ZoneKeeps zone t line kept → ZoneKeeps zone t line' kept'
-      → abbreviation line.format (line.offset +ℤ kept.saving) kept.daylight kept.letter
-      ≡ abbreviation line'.format (line'.offset +ℤ kept'.saving) kept'.daylight kept'.letter
-  filled_once t line line' kept kept' by by' =
+  filled_once : (t : ℤ) (line line' : ZoneLine) (in_force in_force' : InForce) → ZoneHasInForce zone t line in_force → ZoneHasInForce zone t line' in_force'
+      → abbreviation line.format (line.offset +ℤ in_force.saving) in_force.daylight in_force.letter
+      ≡ abbreviation line'.format (line'.offset +ℤ in_force'.saving) in_force'.daylight in_force'.letter
+  filled_once t line line' in_force in_force' by by' =
       let (number, same) = one_line zone orderly t by.number by'.number line line' by.governs by'.governs in
-      let keeps = subst (λ (i : ℕ). Keeps zone i line' t kept') (sym number) by'.keeps in
-      let keeps_too = subst (λ (l : ZoneLine). Keeps zone by.number l t kept') (sym same) keeps in
-      let one = one_kept zone orderly.sets by.number line t kept kept' by.governs.is_line by.keeps keeps_too in
+      let keeps = subst (λ (i : ℕ). HasInForce zone i line' t in_force') (sym number) by'.keeps in
+      let has_as_well = subst (λ (l : ZoneLine). HasInForce zone by.number l t in_force') (sym same) keeps in
+      let one = one_in_force zone orderly.sets by.number line t in_force in_force' by.governs.is_line by.keeps has_as_well in
       λ k. abbreviation (same k).format ((same k).offset +ℤ (one k).saving) (one k).daylight (one k).letter
 
   -- where it shows some state at each instant before its end, no letter is lacking
   pub no_letter_lacks : ShowsSomeBefore zone end → HasNoLetter zone → ⊥
   no_letter_lacks some lacks =
-      let (u, before, keeps) = earlier lacks.t lacks.line lacks.kept lacks.keeps in
+      let (u, before, keeps) = earlier lacks.t lacks.line lacks.in_force lacks.keeps in
       let (state, shows) = some u before in
-      let once = filled_once u lacks.line shows.line lacks.kept shows.kept keeps shows.keeps in
-      let e = ap (λ (o : ℤ). abbreviation shows.line.format o shows.kept.daylight shows.kept.letter) shows.offset in
+      let once = filled_once u lacks.line shows.line lacks.in_force shows.in_force keeps shows.keeps in
+      let e = ap (λ (o : ℤ). abbreviation shows.line.format o shows.in_force.daylight shows.in_force.letter) shows.offset in
       let name = sym lacks.wants ∙ once ∙ sym e ∙ shows.name in
       cc
 

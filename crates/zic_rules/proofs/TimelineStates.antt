@@ -18,24 +18,24 @@ use Rattle.zic_words.specs.Limits.{is_abbreviation}
 use Rattle.zic_rules.specs.declared.changes.DatedState.{DatedState}
 use Rattle.zic_rules.specs.declared.zone_state.ZoneState.{ZoneState}
 use Rattle.zic_states.specs.Change.{Change}
-use Rattle.zic_states.specs.Kept.{Kept, IsKeptBy, IsRuleOf}
+use Rattle.zic_states.specs.InForce.{InForce, IsInForceBy, IsRuleOf}
 use Rattle.zic_base.specs.State.{Shown}
-use Rattle.zic_states.specs.Zone.{Zone, line_at, ZoneKeeps}
+use Rattle.zic_states.specs.Zone.{Zone, line_at, ZoneHasInForce}
 use Rattle.zic_rules.specs.declared.period.Period.{Period}
 use Rattle.zic_rules.specs.declared.period.Periods.{Periods}
 use Rattle.zic_rules.specs.code.Period.{HasLine, ArePeriods, Holds}
 use Rattle.zic_rules.specs.code.Held.{IsFrom, ComesAfter}
-use Rattle.zic_rules.specs.code.Shown.{IsShownBy, IsRefusedBy, IsHeld, ShowsWhereHeld, IsUnnamed, IsUnnamedAt, AreSoFrom, from_of, IsUpTo, IsSoTo, ShowsSomeTo, ShowsSomeBefore, ShowsNamed, AreKeptTo, shown_by, dated}
+use Rattle.zic_rules.specs.code.Shown.{IsShownBy, IsRefusedBy, IsHeld, ShowsWhereHeld, IsUnnamed, IsUnnamedAt, AreSoFrom, from_of, IsUpTo, IsSoTo, ShowsSomeTo, ShowsSomeBefore, ShowsNamed, AreChangesSoFar, shown_by, dated}
 use Rattle.zic_rules.proofs.TimelineChanges.{so_earlier}
 
 -- ---- where a line holds
 
-keeps_held : (zone : Zone) (t : ℤ) (number : ℕ) (rule : Option ℕ) (line : ZoneLine) (kept : Kept) → line_at zone number ≡ Some line
-    → Holds zone t number rule → IsKeptBy zone.source.rules line.rules rule kept → ZoneKeeps zone t line kept
-keeps_held zone t number rule line kept at h =
+has_held : (zone : Zone) (t : ℤ) (number : ℕ) (rule : Option ℕ) (line : ZoneLine) (in_force : InForce) → line_at zone number ≡ Some line
+    → Holds zone t number rule → IsInForceBy zone.source.rules line.rules rule in_force → ZoneHasInForce zone t line in_force
+has_held zone t number rule line in_force at h =
     let same = same_Some h.line line (sym h.governs.is_line ∙ at) in
-    subst (λ (l : ZoneLine). IsKeptBy zone.source.rules l.rules rule kept → ZoneKeeps zone t l kept) same
-    (λ is_kept. record { number = number; governs = h.governs; keeps = h.keeps kept is_kept })
+    subst (λ (l : ZoneLine). IsInForceBy zone.source.rules l.rules rule in_force → ZoneHasInForce zone t l in_force) same
+    (λ is_in_force. record { number = number; governs = h.governs; keeps = h.keeps in_force is_in_force })
 
 -- a line that holds is one of the zone
 pub line_held : (zone : Zone) (number : ℕ) (rule : Option ℕ) → IsHeld zone number rule → HasLine zone number
@@ -56,8 +56,8 @@ pub shows_held : (zone : Zone) (number : ℕ) (rule : Option ℕ) (line : ZoneLi
     → IsShownBy zone.source.rules line rule state → ShowsWhereHeld zone number rule state
 shows_held zone number rule line state at by t h = record {
   line = line;
-  kept = by.kept;
-  keeps = keeps_held zone t number rule line by.kept at h by.is_kept;
+  in_force = by.in_force;
+  keeps = has_held zone t number rule line by.in_force at h by.is_in_force;
   offset = by.offset;
   daylight = by.daylight;
   name = by.name;
@@ -69,14 +69,14 @@ unnamed_at zone number rule line reason at held by = ⊎_elim
     (λ lacks. subst (IsUnnamedAt zone number rule) (sym lacks.0) record {
       t = held.0;
       line = line;
-      kept = by.kept;
-      keeps = keeps_held zone held.0 number rule line by.kept at held.1 by.is_kept;
-      wants = ap (λ (o : ℤ). abbreviation line.format o by.kept.daylight by.kept.letter) (sym by.total) ∙ lacks.1;
+      in_force = by.in_force;
+      keeps = has_held zone held.0 number rule line by.in_force at held.1 by.is_in_force;
+      wants = ap (λ (o : ℤ). abbreviation line.format o by.in_force.daylight by.in_force.letter) (sym by.total) ∙ lacks.1;
     })
     (λ breaks.
-    let state : Shown = record { offset = by.offset; daylight = by.kept.daylight; name = breaks.1.name } in
+    let state : Shown = record { offset = by.offset; daylight = by.in_force.daylight; name = breaks.1.name } in
     let shown : IsShownBy zone.source.rules line rule state =
-    record { kept = by.kept; is_kept = by.is_kept; offset = by.total; daylight = refl; name = breaks.1.is } in
+    record { in_force = by.in_force; is_in_force = by.is_in_force; offset = by.total; daylight = refl; name = breaks.1.is } in
     subst (IsUnnamedAt zone number rule) (sym breaks.0)
     (state, shows_held zone number rule line state at shown, breaks.1.breaks))
     by.refused
@@ -287,26 +287,26 @@ dated_more [] x = refl
 dated_more (y ∷ ys) x = ap (λ (cs : List Change). dated y ∷ cs) (dated_more ys x)
 
 module _ (zone : Zone) (all : Periods) (known : ArePeriods zone all.end all.list.items) (first : Shown) where
-  pub kept_first : ShowsWhereHeld zone 0 None first → is_abbreviation first.name ≡ true → AreKeptTo zone all first 0 first []
-  kept_first shows name = record {
+  pub so_far_first : ShowsWhereHeld zone 0 None first → is_abbreviation first.name ≡ true → AreChangesSoFar zone all first 0 first []
+  so_far_first shows name = record {
     so = so_at_first zone all known (ShowsNamed zone) first (λ t h. (shows t h, name));
     later = λ rest so. so;
   }
 
-  pub kept_same : (i : ℕ) (s : Period) (last state : Shown) (cs : List Change) → slice_get all.list.items i ≡ Some s
+  pub so_far_same : (i : ℕ) (s : Period) (last state : Shown) (cs : List Change) → slice_get all.list.items i ≡ Some s
       → ShowsWhereHeld zone s.line s.rule state → is_abbreviation state.name ≡ true → last ≡ state
-      → AreKeptTo zone all first i last cs → AreKeptTo zone all first (i + 1) state cs
-  kept_same i s last state cs at shows name same so_far = record {
+      → AreChangesSoFar zone all first i last cs → AreChangesSoFar zone all first (i + 1) state cs
+  so_far_same i s last state cs at shows name same so_far = record {
     so = so_at_next zone all known (ShowsNamed zone) i s state at (λ t h. (shows t h, name));
     later = λ rest so. so_far.later rest
         (same_state zone all known (ShowsNamed zone) i s last at so_far.so rest
         (subst (λ (x : Shown). AreSoFrom (ShowsNamed zone) all.end (from_of all.list.items (i + 1)) x rest) (sym same) so));
   }
 
-  kept_new : (i : ℕ) (s : Period) (last state : Shown) (cs : List Change) → slice_get all.list.items i ≡ Some s
+  so_far_new : (i : ℕ) (s : Period) (last state : Shown) (cs : List Change) → slice_get all.list.items i ≡ Some s
       → ShowsWhereHeld zone s.line s.rule state → is_abbreviation state.name ≡ true → (last ≡ state → ⊥)
-      → AreKeptTo zone all first i last cs → AreKeptTo zone all first (i + 1) state (cs ++ record { instant = s.from; state = state } ∷ [])
-  kept_new i s last state cs at shows name differs so_far = record {
+      → AreChangesSoFar zone all first i last cs → AreChangesSoFar zone all first (i + 1) state (cs ++ record { instant = s.from; state = state } ∷ [])
+  so_far_new i s last state cs at shows name differs so_far = record {
     so = so_at_next zone all known (ShowsNamed zone) i s state at (λ t h. (shows t h, name));
     later = λ rest so. subst (λ (ds : List Change). AreSoFrom (ShowsNamed zone) all.end None first ds)
         (sym (append_assoc cs (record { instant = s.from; state = state } ∷ []) rest))
@@ -314,18 +314,18 @@ module _ (zone : Zone) (all : Periods) (known : ArePeriods zone all.end all.list
         (new_state zone all known (ShowsNamed zone) i s last state at so_far.so differs rest so));
   }
 
-  pub kept_pushed : (i : ℕ) (s : Period) (last state : ZoneState) (xs ys : List DatedState) → slice_get all.list.items i ≡ Some s
+  pub so_far_pushed : (i : ℕ) (s : Period) (last state : ZoneState) (xs ys : List DatedState) → slice_get all.list.items i ≡ Some s
       → ShowsWhereHeld zone s.line s.rule (shown_by state) → is_abbreviation state.name ≡ true → (shown_by last ≡ shown_by state → ⊥)
       → ys ≡ xs ++ record { instant = s.from; state = state } ∷ []
-      → AreKeptTo zone all first i (shown_by last) (map dated xs) → AreKeptTo zone all first (i + 1) (shown_by state) (map dated ys)
-  kept_pushed i s last state xs ys at shows name differs is so_far =
-      subst (λ (cs : List Change). AreKeptTo zone all first (i + 1) (shown_by state) cs)
+      → AreChangesSoFar zone all first i (shown_by last) (map dated xs) → AreChangesSoFar zone all first (i + 1) (shown_by state) (map dated ys)
+  so_far_pushed i s last state xs ys at shows name differs is so_far =
+      subst (λ (cs : List Change). AreChangesSoFar zone all first (i + 1) (shown_by state) cs)
       (sym (ap (map dated) is ∙ dated_more xs (record { instant = s.from; state = state })))
-      (kept_new i s (shown_by last) (shown_by state) (map dated xs) at shows name differs so_far)
+      (so_far_new i s (shown_by last) (shown_by state) (map dated xs) at shows name differs so_far)
 
-  pub kept_to_end : (i : ℕ) (last : Shown) (cs : List Change) → i ≡ length all.list.items → AreKeptTo zone all first i last cs
+  pub so_far_to_end : (i : ℕ) (last : Shown) (cs : List Change) → i ≡ length all.list.items → AreChangesSoFar zone all first i last cs
       → AreSoFrom (ShowsNamed zone) all.end None first cs
-  kept_to_end i last cs end so_far =
+  so_far_to_end i last cs end so_far =
       let so = subst (λ (n : ℕ). IsSoTo (ShowsNamed zone) all n last) end so_far.so in
       let rest = so_to_end zone all known (ShowsNamed zone) last so in
       let from = subst (λ (n : ℕ). AreSoFrom (ShowsNamed zone) all.end (from_of all.list.items n) last []) (sym end) rest in

@@ -28,11 +28,11 @@ use Rattle.zic_rules.specs.declared.period.Period.{Period}
 use Rattle.zic_rules.specs.code.Period.{IsFaultOfPeriods}
 use Rattle.zic_rules.specs.code.End.{IsStart, IsInYears, IsEndAfter, IsEndFrom}
 use Rattle.zic_rules.specs.code.Held.{IsFrom, AreSoFar}
-use Rattle.zic_rules.specs.code.Line.{IsOrderedOn, IsDisorderedOn, AreOccurrencesOn, TellsKept, IsLineTo, bound_of}
+use Rattle.zic_rules.specs.code.Line.{IsOrderedOn, IsDisorderedOn, AreOccurrencesOn, GivesInForce, IsLineTo, bound_of}
 use Rattle.zic_rules.specs.code.Walk.{AreOrderedTo, DoRiseTo}
 use Rattle.zic_rules.proofs.Years.{years_rise}
 use Rattle.zic_rules.proofs.Untils.{near_until, near_enough, in_years}
-use Rattle.zic_rules.proofs.Tells.{ordered_set, not_over_until, tells_to_until, tells_last, before_limit}
+use Rattle.zic_rules.proofs.OccurrencesOfLines.{ordered_set, not_over_until, gives_to_until, gives_last, before_limit}
 
 -- ---- lines of a sound source
 
@@ -201,10 +201,10 @@ pub line_to_until : (zone : Zone) (number : ℕ) (start : Option ℤ) (end : ℤ
 line_to_until zone number start end line until xs sound at has from order are is =
     let line_sound = sound_line zone number line sound at in
     let near = near_until zone.source.rules line until end sound.rules line_sound has is in
-    let told = tells_to_until zone line sound.rules line_sound order xs end (bound_of start end) (until.year + 2) is are (near_enough until end near) in
+    let facts = gives_to_until zone line sound.rules line_sound order xs end (bound_of start end) (until.year + 2) is are (near_enough until end near) in
     record {
       governs = governs_from zone number start end line from at (λ t lt. (not_over_until zone line sound.rules line_sound order xs end t is).1 lt);
-      tells = λ other e. subst (λ (l : ZoneLine). TellsKept zone (bound_of start end) l (before xs end)) (same_Some line other (sym at ∙ e)) told;
+      gives = λ other e. subst (λ (l : ZoneLine). GivesInForce zone (bound_of start end) l (before xs end)) (same_Some line other (sym at ∙ e)) facts;
       before_end = before_limit xs end;
     }
 
@@ -216,10 +216,10 @@ line_to_end zone number start end year line xs sound at none from order are is o
     let line_sound = sound_line zone number line sound at in
     let next = years_rise (pos year +ℤ pos 1) (pos (year + 2)) (omega (arith, ints)) in
     let within : (end +ℤ pos 172_800) ≤ℤ year_second (pos (year + 2)) = omega (arith, ints, next, of.not_over) in
-    let told = tells_last zone line sound.rules line_sound order xs start end (year + 2) none are within is.after in
+    let facts = gives_last zone line sound.rules line_sound order xs start end (year + 2) none are within is.after in
     record {
       governs = governs_from zone number start end line from at (λ t lt. rw none tt);
-      tells = λ other e. subst (λ (l : ZoneLine). TellsKept zone (bound_of start end) l (before xs end)) (same_Some line other (sym at ∙ e)) told;
+      gives = λ other e. subst (λ (l : ZoneLine). GivesInForce zone (bound_of start end) l (before xs end)) (same_Some line other (sym at ∙ e)) facts;
       before_end = before_limit xs end;
     }
 

@@ -12,25 +12,25 @@ use Rattle.zic_source.specs.Sound.{IsSoundRule, AreSoundRules, IsWithinDay}
 use Rattle.zic_base.proofs.Elements.{all_got}
 use Rattle.zic_occurrences.specs.declared.occurrence.TimedOccurrence.{TimedOccurrence}
 use Rattle.zic_states.specs.ByList.{rule_at}
-use Rattle.zic_states.specs.Kept.{Kept, IsKeptBy, IsRuleOf}
-use Rattle.zic_states.specs.Zone.{Zone, line_at, Ends, HasOffset, IsWindowEnd, Keeps}
+use Rattle.zic_states.specs.InForce.{InForce, IsInForceBy, IsRuleOf}
+use Rattle.zic_states.specs.Zone.{Zone, line_at, Ends, HasOffset, IsWindowEnd, HasInForce}
 use Rattle.zic_rules.specs.declared.period.Period.{Period}
 use Rattle.zic_rules.specs.code.Period.{Holds}
 use Rattle.zic_rules.specs.code.Held.{HeldTo, AreSoFar, last_rule}
-use Rattle.zic_rules.specs.code.Line.{TellsKept, IsEndOfWindow, IsTotalOffset}
+use Rattle.zic_rules.specs.code.Line.{GivesInForce, IsEndOfWindow, IsTotalOffset}
 use Rattle.zic_words.specs.Time.{IsWithin}
 use Rattle.zic_rules.specs.code.End.{IsInYears}
 use Rattle.zic_rules.proofs.Years.{small}
 use Rattle.zic_rules.proofs.Held.{holds_last, last_rule_is}
 
 -- what a sound line keeps saves at most a day
-pub saving_within : (rules : List Rule) (says : Rules) (rule : Option ℕ) (kept : Kept) → All IsSoundRule rules → AreSoundRules rules says
-    → IsKeptBy rules says rule kept → IsWithinDay kept.saving
-saving_within rules Standard rule kept sound known is = subst IsWithinDay (sym (ap (λ (k : Kept). k.saving) is)) (omega arith)
-saving_within rules (Amount saving) rule kept sound known is = subst IsWithinDay (sym (ap (λ (k : Kept). k.saving) is)) known
-saving_within rules (Set name) None kept sound known (is, standard, letter) = subst IsWithinDay (sym is) (omega arith)
-saving_within rules (Set name) (Some number) kept sound known (rule, member, is) =
-    subst IsWithinDay (sym (ap (λ (k : Kept). k.saving) is)) (let one = all_got IsSoundRule rules number rule sound member.numbered in one.saving)
+pub saving_within : (rules : List Rule) (says : Rules) (rule : Option ℕ) (in_force : InForce) → All IsSoundRule rules → AreSoundRules rules says
+    → IsInForceBy rules says rule in_force → IsWithinDay in_force.saving
+saving_within rules Standard rule in_force sound known is = subst IsWithinDay (sym (ap (λ (k : InForce). k.saving) is)) (omega arith)
+saving_within rules (Amount saving) rule in_force sound known is = subst IsWithinDay (sym (ap (λ (k : InForce). k.saving) is)) known
+saving_within rules (Set name) None in_force sound known (is, standard, letter) = subst IsWithinDay (sym is) (omega arith)
+saving_within rules (Set name) (Some number) in_force sound known (rule, member, is) =
+    subst IsWithinDay (sym (ap (λ (k : InForce). k.saving) is)) (let one = all_got IsSoundRule rules number rule sound member.numbered in one.saving)
 
 -- what holds one second before the start
 pub holds_before : (zone : Zone) (i : ℕ) (start : ℤ) (ss : List Period) → HeldTo zone i start ss → Holds zone (start -ℤ pos 1) i (last_rule None ss)
@@ -47,33 +47,33 @@ rule_before zone (suc i) start ss earlier so_far at =
     subst (λ (l : ZoneLine). IsRuleOf zone.source.rules l.rules (last_rule None ss)) same holds.of_line
 
 module _ (zone : Zone) (start : ℤ) (ss : List Period) (mine : List TimedOccurrence) (earlier later : ZoneLine) (before at_start : ℤ) where
-  is_window : (i : ℕ) → Ends zone i start → HeldTo zone i start ss → line_at zone i ≡ Some earlier → TellsKept zone (start +ℤ pos 432_000) later mine
+  is_window : (i : ℕ) → Ends zone i start → HeldTo zone i start ss → line_at zone i ≡ Some earlier → GivesInForce zone (start +ℤ pos 432_000) later mine
       → IsTotalOffset zone.source.rules earlier (last_rule None ss) before → IsTotalOffset zone.source.rules later (rule_at mine start) at_start
-      → IsWindowEnd zone i (Keeps zone i) later (start +ℤ int_max (pos 0) (before -ℤ at_start))
-  is_window i ends to at tells one other =
+      → IsWindowEnd zone i (HasInForce zone i) later (start +ℤ int_max (pos 0) (before -ℤ at_start))
+  is_window i ends to at gives one other =
       let holds = holds_before zone i start ss to in
       let same : holds.line ≡ earlier = same_Some holds.line earlier (sym holds.governs.is_line ∙ at) in
-      let by = subst (λ (l : ZoneLine). IsKeptBy zone.source.rules l.rules (last_rule None ss) one.kept) (sym same) one.is_kept in
+      let by = subst (λ (l : ZoneLine). IsInForceBy zone.source.rules l.rules (last_rule None ss) one.in_force) (sym same) one.is_in_force in
       record {
         start = start;
         starts = ends;
         before = before;
-        is_before = subst (λ (o : Option ZoneLine). IsSomeAnd o (λ l. HasOffset (Keeps zone i) l (start -ℤ pos 1) before)) (sym at)
-            (one.kept, subst (λ (l : ZoneLine). Keeps zone i l (start -ℤ pos 1) one.kept) same (holds.keeps one.kept by), one.is);
+        is_before = subst (λ (o : Option ZoneLine). IsSomeAnd o (λ l. HasOffset (HasInForce zone i) l (start -ℤ pos 1) before)) (sym at)
+            (one.in_force, subst (λ (l : ZoneLine). HasInForce zone i l (start -ℤ pos 1) one.in_force) same (holds.keeps one.in_force by), one.is);
         after = at_start;
-        is_after = (other.kept, tells.keeps start other.kept (omega (arith, ints)) other.is_kept, other.is);
+        is_after = (other.in_force, gives.keeps start other.in_force (omega (arith, ints)) other.is_in_force, other.is);
         is = refl;
       }
 
   pub window : (number : ℕ) → AreSoFar zone number (Some start) ss → line_at zone (number - 1) ≡ Some earlier → line_at zone number ≡ Some later
-      → IfSome (line_at zone number) (λ line. TellsKept zone (start +ℤ pos 432_000) line mine)
+      → IfSome (line_at zone number) (λ line. GivesInForce zone (start +ℤ pos 432_000) line mine)
       → IsTotalOffset zone.source.rules earlier (last_rule None ss) before → IsTotalOffset zone.source.rules later (rule_at mine start) at_start
       → IfSome (line_at zone number) (λ line. IsEndOfWindow zone number line (start +ℤ int_max (pos 0) (before -ℤ at_start)))
-  window zero so_far at at_later tells one other = absurd so_far
-  window (suc i) so_far at at_later tells one other =
+  window zero so_far at at_later gives one other = absurd so_far
+  window (suc i) so_far at at_later gives one other =
       let place : suc i - 1 ≡ i = omega arith in
       let end = start +ℤ int_max (pos 0) (before -ℤ at_start) in
-      let own = subst (λ (o : Option ZoneLine). IfSome o (λ line. TellsKept zone (start +ℤ pos 432_000) line mine)) at_later tells in
+      let own = subst (λ (o : Option ZoneLine). IfSome o (λ line. GivesInForce zone (start +ℤ pos 432_000) line mine)) at_later gives in
       subst (λ (o : Option ZoneLine). IfSome o (λ line. IsEndOfWindow zone (suc i) line end)) (sym at_later)
       (is_window i so_far.0 so_far.1 (ap (line_at zone) (sym place) ∙ at) own one other)
 

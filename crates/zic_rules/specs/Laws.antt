@@ -28,7 +28,7 @@ LastIsChange =
     → AreOfBothFlags tails → Alternate (set_of zone.source.rules by.name) by.last → (end : ℤ) → IsEnd zone end → (o : Occurrence) (u : ℤ)
     → IsLastOccurrence (set_of zone.source.rules by.name) standard (end -ℤ pos 1) o u → IsChange zone u
 
--- A zone has one first state at most, as `Timeline::end` and `Timeline::len` tell that it is whole and that a list has its changes.
+-- A zone has one first state at most, as `Timeline::end` and `Timeline::len` state that it is whole and that a list has its changes.
 abbrev pub OneFirstState : Type 0
 OneFirstState =
     (zone : Zone) → IsWholeZone zone → (changes : List Change) → AreChanges zone changes

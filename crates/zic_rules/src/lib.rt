@@ -1,5 +1,4 @@
 //! The states that a zone shows: its first state, its changes, and what it shows after them.
-//! The rows of `witness/rows` test it.
 //!
 //! Before the explicit end a zone is a list of periods: in each one line governs, and one
 //! occurrence is current.

@@ -1,7 +1,7 @@
 //! Periods of a zone.
 
-/// From an instant on, up to the next period, a line of the zone governs, and keeps what its RULES
-/// keep by one rule.
+/// From an instant on, up to the next period, a line of the zone governs, with what is in force
+/// by one rule.
 #[derive(Clone, Copy)]
 pub(crate) struct Period {
     /// Seconds from 1970-01-01T00:00:00 UT, without leap seconds.

@@ -43,14 +43,14 @@ impl<'a> Model for Timeline<'a> {
     ghost use Rattle.zic_states.specs.Zone as states;
     ghost use Rattle.std.specs.Prelude.{map};
     ghost use Rattle.zic_rules.specs.code.Shown.{shown_by, dated};
-    ghost use Rattle.zic_rules.specs.code.Tail.{IsKept};
+    ghost use Rattle.zic_rules.specs.code.Tail.{IsTimelineAndTail};
     ghost use Rattle.zic_rules.specs.code.Period.{the_zone};
 
     ghost Value = { states.Zone };
 
     ghost view = { λ t. the_zone t.zone };
 
-    ghost invariant = { λ t. IsKept (the_zone t.zone) t.end (shown_by t.first)
+    ghost invariant = { λ t. IsTimelineAndTail (the_zone t.zone) t.end (shown_by t.first)
         (map dated t.changes.items) t.rules.items };
 }
 

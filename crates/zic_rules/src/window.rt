@@ -3,12 +3,12 @@
 ghost use Rattle.std.specs.Prelude.{◌≡◌, ◌<◌, ◌*◌, pos, ◌+ℤ◌, ◌<ℤ◌, ◌≤ℤ◌, None, Some, IfSome, length};
 ghost use Rattle.zic_source.specs.Sound.{IsSoundSource, IsSoundLine};
 ghost use Rattle.zic_states.specs.ByList.{rule_at};
-ghost use Rattle.zic_states.specs.Kept.{IsRuleOf};
+ghost use Rattle.zic_states.specs.InForce.{IsRuleOf};
 ghost use Rattle.zic_states.specs.Zone.{line_at};
 ghost use Rattle.zic_rules.specs.code.Period.{the_zone, HasLine};
 ghost use Rattle.zic_rules.specs.code.End.{IsInYears};
 ghost use Rattle.zic_rules.specs.code.Held.{AreSoFar, last_rule};
-ghost use Rattle.zic_rules.specs.code.Line.{TellsKept, IsEndOfWindow, IsTotalOffset};
+ghost use Rattle.zic_rules.specs.code.Line.{GivesInForce, IsEndOfWindow, IsTotalOffset};
 
 use crate::period::Period;
 use crate::zone::Zone;
@@ -29,8 +29,8 @@ pub(crate) fn window_end(
     requires number { HasLine (the_zone zone) number }
     requires start { IsInYears 9002 start }
     requires so_far { AreSoFar (the_zone zone) number (Some start) periods.now }
-    requires tells { IfSome (line_at (the_zone zone) number)
-        (λ line. TellsKept (the_zone zone) (start +ℤ pos (5 * 86_400)) line mine.now) }
+    requires gives { IfSome (line_at (the_zone zone) number)
+        (λ line. GivesInForce (the_zone zone) (start +ℤ pos (5 * 86_400)) line mine.now) }
     ensures window { IfSome (line_at (the_zone zone.entry) number)
         (λ line. IsEndOfWindow (the_zone zone.entry) number line result) }
     ensures from { start ≤ℤ result }

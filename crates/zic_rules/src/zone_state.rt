@@ -3,7 +3,7 @@
 ghost use Rattle.std.specs.Prelude.{◌≡◌, true, IfOk, IfErr};
 ghost use Rattle.zic_source.specs.Sound.{IsSoundLine};
 ghost use Rattle.zic_words.specs.Limits.{is_abbreviation};
-ghost use Rattle.zic_states.specs.Kept.{IsRuleOf};
+ghost use Rattle.zic_states.specs.InForce.{IsRuleOf};
 ghost use Rattle.zic_base.specs.State.{shown};
 ghost use Rattle.zic_rules.specs.code.Shown.{shown_by, IsShownBy, IsInRangeOn, IsRefusedBy};
 
@@ -46,12 +46,12 @@ pub(crate) fn state_by(
     ensures within { IfOk result (λ s. is_abbreviation s.name ≡ true) }
     ensures err { IfErr result (IsRefusedBy source.now.rules line.now rule) }
 {
-    let kept = observance_by(source, line, rule);
-    let offset = line.offset + kept.saving;
-    let name = abbreviation(&line.format, offset, kept.daylight, kept.letter)?;
+    let in_force = observance_by(source, line, rule);
+    let offset = line.offset + in_force.saving;
+    let name = abbreviation(&line.format, offset, in_force.daylight, in_force.letter)?;
     Ok(ZoneState {
         offset,
-        daylight: kept.daylight,
+        daylight: in_force.daylight,
         name,
     })
 }

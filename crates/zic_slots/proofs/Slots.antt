@@ -20,9 +20,9 @@ module _ (content : Content) (numbers : List ℕ) (start : ℤ) where
   -- a slot of one number
   pub right_throughout : (known : Known) → IsKnown content numbers known → Includes known.instants start → (start +ℤ pos 8388607) ≤ℤ known.instants.last
       → IsRight content numbers start (record { change = 0; before = known.number; after = known.number })
-  right_throughout known is asked far = record {
+  right_throughout known is requested far = record {
     says = λ second lt.
-        let from = asked.from in
+        let from = requested.from in
         let within : Includes known.instants (start +ℤ pos second) = record { from = omega (arith, ints, from); to = omega (arith, ints, far, lt) } in
         subst (λ (n : ℕ). Says content numbers (start +ℤ pos second) n) (sym (either (nat_le 0 second) known.number)) (is.says (start +ℤ pos second) within);
   }
@@ -32,10 +32,10 @@ module _ (content : Content) (numbers : List ℕ) (start : ℤ) where
       → Includes before.instants start → (start +ℤ pos change) ≡ (before.instants.last +ℤ pos 1)
       → Includes after.instants (start +ℤ pos change) → (start +ℤ pos 8388607) ≤ℤ after.instants.last
       → IsRight content numbers start (record { change = change; before = before.number; after = after.number })
-  right_by_change before after change is_before is_after asked at changed far = record {
+  right_by_change before after change is_before is_after requested at changed far = record {
     says = λ second lt.
         let t = start +ℤ pos second in
-        let first = asked.from in
+        let first = requested.from in
         let from = changed.from in
         let pick : (b : Bool) → nat_le change second ≡ b → Says content numbers t (if b then after.number else before.number) = λ b. elim b as (λ k. nat_le change second ≡ k → Says content numbers t (if k then after.number else before.number)) [
           | true ↦ λ e. let le = leb-true change second e in is_after.says t (record { from = omega (arith, ints, from, le); to = omega (arith, ints, far, lt) })

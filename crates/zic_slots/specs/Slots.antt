@@ -19,7 +19,7 @@ pub record IsNumberAt (content : Content) (numbers : List ℕ) (t : ℤ) (n : �
   pub of : IsStateOfNumber content number state
   pub shown : Answers content t (Some state)
 
--- a number says nothing, or is right
+-- a number is unknown, or right
 abbrev pub Says : Content → List ℕ → ℤ → ℕ → Type 0
 Says content numbers t n = n ≢ UNKNOWN → IsNumberAt content numbers t n
 

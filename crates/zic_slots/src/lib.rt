@@ -1,5 +1,4 @@
-//! Tables of slots: what a zone shows at an instant, by a shift and one comparison. The tests stand
-//! in `program_tests`.
+//! Tables of slots: what a zone shows at an instant, by a shift and one comparison.
 #![tactic(auto)]
 
 mod limit;

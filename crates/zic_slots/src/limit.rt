@@ -2,7 +2,7 @@
 
 use zic_posix::MAX_INSTANT;
 
-/// The number that says nothing.
+/// The number of a state that isn't known.
 pub const UNKNOWN: u16 = u16::MAX;
 
 /// The seconds of a slot, some 97 days.

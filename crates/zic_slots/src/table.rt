@@ -19,7 +19,7 @@ struct Known {
 }
 
 /// Returns the slots of the 2^32 seconds from an instant on, with the numbers that the states of a
-/// zone have. A slot with two changes says nothing.
+/// zone have. A slot with two changes has no answer.
 ///
 /// # Errors
 ///
@@ -91,7 +91,7 @@ fn seconds_from(start: i64, instant: i64) -> u32
 /// the last look-up, if the instant is one of them.
 fn known_from(zone: &Zone, numbers: &[u16], instant: i64, last: Known) -> Known
     requires { IsKnown zone.now numbers.now last }
-    ensures asked { Includes result.instants instant }
+    ensures requested { Includes result.instants instant }
     ensures known { IsKnown zone.now numbers.now result }
 {
     if last.instants.contains(instant) {
@@ -103,7 +103,7 @@ fn known_from(zone: &Zone, numbers: &[u16], instant: i64, last: Known) -> Known
 
 /// Returns the number at an instant, and the instants round it at which it is the same.
 fn known_at(zone: &Zone, numbers: &[u16], instant: i64) -> Known
-    ensures asked { Includes result.instants instant }
+    ensures requested { Includes result.instants instant }
     ensures known { IsKnown zone.now numbers.now result }
 {
     let span = zone.span(instant);

@@ -32,7 +32,7 @@ Fails source End fault = IsSomeAnd (open_line source) (λ line. fault ≡ fault_
 pub record IsReached (texts : List (List ℕ)) (source : SourceLines) (event : Event) : Type 0 where
   pub before : List Event
   pub after : List Event
-  pub stands : events_of texts ≡ before ++ event ∷ after
+  pub located : events_of texts ≡ before ++ event ∷ after
   pub read : IsRead before source
 
 -- an event of the texts has this fault, and all events before it are read
@@ -47,7 +47,7 @@ abbrev pub IsFirstFault : List (List ℕ) → Fault → Type 0
 IsFirstFault texts fault = IsReadingFault texts fault ⊎ ((source : SourceLines) × IsReadable texts source × HasFirst source fault)
 
 -- Memory may be wanted: for a line that isn't too long, before which all is read, or where all is read. Where the first line of all
--- is too long it may not; beyond that no place can be told, since the answer has none.
+-- is too long it may not; beyond that no place can be given, since the answer has none.
 abbrev pub MayRunOutOfMemory : List (List ℕ) → Type 0
 MayRunOutOfMemory texts =
     ((source : SourceLines) × (line : PlacedLine) × IsReached texts source (Line line) × (length line.bytes ≤ LONGEST_LINE))

@@ -84,7 +84,7 @@ names_of source = map (λ zone. zone.name) source.zones ++ map (λ link. link.na
 
 -- The lines stand in the order of the texts and their lines: each Zone line before the next, each Link line before the next, and no
 -- Zone line at the place of a Link line.
-pub record StandInOrder (source : SourceLines) : Type 0 where
+pub record AreInOrder (source : SourceLines) : Type 0 where
   pub zones : AllPairs (λ zone other. IsBefore zone.first.place other.first.place) source.zones
   pub links : AllPairs (λ link other. IsBefore link.place other.place) source.links
   pub apart : All (λ zone. All (λ link. zone.first.place ≢ link.place) source.links) source.zones
@@ -99,4 +99,4 @@ pub record IsSoundSource (source : SourceLines) : Type 0 where
   pub few_rules : length source.rules ≤ MAX_RULES
   pub few_zone_lines : length (zone_lines_of source) ≤ MAX_ZONE_LINES
   pub few_names : length source.zones + length source.links ≤ MAX_NAMES
-  pub in_order : StandInOrder source
+  pub in_order : AreInOrder source

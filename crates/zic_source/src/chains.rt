@@ -82,7 +82,7 @@ fn settle(
     requires right { AreRight (source_lines lines.now) ends.old }
     ensures right { OnOk result (AreRight (source_lines lines.now) ends.new) }
     ensures found { OnOk result (HasEnd ends.new link) }
-    ensures kept { OnOk result ((i : ℕ) → HasEnd ends.old i → HasEnd ends.new i) }
+    ensures unchanged { OnOk result ((i : ℕ) → HasEnd ends.old i → HasEnd ends.new i) }
 {
     let mut path = Vec::new(alloc);
     let end = follow(lines, names, ends, &mut path, link)?;

@@ -1,5 +1,5 @@
 //! Time zone source text: from texts to checked Rule, Zone, continuation and Link lines, or the
-//! first fault. The rows of `witness/rows` test it.
+//! first fault.
 //!
 //! The input format is that of zic(8); `docs/DEFINITIONS.md` lists where each rule is stated. The
 //! functions of `laws` do nothing: they state what holds of sources and first faults.

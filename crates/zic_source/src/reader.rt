@@ -46,7 +46,7 @@ fn first_line(text: &[u8]) -> (&[u8], &[u8])
     }
 }
 
-/// The entries that were read so far, and what tells whether there may be more.
+/// The entries that were read so far, and whether there may be more.
 #[derive(Drop)]
 struct Reader<'a> {
     lines: Entries,

@@ -29,12 +29,16 @@ IsFailureOfCheck contents texts old new failure =
     (IsFailureOfListing texts failure × (new ≡ old))
     ⊎ IsFailureOfOutput contents (IsListing texts) old new failure
 
--- Why the file of a source isn't placed in a folder: memory ran out, or it can't be written, since
+-- Why the file of a name isn't placed in a folder: memory ran out, or it can't be written, since
 -- the folder has no name or the tree refused the path.
-abbrev pub IsUnplaced : (List ℕ → Type 0) → List ℕ → File → Failure → Type 0
-IsUnplaced IsRefused folder file failure =
-    let path = folder ++ 47 ∷ file.name in
+abbrev pub IsUnplacedAs : (List ℕ → Type 0) → List ℕ → List ℕ → Failure → Type 0
+IsUnplacedAs IsRefused folder name failure =
+    let path = folder ++ 47 ∷ name in
     (failure ≡ failures.Memory) ⊎ (IsCannotWrite path failure × ((folder ≡ []) ⊎ IsRefused path))
+
+-- the same of the file of a zone
+abbrev pub IsUnplaced : (List ℕ → Type 0) → List ℕ → File → Failure → Type 0
+IsUnplaced IsRefused folder file failure = IsUnplacedAs IsRefused folder file.name failure
 
 -- why not all files are placed in a folder: all before one are, and that one isn't
 pub record IsFailureOfFolder (IsRefused : List ℕ → Type 0) (folder : List ℕ) (files : List File)

@@ -7,13 +7,13 @@ use Rattle.zic_io.specs.declared.link_kind.LinkKind.TheVariants as kinds
 use Rattle.zic_source_commands.specs.Linking.{AreBuiltLinked, LinkLeads, target_of}
 use Rattle.zic_source_commands.specs.Tree.{AreBuilt}
 
--- Of texts just one list of files can be placed.
+-- Of texts at most one list of files can be placed.
 abbrev pub FilesArePlacedOneWay : Type 0
 FilesArePlacedOneWay =
     (texts : List (List ℕ)) (folder : List ℕ) (before a b : List Placed)
     → AreBuilt texts folder (Some before) (Some a) → AreBuilt texts folder (Some before) (Some b) → a ≡ b
 
--- Of texts just one list of files and one of links can be placed.
+-- Of texts at most one list of files and one of links can be placed.
 abbrev pub LinksArePlacedOneWay : Type 0
 LinksArePlacedOneWay =
     (texts : List (List ℕ)) (folder : LinkedFolder) (before a b : List Placed) (links x y : List Linked)

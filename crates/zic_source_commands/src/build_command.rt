@@ -36,6 +36,7 @@ pub fn build<T: Threads + Wait + Sync, D: Tree>(
         (IsFailureOfTexts (texts_of texts.now) failure × (tree.new ≡ tree.old))
         ⊎ IsFailureOfFiles (D.refused tree.new) (texts_of texts.now) folder.now
         (D.placed tree.old) (D.placed tree.new) failure) }
+    ensures links { Gains (D.linked tree.old) (D.linked tree.new) [] }
 {
     let files = files_of(rt, alloc, plan, texts)?;
     place_files(alloc, &files, tree, folder)
@@ -53,6 +54,7 @@ fn place_files<D: Tree>(
     ensures named { OnOk result (files.now ≢ [] → folder.now ≢ []) }
     ensures err { IfErr result (IsFailureOfFolder (D.refused tree.new) folder.now files.now
         (D.placed tree.old) (D.placed tree.new)) }
+    ensures links { Gains (D.linked tree.old) (D.linked tree.new) [] }
 {
     for file in 0..files.len() {
         place_file(alloc, files, file, tree, folder)?;

@@ -86,7 +86,7 @@ fn zone_file(source: &Source, files: &Files, zone: usize) -> usize
     ensures { IfSome (zone_at source.now zone)
         (λ lines. IsSomeAnd (slice_get files.now result) (λ file. file.name ≡ lines.name)) }
 {
-    // `zones` also tells that the source is sound.
+    // `zones` also states that the source is sound.
     prove!(zone < source.zones());
     match files.find(source.zone_name(zone).octets()) {
         Some(file) => file,

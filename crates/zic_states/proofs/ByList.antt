@@ -11,12 +11,12 @@ use Rattle.zic_source.specs.Sound.{IsSoundRule, IsWithinDay}
 use Rattle.zic_occurrences.specs.declared.occurrence.TimedOccurrence.{TimedOccurrence}
 use Rattle.zic_occurrences.specs.Occurrence.{RuleSet, IsMember, Occurrence, IsOccurrence, year_second}
 use Rattle.zic_occurrences.specs.Order.{IsInOrder, IsInstant}
-use Rattle.zic_occurrences.specs.Listing.{StandsFor, IsListed, AreOccurrencesBefore, AreOccurrencesTo}
+use Rattle.zic_occurrences.specs.Listing.{IsTimedOf, IsListed, AreOccurrencesBefore, AreOccurrencesTo}
 use Rattle.zic_occurrences.proofs.Bounds.{instant_near_nominal}
 use Rattle.zic_occurrences.proofs.Same.{one_place, same_occurrence, one_instant}
 use Rattle.zic_states.specs.ByList.{AreRising, before, not_after, last_of, rule_at}
 use Rattle.zic_states.specs.code.Listed.{IsLimit, AreListedFor}
-use Rattle.zic_states.specs.Kept.{Kept, IsLastOf, NoneIs, kept_of, SetKeeps, RulesKeep, IsKeptBy, IsRuleOf}
+use Rattle.zic_states.specs.InForce.{InForce, IsLastOf, NoneIs, in_force_of, SetHasInForce, RulesHaveInForce, IsInForceBy, IsRuleOf}
 use Rattle.zic_states.specs.Until.{set_of}
 use Rattle.zic_states.specs.Zone.{Zone, IsNotOver}
 use Rattle.zic_states.proofs.Lines.{always_not_over}
@@ -41,16 +41,16 @@ into_candidates xs limit t y has lt le =
 
 from_candidates : (xs : List TimedOccurrence) (limit t : ℤ) (y : TimedOccurrence) → Contains (candidates xs limit t) y → Contains xs y × (y.instant <ℤ limit) × (y.instant ≤ℤ t)
 from_candidates xs limit t y has =
-    let kept = from_filter (λ x. int_le x.instant t) (before xs limit) y has in (
-      from_filter (λ x. int_lt x.instant limit) xs y kept,
-      less_from_test y.instant limit (passes (λ x. int_lt x.instant limit) xs y kept),
+    let in_force = from_filter (λ x. int_le x.instant t) (before xs limit) y has in (
+      from_filter (λ x. int_lt x.instant limit) xs y in_force,
+      less_from_test y.instant limit (passes (λ x. int_lt x.instant limit) xs y in_force),
       not_after_from_test y.instant t (passes (λ x. int_le x.instant t) (before xs limit) y has),
     )
 
 -- ---- a set's list
 
 -- what stands for an occurrence of this number and year has the instant of this one
-same_instant : (set : RuleSet) (offset : ℤ) (y : TimedOccurrence) (o q : Occurrence) (u : ℤ) → IsInOrder set offset → StandsFor set offset y o → IsOccurrence set q
+same_instant : (set : RuleSet) (offset : ℤ) (y : TimedOccurrence) (o q : Occurrence) (u : ℤ) → IsInOrder set offset → IsTimedOf set offset y o → IsOccurrence set q
     → (y.rule ≡ q.number) × (pos y.year ≡ q.year) → IsInstant set offset q u → y.instant ≡ u
 same_instant set offset y o q u order is is_q same at =
     let one = same_occurrence set o q is.is is_q (record { number = sym is.number ∙ same.0; year = sym is.year ∙ same.1 }) in
@@ -58,8 +58,8 @@ same_instant set offset y o q u order is is_q same at =
 
 module _ (set : RuleSet) (offset bound : ℤ) (xs : List TimedOccurrence) (listed : AreOccurrencesBefore set offset bound xs) where
   -- each element stands for an occurrence
-  stands : (x : TimedOccurrence) → Contains xs x → (o : Occurrence) × StandsFor set offset x o
-  stands x has =
+  located : (x : TimedOccurrence) → Contains xs x → (o : Occurrence) × IsTimedOf set offset x o
+  located x has =
       let is = subst (IsListed set offset bound) has.2 (listed.each has.0 x has.1) in
       (is.0, is.1)
 
@@ -70,7 +70,7 @@ module _ (set : RuleSet) (offset bound : ℤ) (xs : List TimedOccurrence) (liste
         let close = instant_near_nominal set offset q u sound within at in
         let some = listed.all q is (omega (arith, ints)) in
         let has : Contains xs some.1 = (some.0, some.2, some.3) in
-        let of = stands some.1 has in
+        let of = located some.1 has in
         (some.1, has, same_instant set offset some.1 of.0 q u order of.1 is some.4 at)
 
     module _ (zone : Zone) (line : ZoneLine) (t : ℤ) (limits : IsLimit zone line limit t) where
@@ -86,7 +86,7 @@ module _ (set : RuleSet) (offset bound : ℤ) (xs : List TimedOccurrence) (liste
           (y.0, into_candidates xs limit t y.0 y.1 (omega (arith, ints)) (omega (arith, ints)), y.2)
 
       -- the last candidate is the last occurrence
-      is_last : (x : TimedOccurrence) (o : Occurrence) → last_of (candidates xs limit t) ≡ Some x → StandsFor set offset x o → IsLastOf set offset IsSuch o
+      is_last : (x : TimedOccurrence) (o : Occurrence) → last_of (candidates xs limit t) ≡ Some x → IsTimedOf set offset x o → IsLastOf set offset IsSuch o
       is_last x o last is =
           let among = from_candidates xs limit t x (last_contained (candidates xs limit t) x last) in
           record {
@@ -125,40 +125,40 @@ listed_to_year rules name offset limit year xs order (bound, from, listed) withi
 
 -- ---- by the kind of RULES
 
-set_keeps : (zone : Zone) (line : ZoneLine) (name : List ℕ) (bound limit t : ℤ) (xs : List TimedOccurrence) (kept : Kept) (last : Option TimedOccurrence)
+set_has : (zone : Zone) (line : ZoneLine) (name : List ℕ) (bound limit t : ℤ) (xs : List TimedOccurrence) (in_force : InForce) (last : Option TimedOccurrence)
     → All IsSoundRule zone.source.rules → IsWithinDay line.offset → IsInOrder (set_of zone.source.rules name) line.offset
     → (limit +ℤ pos (2 * 86_400)) ≤ℤ bound → AreOccurrencesBefore (set_of zone.source.rules name) line.offset bound xs → IsLimit zone line limit t
-    → last_of (candidates xs limit t) ≡ last → IsKeptBy zone.source.rules (Set name) (option_map (λ x. x.rule) last) kept
-    → SetKeeps (set_of zone.source.rules name) line.offset (λ u. (u ≤ℤ t) × IsNotOver zone line u) kept
-set_keeps zone line name bound limit t xs kept None sound within order near listed limits e by =
+    → last_of (candidates xs limit t) ≡ last → IsInForceBy zone.source.rules (Set name) (option_map (λ x. x.rule) last) in_force
+    → SetHasInForce (set_of zone.source.rules name) line.offset (λ u. (u ≤ℤ t) × IsNotOver zone line u) in_force
+set_has zone line name bound limit t xs in_force None sound within order near listed limits e by =
     inr (none_is (set_of zone.source.rules name) line.offset bound xs listed limit sound within order near zone line t limits e, by.0, by.1, by.2)
-set_keeps zone line name bound limit t xs kept (Some x) sound within order near listed limits e by =
+set_has zone line name bound limit t xs in_force (Some x) sound within order near listed limits e by =
     let set = set_of zone.source.rules name in
     let among = from_candidates xs limit t x (last_contained (candidates xs limit t) x e) in
-    let of = stands set line.offset bound xs listed x among.0 in
+    let of = located set line.offset bound xs listed x among.0 in
     let same : by.0 ≡ of.0.rule = one_place zone.source.rules x.rule of.0.number by.0 of.0.rule of.1.number by.1.numbered of.1.is.member.numbered in
-    inl (of.0, is_last set line.offset bound xs listed limit sound within order near zone line t limits x of.0 e of.1, by.2 ∙ ap (λ (rule : Rule). kept_of rule) same)
+    inl (of.0, is_last set line.offset bound xs listed limit sound within order near zone line t limits x of.0 e of.1, by.2 ∙ ap (λ (rule : Rule). in_force_of rule) same)
 
-keeps_by : (zone : Zone) (line : ZoneLine) (says : Rules) (xs : List TimedOccurrence) (limit t : ℤ) (kept : Kept)
+has_by : (zone : Zone) (line : ZoneLine) (says : Rules) (xs : List TimedOccurrence) (limit t : ℤ) (in_force : InForce)
     → All IsSoundRule zone.source.rules → IsWithinDay line.offset → AreListedFor zone.source.rules line.offset limit says xs → IsLimit zone line limit t
-    → IsKeptBy zone.source.rules says (rule_at (before xs limit) t) kept → RulesKeep zone.source.rules line says (λ u. (u ≤ℤ t) × IsNotOver zone line u) kept
-keeps_by zone line Standard xs limit t kept sound within listed limits by = by
-keeps_by zone line (Amount saving) xs limit t kept sound within listed limits by = by
-keeps_by zone line (Set name) xs limit t kept sound within (order, bound, near, listed) limits by =
-    set_keeps zone line name bound limit t xs kept (last_of (candidates xs limit t)) sound within order near listed limits refl by
+    → IsInForceBy zone.source.rules says (rule_at (before xs limit) t) in_force → RulesHaveInForce zone.source.rules line says (λ u. (u ≤ℤ t) × IsNotOver zone line u) in_force
+has_by zone line Standard xs limit t in_force sound within listed limits by = by
+has_by zone line (Amount saving) xs limit t in_force sound within listed limits by = by
+has_by zone line (Set name) xs limit t in_force sound within (order, bound, near, listed) limits by =
+    set_has zone line name bound limit t xs in_force (last_of (candidates xs limit t)) sound within order near listed limits refl by
 
 -- what the last candidate's rule says is what the line keeps
-pub keeps_by_list : (zone : Zone) (line : ZoneLine) (xs : List TimedOccurrence) (limit t : ℤ) (kept : Kept)
+pub has_by_list : (zone : Zone) (line : ZoneLine) (xs : List TimedOccurrence) (limit t : ℤ) (in_force : InForce)
     → All IsSoundRule zone.source.rules → IsWithinDay line.offset → AreListedFor zone.source.rules line.offset limit line.rules xs → IsLimit zone line limit t
-    → IsKeptBy zone.source.rules line.rules (rule_at (before xs limit) t) kept → RulesKeep zone.source.rules line line.rules (λ u. (u ≤ℤ t) × IsNotOver zone line u) kept
-keeps_by_list zone line = keeps_by zone line line.rules
+    → IsInForceBy zone.source.rules line.rules (rule_at (before xs limit) t) in_force → RulesHaveInForce zone.source.rules line line.rules (λ u. (u ≤ℤ t) × IsNotOver zone line u) in_force
+has_by_list zone line = has_by zone line line.rules
 
 rule_is : (rules : List Rule) (name : List ℕ) (offset bound limit t : ℤ) (xs : List TimedOccurrence) (last : Option TimedOccurrence)
     → AreOccurrencesBefore (set_of rules name) offset bound xs → last_of (candidates xs limit t) ≡ last → IsRuleOf rules (Set name) (option_map (λ x. x.rule) last)
 rule_is rules name offset bound limit t xs None listed e = tt
 rule_is rules name offset bound limit t xs (Some x) listed e =
     let among = from_candidates xs limit t x (last_contained (candidates xs limit t) x e) in
-    let of = stands (set_of rules name) offset bound xs listed x among.0 in
+    let of = located (set_of rules name) offset bound xs listed x among.0 in
     (of.0.rule, subst (λ (n : ℕ). IsMember (set_of rules name) n of.0.rule) (sym of.1.number) of.1.is.member)
 
 rule_of : (rules : List Rule) (offset : ℤ) (says : Rules) (xs : List TimedOccurrence) (limit t : ℤ)

@@ -9,7 +9,7 @@ use Rattle.zic_source.specs.Sound.{IsSoundRule}
 use Rattle.zic_occurrences.specs.Occurrence.{RuleSet}
 use Rattle.zic_occurrences.proofs.Members.{members}
 use Rattle.zic_occurrences.proofs.Same.{one_place}
-use Rattle.zic_states.specs.Kept.{IsLetterBefore}
+use Rattle.zic_states.specs.InForce.{IsLetterBefore}
 use Rattle.zic_states.specs.code.Letters.{first_second, ComesFirst, IsFirstOfStandard}
 use Rattle.zic_states.proofs.Letters.{first_more, found_more, no_letter, letter_of_first}
 

@@ -15,7 +15,7 @@ use Rattle.zic_occurrences.specs.Occurrence.{RuleSet, IsMember, Occurrence, IsOc
 use Rattle.zic_occurrences.proofs.Bounds.{sound_rule, rises_with_year}
 use Rattle.zic_occurrences.proofs.Members.{IsMemberNumber, members, has_members}
 use Rattle.zic_occurrences.proofs.Same.{one_place}
-use Rattle.zic_states.specs.Kept.{IsLetterBefore}
+use Rattle.zic_states.specs.InForce.{IsLetterBefore}
 use Rattle.zic_states.specs.code.Letters.{first_second, IsStandard, ComesFirst, OccursFirst, IsFirstOfStandard}
 
 -- ---- the search

@@ -1,7 +1,7 @@
 pub mod Given
 pub mod Orders
 pub mod Lines
-pub mod Kept
+pub mod InForce
 pub mod States
 pub mod Ends
 pub mod Changes
@@ -18,13 +18,13 @@ pub mod Points
 pub mod ByList
 pub mod Letters
 pub mod FirstLetter
-pub mod SomeKept
+pub mod SomeInForce
 pub mod SomeState
 pub mod TailLine
 pub mod TailYears
 pub mod TailSet
 pub mod TailWindow
-pub mod TailKept
+pub mod TailInForce
 pub mod TailShown
 pub mod TailRepeats
 pub mod TailForEver

@@ -46,7 +46,7 @@ passed_more rules line until xs rules_sound line_sound k saved passed x got lt r
     let g = listing rules line until xs rules_sound line_sound w in
     let e = element g k x got in
     let same : e.0.rule ≡ rule = same_Some e.0.rule rule (sym (ap (slice_get rules) e.1.number ∙ e.1.is.member.numbered) ∙ is_rule) in
-    let more = one_more_passed g until k saved e.0 (passed w) (record { x = x; got = got; stands = e.1; before = e.2 }) lt in
+    let more = one_more_passed g until k saved e.0 (passed w) (record { x = x; got = got; located = e.1; before = e.2 }) lt in
     let Passed : Rule → Type 0 = λ r. IsPassed (set_of rules w.name) line.offset w.listed.0 until xs (k + 1) r.saving.seconds in
     subst Passed same more
 
@@ -66,7 +66,7 @@ read_at rules line until xs rules_sound line_sound w k saved passed x got le =
     let g = listing rules line until xs rules_sound line_sound w in
     let e = element g k x got in
     saved_so rules line until xs w k saved (passed w)
-    (stops_at g until k saved e.0 (passed w) (record { x = x; got = got; stands = e.1; before = e.2 }) le)
+    (stops_at g until k saved e.0 (passed w) (record { x = x; got = got; located = e.1; before = e.2 }) le)
 
 -- at the end of the list
 pub read_at_end : (rules : List Rule) (line : ZoneLine) (until : Until) (xs : List TimedOccurrence) → All IsSoundRule rules → IsSoundLine rules line

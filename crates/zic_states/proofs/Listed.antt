@@ -7,7 +7,7 @@ use Rattle.std.proofs.lemmas.Option.{same_Some, slice_get_within, slice_get_read
 use Rattle.zic_occurrences.specs.declared.occurrence.TimedOccurrence.{TimedOccurrence}
 use Rattle.zic_occurrences.specs.Occurrence.{RuleSet, Occurrence, IsOccurrence, nominal}
 use Rattle.zic_occurrences.specs.Order.{IsFirst, IsPredecessor, IsInstant}
-use Rattle.zic_occurrences.specs.Listing.{StandsFor, IsListed, AreOccurrencesBefore}
+use Rattle.zic_occurrences.specs.Listing.{IsTimedOf, IsListed, AreOccurrencesBefore}
 use Rattle.zic_states.specs.Until.{IsNext}
 use Rattle.zic_states.proofs.Given.{one_instant, instants_rise}
 use Rattle.zic_states.proofs.Ordered.{IsOrdered, same_occurrence, compare_occurrences}
@@ -21,7 +21,7 @@ pub record IsListing (set : RuleSet) (offset bound : ℤ) (xs : List TimedOccurr
 pub record IsAt (set : RuleSet) (offset bound : ℤ) (xs : List TimedOccurrence) (k : ℕ) (o : Occurrence) : Type 0 where
   pub x : TimedOccurrence
   pub got : slice_get xs k ≡ Some x
-  pub stands : StandsFor set offset x o
+  pub located : IsTimedOf set offset x o
   pub before : nominal o <ℤ bound
 
 -- an element of the list is an occurrence
@@ -38,7 +38,7 @@ find {set} {offset} {bound} {xs} g o is before =
     let got : slice_get xs any.0 ≡ Some any.1 = slice_get_read xs (length xs) any.0 any.1 refl any.2 (sym any.3) in
     let e = element g any.0 any.1 got in
     let same : e.0 ≡ o = same_occurrence set e.0 o e.1.is is (record { number = sym e.1.number ∙ any.4.0; year = sym e.1.year ∙ any.4.1 }) in
-    (any.0, record { x = any.1; got = got; stands = subst (StandsFor set offset any.1) same e.1; before = before })
+    (any.0, record { x = any.1; got = got; located = subst (IsTimedOf set offset any.1) same e.1; before = before })
 
 -- instants rise with the places
 rises : {set : RuleSet} {offset bound : ℤ} {xs : List TimedOccurrence} → IsListing set offset bound xs
@@ -55,7 +55,7 @@ pub stands_before : {set : RuleSet} {offset bound : ℤ} {xs : List TimedOccurre
 stands_before {set} {offset} {bound} {xs} g i j o p at_o at_p lt =
     let given = g.ordered in
     let rise : at_o.x.instant <ℤ at_p.x.instant =
-    instants_rise set offset given.sound given.within given.order p o at_p.x.instant at_o.x.instant at_p.stands.is at_o.stands.is lt at_p.stands.instant at_o.stands.instant
+    instants_rise set offset given.sound given.within given.order p o at_p.x.instant at_o.x.instant at_p.located.is at_o.located.is lt at_p.located.instant at_o.located.instant
     in
     elim (cases_order i j) [
       | inl e ↦
@@ -74,12 +74,12 @@ comes_before : {set : RuleSet} {offset bound : ℤ} {xs : List TimedOccurrence} 
 comes_before {set} {offset} {bound} {xs} g i j o p at_o at_p lt =
     let given = g.ordered in
     let rise : at_o.x.instant <ℤ at_p.x.instant = rises g i j at_o.x at_p.x at_o.got at_p.got lt in
-    elim (compare_occurrences set offset given.order o p at_o.stands.is at_p.stands.is) [
+    elim (compare_occurrences set offset given.order o p at_o.located.is at_p.located.is) [
       | inl before ↦ before
       | inr (inl same) ↦
           let At : Occurrence → Type 0 = λ q. IsInstant set offset q at_o.x.instant in
           let instants : at_o.x.instant ≡ at_p.x.instant =
-          one_instant set offset given.sound given.within given.order p at_o.x.instant at_p.x.instant at_p.stands.is (subst At same at_o.stands.instant) at_p.stands.instant
+          one_instant set offset given.sound given.within given.order p at_o.x.instant at_p.x.instant at_p.located.is (subst At same at_o.located.instant) at_p.located.instant
           in
           absurd (omega (arith, ints))
       | inr (inr after) ↦
@@ -99,7 +99,7 @@ first_is_next {set} {offset} {bound} {xs} g k p none at =
     absurd (omega arith))
     (λ le. le)
     in
-    (at.stands.is, first)
+    (at.located.is, first)
 
 -- The one that stands after another comes next after it.
 pub later_is_next : {set : RuleSet} {offset bound : ℤ} {xs : List TimedOccurrence} → IsListing set offset bound xs
@@ -116,8 +116,8 @@ later_is_next {set} {offset} {bound} {xs} g j k o p one_more at_o at_p =
     (λ le. le)
     in
     let predecessor : IsPredecessor set p o = record {
-      is = at_o.stands.is;
+      is = at_o.located.is;
       earlier = comes_before g j k o p at_o at_p (omega arith);
       greatest = greatest;
     } in
-    (at_p.stands.is, predecessor)
+    (at_p.located.is, predecessor)

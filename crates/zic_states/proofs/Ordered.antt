@@ -86,9 +86,9 @@ one_stage set offset until order (Some b) (Some c) read_b read_c =
     ]
 
 -- One amount is saved at an UNTIL.
-one_saving : (rules : List Rule) (offset : ℤ) (until : Until) (kept : Rules)
-    → ((name : List ℕ) → kept ≡ Set name → IsInOrder (set_of rules name) offset) → (s t : ℤ)
-    → IsSavedAtUntil rules offset until kept s → IsSavedAtUntil rules offset until kept t → s ≡ t
+one_saving : (rules : List Rule) (offset : ℤ) (until : Until) (in_force : Rules)
+    → ((name : List ℕ) → in_force ≡ Set name → IsInOrder (set_of rules name) offset) → (s t : ℤ)
+    → IsSavedAtUntil rules offset until in_force s → IsSavedAtUntil rules offset until in_force t → s ≡ t
 one_saving rules offset until Standard order s t one other = one ∙ sym other
 one_saving rules offset until (Amount saving) order s t one other = one ∙ sym other
 one_saving rules offset until (Set name) order s t one other =

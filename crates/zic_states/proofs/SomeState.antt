@@ -8,10 +8,10 @@ use Rattle.zic_states.specs.Abbreviation.{abbreviation}
 use Rattle.zic_states.specs.Fault.{HasNoLetter, IsSound}
 use Rattle.zic_states.specs.Laws.{HasSetsInOrder}
 use Rattle.zic_base.specs.State.{Shown}
-use Rattle.zic_states.specs.Zone.{Zone, ZoneKeeps, Shows}
+use Rattle.zic_states.specs.Zone.{Zone, ZoneHasInForce, Shows}
 use Rattle.zic_states.proofs.Governing.{some_line}
 use Rattle.zic_states.proofs.Lines.{orderly}
-use Rattle.zic_states.proofs.SomeKept.{some_kept}
+use Rattle.zic_states.proofs.SomeInForce.{some_in_force}
 use Rattle.zic_states.proofs.States.{one_state}
 
 filled_unless_none : (o : Option (List ℕ)) → (o ≡ None → ⊥) → (name : List ℕ) × (o ≡ Some name)
@@ -23,12 +23,12 @@ pub some_state : (zone : Zone) → HasSetsInOrder zone → zone.number < length 
 some_state zone sets is_zone letters t =
     let (lines, is) = got zone.source.zones zone.number is_zone in
     let (i, line, governs) = some_line zone sets lines is t in
-    let (kept, keeps) = some_kept zone sets i line t governs.is_line in
-    let by : ZoneKeeps zone t line kept = record { number = i; governs = governs; keeps = keeps } in
-    let (name, filled) = filled_unless_none (abbreviation line.format (line.offset +ℤ kept.saving) kept.daylight kept.letter)
-    (λ none. letters (record { t = t; line = line; kept = kept; keeps = by; wants = none })) in (
-      record { offset = line.offset +ℤ kept.saving; daylight = kept.daylight; name = name },
-      record { line = line; kept = kept; keeps = by; offset = refl; daylight = refl; name = filled },
+    let (in_force, keeps) = some_in_force zone sets i line t governs.is_line in
+    let by : ZoneHasInForce zone t line in_force = record { number = i; governs = governs; keeps = keeps } in
+    let (name, filled) = filled_unless_none (abbreviation line.format (line.offset +ℤ in_force.saving) in_force.daylight in_force.letter)
+    (λ none. letters (record { t = t; line = line; in_force = in_force; keeps = by; wants = none })) in (
+      record { offset = line.offset +ℤ in_force.saving; daylight = in_force.daylight; name = name },
+      record { line = line; in_force = in_force; keeps = by; offset = refl; daylight = refl; name = filled },
     )
 
 pub one_state_at : (zone : Zone) → IsSoundSource zone.source → zone.number < length zone.source.zones → IsSound zone

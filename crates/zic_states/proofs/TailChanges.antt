@@ -9,10 +9,10 @@ use Rattle.zic_source.proofs.SameBytes.{bytes_eq_means, bytes_eq_itself}
 use Rattle.zic_states.specs.Change.{IsChange, IsAfterChanges}
 use Rattle.zic_states.specs.End.{IsEnd}
 use Rattle.zic_states.specs.Fault.{HasNoLetter}
-use Rattle.zic_states.specs.Kept.{Kept}
+use Rattle.zic_states.specs.InForce.{InForce}
 use Rattle.zic_states.specs.Laws.{IsOrderly}
 use Rattle.zic_base.specs.State.{Shown}
-use Rattle.zic_states.specs.Tail.{KeepsFrom}
+use Rattle.zic_states.specs.Tail.{HasInForceFrom}
 use Rattle.zic_states.specs.Zone.{Zone, Shows}
 use Rattle.zic_states.proofs.SomeState.{some_state}
 use Rattle.zic_states.proofs.TailForEver.{at_both}
@@ -88,17 +88,17 @@ module _ (zone : Zone) (is_zone : zone.number < length zone.source.zones) (order
   stays : (s t : ℤ) → s ≤ℤ t → t <ℤ end → ((u : ℤ) → IsChange zone u → s <ℤ u → t <ℤ u) → (state : Shown) → Shows zone t state → Shows zone s state
   stays s t le lt none state shows = stays_within (up t + down s) s t le (omega (arith, ints)) lt none state shows
 
-  shown_after : (line : ZoneLine) (kept : Kept) → KeepsFrom zone (end -ℤ pos 1) line kept → (state : Shown) → Shows zone (end -ℤ pos 1) state
+  shown_after : (line : ZoneLine) (in_force : InForce) → HasInForceFrom zone (end -ℤ pos 1) line in_force → (state : Shown) → Shows zone (end -ℤ pos 1) state
       → (t : ℤ) → IsAfterChanges zone t → Shows zone t state
-  shown_after line kept from state shown t after =
+  shown_after line in_force from state shown t after =
       by_lt_z t end
       (λ lt. stays t (end -ℤ pos 1) (omega (arith, ints)) (omega (arith, ints))
       (λ u change later. let not_after = after u change in absurd (omega (arith, ints)))
       state shown)
       (λ ge. record {
         line = shown.line;
-        kept = shown.kept;
-        keeps = at_both zone (end -ℤ pos 1) t line kept (from (end -ℤ pos 1) (omega (arith, ints))) (from t (omega (arith, ints))) shown.line shown.kept shown.keeps;
+        in_force = shown.in_force;
+        keeps = at_both zone (end -ℤ pos 1) t line in_force (from (end -ℤ pos 1) (omega (arith, ints))) (from t (omega (arith, ints))) shown.line shown.in_force shown.keeps;
         offset = shown.offset;
         daylight = shown.daylight;
         name = shown.name;
@@ -110,6 +110,6 @@ pub stays_since_change : (zone : Zone) → IsOrderly zone → zone.number < leng
 stays_since_change zone orderly is_zone letters end s t is_end = stays zone is_zone orderly letters end is_end s t
 
 pub one_state_after_changes : (zone : Zone) → IsOrderly zone → zone.number < length zone.source.zones → (HasNoLetter zone → ⊥)
-    → (end : ℤ) (line : ZoneLine) (kept : Kept) → IsEnd zone end → KeepsFrom zone (end -ℤ pos 1) line kept
+    → (end : ℤ) (line : ZoneLine) (in_force : InForce) → IsEnd zone end → HasInForceFrom zone (end -ℤ pos 1) line in_force
     → (state : Shown) → Shows zone (end -ℤ pos 1) state → (t : ℤ) → IsAfterChanges zone t → Shows zone t state
-one_state_after_changes zone orderly is_zone letters end line kept is_end = shown_after zone is_zone orderly letters end is_end line kept
+one_state_after_changes zone orderly is_zone letters end line in_force is_end = shown_after zone is_zone orderly letters end is_end line in_force

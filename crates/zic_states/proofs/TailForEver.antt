@@ -9,13 +9,13 @@ use Rattle.zic_occurrences.specs.Laws.{IsLastOccurrence}
 use Rattle.zic_occurrences.specs.Occurrence.{RuleSet, Occurrence, year_second}
 use Rattle.zic_occurrences.proofs.Instants.{last_not_after}
 use Rattle.zic_states.specs.End.{IsLastLine, IsEndBy, IsEnd}
-use Rattle.zic_states.specs.Kept.{Kept, kept_of, kept_from}
+use Rattle.zic_states.specs.InForce.{InForce, in_force_of, in_force_from}
 use Rattle.zic_states.specs.Laws.{IsOrderly}
-use Rattle.zic_states.specs.Tail.{HasContinuing, IsOnlyContinuing, HasNoSet, HasLastSet, KeepsJust, KeepsFrom, Repeats}
+use Rattle.zic_states.specs.Tail.{HasContinuing, IsOnlyContinuing, HasNoSet, HasLastSet, HasJustInForce, HasInForceFrom, Repeats}
 use Rattle.zic_states.specs.TailLaws.{RepeatsForEver, AlternatesForEver}
 use Rattle.zic_states.specs.Until.{set_of}
-use Rattle.zic_states.specs.Zone.{Zone, ZoneKeeps}
-use Rattle.zic_states.proofs.TailKept.{given, keeps_from_last, by_one, by_none}
+use Rattle.zic_states.specs.Zone.{Zone, ZoneHasInForce}
+use Rattle.zic_states.proofs.TailInForce.{given, has_from_last, by_one, by_none}
 use Rattle.zic_states.proofs.TailLine.{governs_from_end, fixed_tail}
 use Rattle.zic_states.proofs.TailRepeats.{again, current_again, late_or_only, follows_another}
 use Rattle.zic_states.proofs.TailSet.{rule_in, last_is_after, some_last, own_instant}
@@ -23,23 +23,23 @@ use Rattle.zic_states.proofs.TailShown.{continuing_or_none}
 use Rattle.zic_states.proofs.TailWindow.{settled}
 
 -- what is kept at two instants alike, at the one where it is kept at the other
-pub at_both : (zone : Zone) (t u : ℤ) (line : ZoneLine) (kept : Kept) → KeepsJust zone t line kept → KeepsJust zone u line kept
-    → (other : ZoneLine) (thing : Kept) → ZoneKeeps zone t other thing → ZoneKeeps zone u other thing
-at_both zone t u line kept here there other thing keeps =
+pub at_both : (zone : Zone) (t u : ℤ) (line : ZoneLine) (in_force : InForce) → HasJustInForce zone t line in_force → HasJustInForce zone u line in_force
+    → (other : ZoneLine) (thing : InForce) → ZoneHasInForce zone t other thing → ZoneHasInForce zone u other thing
+at_both zone t u line in_force here there other thing keeps =
     let (same_line, same) = here.only other thing keeps in
-    let by_line = subst (λ (x : ZoneLine). ZoneKeeps zone u x kept) (sym same_line) there.keeps in
-    subst (λ (x : Kept). ZoneKeeps zone u other x) (sym same) by_line
+    let by_line = subst (λ (x : ZoneLine). ZoneHasInForce zone u x in_force) (sym same_line) there.keeps in
+    subst (λ (x : InForce). ZoneHasInForce zone u other x) (sym same) by_line
 
 -- where what is kept comes again, what is shown does
 repeats : (zone : Zone) (start : ℤ)
-    → ((t : ℤ) (line : ZoneLine) (kept : Kept) → start ≤ℤ t → ZoneKeeps zone t line kept → ZoneKeeps zone (t +ℤ pos 12_622_780_800) line kept)
+    → ((t : ℤ) (line : ZoneLine) (in_force : InForce) → start ≤ℤ t → ZoneHasInForce zone t line in_force → ZoneHasInForce zone (t +ℤ pos 12_622_780_800) line in_force)
     → Repeats zone start
 repeats zone start again = record {
   keeps = again;
   shows = λ t state le shown. record {
     line = shown.line;
-    kept = shown.kept;
-    keeps = again t shown.line shown.kept le shown.keeps;
+    in_force = shown.in_force;
+    keeps = again t shown.line shown.in_force le shown.keeps;
     offset = shown.offset;
     daylight = shown.daylight;
     name = shown.name;
@@ -47,9 +47,9 @@ repeats zone start again = record {
 }
 
 -- where one thing is kept for ever
-repeats_from : (zone : Zone) (start : ℤ) (line : ZoneLine) (kept : Kept) → KeepsFrom zone start line kept → Repeats zone start
-repeats_from zone start line kept from = repeats zone start
-    (λ t other thing le keeps. at_both zone t (t +ℤ pos 12_622_780_800) line kept (from t le) (from (t +ℤ pos 12_622_780_800) (omega (arith, ints))) other thing keeps)
+repeats_from : (zone : Zone) (start : ℤ) (line : ZoneLine) (in_force : InForce) → HasInForceFrom zone start line in_force → Repeats zone start
+repeats_from zone start line in_force from = repeats zone start
+    (λ t other thing le keeps. at_both zone t (t +ℤ pos 12_622_780_800) line in_force (from t le) (from (t +ℤ pos 12_622_780_800) (omega (arith, ints))) other thing keeps)
 
 module _ (zone : Zone) (orderly : IsOrderly zone) (i : ℕ) (line : ZoneLine) (name : List ℕ) (year : ℤ) (tail : HasLastSet zone i line name year) where
   abbrev set : RuleSet
@@ -64,12 +64,12 @@ module _ (zone : Zone) (orderly : IsOrderly zone) (i : ℕ) (line : ZoneLine) (n
         omega (arith, ints)
 
     -- where its rule is the only one that goes on
-    only_kept : IsOnlyContinuing set o.number o.rule → (t : ℤ) → u ≤ℤ t → KeepsJust zone t line (kept_of o.rule)
-    only_kept only t le =
+    only_in_force : IsOnlyContinuing set o.number o.rule → (t : ℤ) → u ≤ℤ t → HasJustInForce zone t line (in_force_of o.rule)
+    only_in_force only t le =
         by_lt_z t (year_second (year +ℤ pos 3) -ℤ pos 1)
         (λ lt.
         let settled_by = last_is_settled in
-        keeps_from_last zone orderly i line name year tail t o u (omega (arith, ints))
+        has_from_last zone orderly i line name year tail t o u (omega (arith, ints))
         (record {
           is = last.is;
           instant = last.instant;
@@ -86,8 +86,8 @@ module _ (zone : Zone) (orderly : IsOrderly zone) (i : ℕ) (line : ZoneLine) (n
           | inr none ↦ let after = none o u last.is last.instant in absurd (omega (arith, ints))
         ]
 
-    kept_again : (t : ℤ) (other : ZoneLine) (thing : Kept) → u ≤ℤ t → ZoneKeeps zone t other thing → ZoneKeeps zone (t +ℤ pos 12_622_780_800) other thing
-    kept_again t other thing le keeps =
+    in_force_again : (t : ℤ) (other : ZoneLine) (thing : InForce) → u ≤ℤ t → ZoneHasInForce zone t other thing → ZoneHasInForce zone (t +ℤ pos 12_622_780_800) other thing
+    in_force_again t other thing le keeps =
         let from = given zone orderly i line name year tail in
         let (number, rule, member, continues) = has in
         let settled_by = last_is_settled in
@@ -96,19 +96,19 @@ module _ (zone : Zone) (orderly : IsOrderly zone) (i : ℕ) (line : ZoneLine) (n
           | inl late ↦
               let (q, v, current) = some_current t le in
               let later = current_again set line.offset year from (year_second (year +ℤ pos 3) -ℤ pos 1) t o q u v late last le current in
-              at_both zone t (t +ℤ pos 12_622_780_800) line (kept_from q)
-              (keeps_from_last zone orderly i line name year tail t q v (omega (arith, ints)) current)
-              (keeps_from_last zone orderly i line name year tail (t +ℤ pos 12_622_780_800) (again q) (v +ℤ pos 12_622_780_800) (omega (arith, ints)) later)
+              at_both zone t (t +ℤ pos 12_622_780_800) line (in_force_from q)
+              (has_from_last zone orderly i line name year tail t q v (omega (arith, ints)) current)
+              (has_from_last zone orderly i line name year tail (t +ℤ pos 12_622_780_800) (again q) (v +ℤ pos 12_622_780_800) (omega (arith, ints)) later)
               other thing keeps
           | inr only ↦
-              at_both zone t (t +ℤ pos 12_622_780_800) line (kept_of o.rule)
-              (only_kept only t le)
-              (only_kept only (t +ℤ pos 12_622_780_800) (omega (arith, ints)))
+              at_both zone t (t +ℤ pos 12_622_780_800) line (in_force_of o.rule)
+              (only_in_force only t le)
+              (only_in_force only (t +ℤ pos 12_622_780_800) (omega (arith, ints)))
               other thing keeps
         ]
 
     from_last : Repeats zone u
-    from_last = repeats zone u kept_again
+    from_last = repeats zone u in_force_again
 
   set_repeats : Repeats zone (year_second (year +ℤ pos 3) -ℤ pos 1)
   set_repeats =
@@ -119,18 +119,18 @@ module _ (zone : Zone) (orderly : IsOrderly zone) (i : ℕ) (line : ZoneLine) (n
             (year_second (year +ℤ pos 3) -ℤ pos 1) (omega (arith, ints)) in
             let before = last.not_after in
             repeats zone (year_second (year +ℤ pos 3) -ℤ pos 1)
-            (λ t other thing le keeps. kept_again has o u last t other thing (omega (arith, ints)) keeps)
+            (λ t other thing le keeps. in_force_again has o u last t other thing (omega (arith, ints)) keeps)
         | inr none ↦
-            let (kept, from) = by_none zone orderly i line name year tail none in
-            repeats_from zone (year_second (year +ℤ pos 3) -ℤ pos 1) line kept from
+            let (in_force, from) = by_none zone orderly i line name year tail none in
+            repeats_from zone (year_second (year +ℤ pos 3) -ℤ pos 1) line in_force from
       ]
 
 module _ (zone : Zone) (orderly : IsOrderly zone) (i : ℕ) (line : ZoneLine) (last : IsLastLine zone i line) where
   fixed_repeats : (end : ℤ) → HasNoSet line.rules → IsEnd zone end → Repeats zone (end -ℤ pos 1)
   fixed_repeats end none is_end =
-      let (kept, from) = fixed_tail zone orderly i line last none in
+      let (in_force, from) = fixed_tail zone orderly i line last none in
       let governs = governs_from_end zone orderly.sets i line end (end -ℤ pos 1) last is_end (omega (arith, ints)) in
-      repeats_from zone (end -ℤ pos 1) line kept (from (end -ℤ pos 1) governs.begun)
+      repeats_from zone (end -ℤ pos 1) line in_force (from (end -ℤ pos 1) governs.begun)
 
   repeats_by : (says : Rules) (end : ℤ) → line.rules ≡ says → IsEndBy zone i says end → IsEnd zone end → Repeats zone (end -ℤ pos 1)
   repeats_by Standard end e by is_end = fixed_repeats end (subst HasNoSet (sym e) tt) is_end

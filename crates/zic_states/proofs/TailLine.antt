@@ -8,15 +8,15 @@ use Rattle.zic_lines.specs.declared.rules.Rules.TheVariants.{Standard, Amount, S
 use Rattle.zic_lines.specs.declared.zone_line.ZoneLine.{ZoneLine}
 use Rattle.zic_occurrences.proofs.Bounds.{years_apart}
 use Rattle.zic_states.specs.End.{IsLastLine, IsEndBy, IsEnd}
-use Rattle.zic_states.specs.Kept.{Kept, RulesKeep}
+use Rattle.zic_states.specs.InForce.{InForce, RulesHaveInForce}
 use Rattle.zic_states.specs.Laws.{HasSetsInOrder, IsOrderly}
-use Rattle.zic_states.specs.Tail.{HasNoSet, KeepsJust, KeepsFrom}
-use Rattle.zic_states.specs.Zone.{Zone, HasBegun, Governs, Keeps}
+use Rattle.zic_states.specs.Tail.{HasNoSet, HasJustInForce, HasInForceFrom}
+use Rattle.zic_states.specs.Zone.{Zone, HasBegun, Governs, HasInForce}
 use Rattle.zic_states.proofs.Governing.{one_line}
-use Rattle.zic_states.proofs.Kept.{one_kept}
+use Rattle.zic_states.proofs.InForce.{one_in_force}
 use Rattle.zic_states.proofs.Lines.{always_not_over, last_line}
 use Rattle.zic_states.proofs.Orders.{same_number}
-use Rattle.zic_states.proofs.SomeKept.{some_kept}
+use Rattle.zic_states.proofs.SomeInForce.{some_in_force}
 
 -- ---- it governs
 
@@ -50,44 +50,44 @@ governs_from_end zone sets i line end t last (j, other, last', by) le =
 
 module _ (zone : Zone) (orderly : IsOrderly zone) (i : ℕ) (line : ZoneLine) (last : IsLastLine zone i line) where
   -- what the line keeps, the zone does, and nothing else
-  pub keeps_just : (t : ℤ) (kept : Kept) → HasBegun zone i t → Keeps zone i line t kept → KeepsJust zone t line kept
-  keeps_just t kept begun keeps =
+  pub has_just : (t : ℤ) (in_force : InForce) → HasBegun zone i t → HasInForce zone i line t in_force → HasJustInForce zone t line in_force
+  has_just t in_force begun keeps =
       let governs = governs_from_start zone i line t last begun in
       record {
         keeps = record { number = i; governs = governs; keeps = keeps };
         only = λ other thing by.
             let (number, same) = one_line zone orderly t by.number i other line by.governs governs in
-            let by_number = subst (λ (n : ℕ). Keeps zone n other t thing) number by.keeps in
-            let by_line = subst (λ (l : ZoneLine). Keeps zone i l t thing) same by_number in
-            (same, one_kept zone orderly.sets i line t thing kept last.is_line by_line keeps);
+            let by_number = subst (λ (n : ℕ). HasInForce zone n other t thing) number by.keeps in
+            let by_line = subst (λ (l : ZoneLine). HasInForce zone i l t thing) same by_number in
+            (same, one_in_force zone orderly.sets i line t thing in_force last.is_line by_line keeps);
       }
 
 -- ---- without a set
 
-fixed : Rules → Kept
+fixed : Rules → InForce
 fixed Standard = record { saving = pos 0; daylight = false; letter = None }
 fixed (Amount saving) = record { saving = saving.seconds; daylight = saving.daylight; letter = None }
 fixed (Set name) = record { saving = pos 0; daylight = false; letter = None }
 
-is_fixed : (rules : List Rule) (line : ZoneLine) (says : Rules) (IsSuch : ℤ → Type 0) (kept : Kept) → HasNoSet says
-    → RulesKeep rules line says IsSuch kept → kept ≡ fixed says
+is_fixed : (rules : List Rule) (line : ZoneLine) (says : Rules) (IsSuch : ℤ → Type 0) (in_force : InForce) → HasNoSet says
+    → RulesHaveInForce rules line says IsSuch in_force → in_force ≡ fixed says
 unfolding fixed
-is_fixed rules line Standard IsSuch kept none e = e
-is_fixed rules line (Amount saving) IsSuch kept none e = e
-is_fixed rules line (Set name) IsSuch kept none e = absurd none
+is_fixed rules line Standard IsSuch in_force none e = e
+is_fixed rules line (Amount saving) IsSuch in_force none e = e
+is_fixed rules line (Set name) IsSuch in_force none e = absurd none
 
-keeps_fixed : (zone : Zone) (i : ℕ) (line : ZoneLine) (t : ℤ) (kept : Kept) → HasNoSet line.rules → Keeps zone i line t kept → kept ≡ fixed line.rules
-unfolding Keeps
-keeps_fixed zone zero line t kept none keeps = is_fixed zone.source.rules line line.rules _ kept none keeps
-keeps_fixed zone (suc i) line t kept none (end, window, keeps) = is_fixed zone.source.rules line line.rules _ kept none keeps
+has_fixed : (zone : Zone) (i : ℕ) (line : ZoneLine) (t : ℤ) (in_force : InForce) → HasNoSet line.rules → HasInForce zone i line t in_force → in_force ≡ fixed line.rules
+unfolding HasInForce
+has_fixed zone zero line t in_force none keeps = is_fixed zone.source.rules line line.rules _ in_force none keeps
+has_fixed zone (suc i) line t in_force none (end, window, keeps) = is_fixed zone.source.rules line line.rules _ in_force none keeps
 
 pub fixed_tail : (zone : Zone) → IsOrderly zone → (i : ℕ) (line : ZoneLine) → IsLastLine zone i line → HasNoSet line.rules
-    → (kept : Kept) × ((start : ℤ) → HasBegun zone i start → KeepsFrom zone start line kept)
+    → (in_force : InForce) × ((start : ℤ) → HasBegun zone i start → HasInForceFrom zone start line in_force)
 fixed_tail zone orderly i line last none = (
   fixed line.rules,
   λ start begun t le.
-      let (kept, keeps) = some_kept zone orderly.sets i line t last.is_line in
-      let same = keeps_fixed zone i line t kept none keeps in
-      keeps_just zone orderly i line last t (fixed line.rules) (begun_later zone i start t begun le)
-      (subst (λ (k : Kept). Keeps zone i line t k) same keeps),
+      let (in_force, keeps) = some_in_force zone orderly.sets i line t last.is_line in
+      let same = has_fixed zone i line t in_force none keeps in
+      has_just zone orderly i line last t (fixed line.rules) (begun_later zone i start t begun le)
+      (subst (λ (k : InForce). HasInForce zone i line t k) same keeps),
 )

@@ -11,13 +11,13 @@ use Rattle.zic_lines.specs.declared.zone_line.ZoneLine.{ZoneLine}
 use Rattle.zic_source.specs.Source.{is_of_set}
 use Rattle.zic_occurrences.specs.Occurrence.{RuleSet, year_second}
 use Rattle.zic_states.specs.End.{IsLastLine, IsEndBy, IsEnd}
-use Rattle.zic_states.specs.Kept.{Kept, kept_from}
+use Rattle.zic_states.specs.InForce.{InForce, in_force_from}
 use Rattle.zic_states.specs.Laws.{IsOrderly}
-use Rattle.zic_states.specs.Tail.{IsContinuing, HasContinuing, HasNoSet, HasLastSet, KeepsFrom}
-use Rattle.zic_states.specs.TailLaws.{KeptBefore}
+use Rattle.zic_states.specs.Tail.{IsContinuing, HasContinuing, HasNoSet, HasLastSet, HasInForceFrom}
+use Rattle.zic_states.specs.TailLaws.{InForceBefore}
 use Rattle.zic_states.specs.Until.{set_of}
-use Rattle.zic_states.specs.Zone.{Zone, ZoneKeeps}
-use Rattle.zic_states.proofs.TailKept.{given, keeps_from_last, by_continuing, by_none}
+use Rattle.zic_states.specs.Zone.{Zone, ZoneHasInForce}
+use Rattle.zic_states.proofs.TailInForce.{given, has_from_last, by_continuing, by_none}
 use Rattle.zic_states.proofs.TailLine.{governs_from_end, fixed_tail}
 use Rattle.zic_states.proofs.TailSet.{rule_in, own_instant}
 
@@ -73,32 +73,32 @@ continuing_or_none set =
 -- ---- before the end
 
 -- the zone keeps this by this line at some instant before the end
-abbrev KeepsBefore : Zone → ℤ → ZoneLine → Kept → Type 0
-KeepsBefore zone end line kept = (u : ℤ) × (u <ℤ end) × ZoneKeeps zone u line kept
+abbrev HasInForceBefore : Zone → ℤ → ZoneLine → InForce → Type 0
+HasInForceBefore zone end line in_force = (u : ℤ) × (u <ℤ end) × ZoneHasInForce zone u line in_force
 
-pub by_same : (zone : Zone) (u end : ℤ) (a b : ZoneLine) (k l : Kept) → u <ℤ end → a ≡ b → k ≡ l → ZoneKeeps zone u b l → KeepsBefore zone end a k
-by_same zone u end a b k l lt line kept keeps =
-    let by_line = subst (λ (x : ZoneLine). ZoneKeeps zone u x l) (sym line) keeps in
-    (u, lt, subst (λ (x : Kept). ZoneKeeps zone u a x) (sym kept) by_line)
+pub by_same : (zone : Zone) (u end : ℤ) (a b : ZoneLine) (k l : InForce) → u <ℤ end → a ≡ b → k ≡ l → ZoneHasInForce zone u b l → HasInForceBefore zone end a k
+by_same zone u end a b k l lt line in_force keeps =
+    let by_line = subst (λ (x : ZoneLine). ZoneHasInForce zone u x l) (sym line) keeps in
+    (u, lt, subst (λ (x : InForce). ZoneHasInForce zone u a x) (sym in_force) by_line)
 
 -- where the zone keeps one thing from the last second before the end on
-at_last_second : (zone : Zone) (end t : ℤ) (line other : ZoneLine) (kept thing : Kept) → KeepsFrom zone (end -ℤ pos 1) line kept
-    → end ≤ℤ t → ZoneKeeps zone t other thing → KeepsBefore zone end other thing
-at_last_second zone end t line other kept thing from le keeps =
+at_last_second : (zone : Zone) (end t : ℤ) (line other : ZoneLine) (in_force thing : InForce) → HasInForceFrom zone (end -ℤ pos 1) line in_force
+    → end ≤ℤ t → ZoneHasInForce zone t other thing → HasInForceBefore zone end other thing
+at_last_second zone end t line other in_force thing from le keeps =
     let (same_line, same) = (from t (omega (arith, ints))).only other thing keeps in
-    by_same zone (end -ℤ pos 1) end other line thing kept (omega (arith, ints)) same_line same
+    by_same zone (end -ℤ pos 1) end other line thing in_force (omega (arith, ints)) same_line same
     (from (end -ℤ pos 1) (omega (arith, ints))).keeps
 
 module _ (zone : Zone) (orderly : IsOrderly zone) (i : ℕ) (line : ZoneLine) (last : IsLastLine zone i line) where
-  fixed_before : (end t : ℤ) (other : ZoneLine) (thing : Kept) → HasNoSet line.rules → IsEnd zone end → end ≤ℤ t
-      → ZoneKeeps zone t other thing → KeepsBefore zone end other thing
+  fixed_before : (end t : ℤ) (other : ZoneLine) (thing : InForce) → HasNoSet line.rules → IsEnd zone end → end ≤ℤ t
+      → ZoneHasInForce zone t other thing → HasInForceBefore zone end other thing
   fixed_before end t other thing none is_end le keeps =
-      let (kept, from) = fixed_tail zone orderly i line last none in
+      let (in_force, from) = fixed_tail zone orderly i line last none in
       let governs = governs_from_end zone orderly.sets i line end (end -ℤ pos 1) last is_end (omega (arith, ints)) in
-      at_last_second zone end t line other kept thing (from (end -ℤ pos 1) governs.begun) le keeps
+      at_last_second zone end t line other in_force thing (from (end -ℤ pos 1) governs.begun) le keeps
 
-  set_before : (name : List ℕ) (year t : ℤ) (other : ZoneLine) (thing : Kept) → HasLastSet zone i line name year
-      → year_second (year +ℤ pos 3) ≤ℤ t → ZoneKeeps zone t other thing → KeepsBefore zone (year_second (year +ℤ pos 3)) other thing
+  set_before : (name : List ℕ) (year t : ℤ) (other : ZoneLine) (thing : InForce) → HasLastSet zone i line name year
+      → year_second (year +ℤ pos 3) ≤ℤ t → ZoneHasInForce zone t other thing → HasInForceBefore zone (year_second (year +ℤ pos 3)) other thing
   set_before name year t other thing tail le keeps =
       elim (continuing_or_none (set_of zone.source.rules name)) [
         | inl has ↦
@@ -106,47 +106,47 @@ module _ (zone : Zone) (orderly : IsOrderly zone) (i : ℕ) (line : ZoneLine) (l
             let (later, u, is, at, late, before) = own_instant (set_of zone.source.rules name) line.offset year (given zone orderly i line name year tail)
             by.occurrence.number by.occurrence.rule by.current.is.member by.continues in
             let same = by.keeps.only other thing keeps in
-            let own = keeps_from_last zone orderly i line name year tail u (rule_in by.occurrence.number by.occurrence.rule later) u (omega (arith, ints))
+            let own = has_from_last zone orderly i line name year tail u (rule_in by.occurrence.number by.occurrence.rule later) u (omega (arith, ints))
             (record { is = is; instant = at; not_after = omega (arith, ints); last = λ q v is_q at_v not_after. not_after }) in
-            by_same zone u (year_second (year +ℤ pos 3)) other line thing (kept_from by.occurrence) before same.0 same.1 own.keeps
+            by_same zone u (year_second (year +ℤ pos 3)) other line thing (in_force_from by.occurrence) before same.0 same.1 own.keeps
         | inr none ↦
-            let (kept, from) = by_none zone orderly i line name year tail none in
-            at_last_second zone (year_second (year +ℤ pos 3)) t line other kept thing from le keeps
+            let (in_force, from) = by_none zone orderly i line name year tail none in
+            at_last_second zone (year_second (year +ℤ pos 3)) t line other in_force thing from le keeps
       ]
 
-  before_by : (says : Rules) (end t : ℤ) (other : ZoneLine) (thing : Kept) → line.rules ≡ says → IsEndBy zone i says end → IsEnd zone end
-      → end ≤ℤ t → ZoneKeeps zone t other thing → KeepsBefore zone end other thing
+  before_by : (says : Rules) (end t : ℤ) (other : ZoneLine) (thing : InForce) → line.rules ≡ says → IsEndBy zone i says end → IsEnd zone end
+      → end ≤ℤ t → ZoneHasInForce zone t other thing → HasInForceBefore zone end other thing
   before_by Standard end t other thing e by is_end le keeps = fixed_before end t other thing (subst HasNoSet (sym e) tt) is_end le keeps
   before_by (Amount saving) end t other thing e by is_end le keeps = fixed_before end t other thing (subst HasNoSet (sym e) tt) is_end le keeps
   before_by (Set name) end t other thing e (year, last_year, is) is_end le keeps =
       let tail : HasLastSet zone i line name year = record { is_last = last; has_set = e; last_year = last_year } in
-      subst (λ (s : ℤ). KeepsBefore zone s other thing) (sym is) (set_before name year t other thing tail (omega (arith, ints)) keeps)
+      subst (λ (s : ℤ). HasInForceBefore zone s other thing) (sym is) (set_before name year t other thing tail (omega (arith, ints)) keeps)
 
-pub keeps_before : (zone : Zone) → IsOrderly zone → (end : ℤ) → IsEnd zone end → (t : ℤ) (line : ZoneLine) (kept : Kept) → ZoneKeeps zone t line kept
-    → (u : ℤ) × (u <ℤ end) × ZoneKeeps zone u line kept
-keeps_before zone orderly end (i, last_line, last, by) t line kept keeps =
+pub has_before : (zone : Zone) → IsOrderly zone → (end : ℤ) → IsEnd zone end → (t : ℤ) (line : ZoneLine) (in_force : InForce) → ZoneHasInForce zone t line in_force
+    → (u : ℤ) × (u <ℤ end) × ZoneHasInForce zone u line in_force
+has_before zone orderly end (i, last_line, last, by) t line in_force keeps =
     by_lt_z t end
     (λ lt. (t, lt, keeps))
-    (λ le. before_by zone orderly i last_line last last_line.rules end t line kept refl by (i, last_line, last, by) le keeps)
+    (λ le. before_by zone orderly i last_line last last_line.rules end t line in_force refl by (i, last_line, last, by) le keeps)
 
-pub kept_before : KeptBefore
-kept_before = record {
-  keeps = keeps_before;
+pub in_force_before : InForceBefore
+in_force_before = record {
+  keeps = has_before;
   shows = λ zone orderly end is_end t state shown.
-      let (u, lt, keeps) = keeps_before zone orderly end is_end t shown.line shown.kept shown.keeps in (
+      let (u, lt, keeps) = has_before zone orderly end is_end t shown.line shown.in_force shown.keeps in (
         u,
         lt,
-        record { line = shown.line; kept = shown.kept; keeps = keeps; offset = shown.offset; daylight = shown.daylight; name = shown.name },
+        record { line = shown.line; in_force = shown.in_force; keeps = keeps; offset = shown.offset; daylight = shown.daylight; name = shown.name },
       );
   no_letter = λ zone orderly end is_end fault.
-      let (u, lt, keeps) = keeps_before zone orderly end is_end fault.t fault.line fault.kept fault.keeps in
-      (record { t = u; line = fault.line; kept = fault.kept; keeps = keeps; wants = fault.wants }, lt);
+      let (u, lt, keeps) = has_before zone orderly end is_end fault.t fault.line fault.in_force fault.keeps in
+      (record { t = u; line = fault.line; in_force = fault.in_force; keeps = keeps; wants = fault.wants }, lt);
   bad_abbreviation = λ zone orderly end is_end fault.
-      let (u, lt, keeps) = keeps_before zone orderly end is_end fault.t fault.shows.line fault.shows.kept fault.shows.keeps in (
+      let (u, lt, keeps) = has_before zone orderly end is_end fault.t fault.shows.line fault.shows.in_force fault.shows.keeps in (
         record {
           t = u;
           state = fault.state;
-          shows = record { line = fault.shows.line; kept = fault.shows.kept; keeps = keeps; offset = fault.shows.offset; daylight = fault.shows.daylight; name = fault.shows.name };
+          shows = record { line = fault.shows.line; in_force = fault.shows.in_force; keeps = keeps; offset = fault.shows.offset; daylight = fault.shows.daylight; name = fault.shows.name };
           breaks = fault.breaks;
         },
         lt,

@@ -65,7 +65,7 @@ beyond {set} {offset} given until sound bound saved within enough o u is at past
 stage_is : {set : RuleSet} {offset bound : ℤ} {xs : List TimedOccurrence} → IsListing set offset bound xs
     → (k : ℕ) (b : Option Occurrence) → IsStageAt set offset bound xs k b → IsStage set b
 stage_is g k None is_at = tt
-stage_is g k (Some o) is_at = is_at.2.stands.is
+stage_is g k (Some o) is_at = is_at.2.located.is
 
 next_at : {set : RuleSet} {offset bound : ℤ} {xs : List TimedOccurrence} → IsListing set offset bound xs
     → (k : ℕ) (b : Option Occurrence) (p : Occurrence) → IsStageAt set offset bound xs k b → IsAt set offset bound xs k p → IsNext set b p
@@ -83,7 +83,7 @@ before_or_same g k None p is_at at (Some c) is_c before =
     let less : place.0 < k = stands_before g place.0 k c p place.1 at before in
     absurd (omega arith)
 before_or_same {set} {offset} {bound} {xs} g k (Some o) p is_at at (Some c) is_c before =
-    elim (compare_occurrences set offset g.ordered.order c o is_c is_at.2.stands.is) [
+    elim (compare_occurrences set offset g.ordered.order c o is_c is_at.2.located.is) [
       | inl lt ↦ inl lt
       | inr (inl same) ↦ inr (ap Some same)
       | inr (inr gt) ↦
@@ -107,7 +107,7 @@ pub one_more_passed : {set : RuleSet} {offset bound : ℤ} {xs : List TimedOccur
 one_more_passed {set} {offset} {bound} {xs} g until k saved p passed at lt =
     let goes_on : Stops set offset until passed.b → ⊥ = λ stops.
     let ge : until_by offset until (saved_after passed.b) ≤ℤ at.x.instant =
-    stops p at.x.instant (next_at g k passed.b p passed.is_at at) at.stands.instant
+    stops p at.x.instant (next_at g k passed.b p passed.is_at at) at.located.instant
     in
     let same : until_by offset until saved ≡ until_by offset until (saved_after passed.b) = ap (until_by offset until) passed.saved_is in
     absurd (omega (arith, ints))
@@ -130,7 +130,7 @@ stops_at {set} {offset} {bound} {xs} g until k saved p passed at le =
     let same_next : next ≡ p = one_next set offset given.order passed.b next p is_next (next_at g k passed.b p passed.is_at at) in
     let At : Occurrence → Type 0 = λ q. IsInstant set offset q u in
     let same : u ≡ at.x.instant =
-    one_instant set offset given.sound given.within given.order p u at.x.instant at.stands.is (subst At same_next at_u) at.stands.instant
+    one_instant set offset given.sound given.within given.order p u at.x.instant at.located.is (subst At same_next at_u) at.located.instant
     in
     let read : until_by offset until saved ≡ until_by offset until (saved_after passed.b) = ap (until_by offset until) passed.saved_is in
     omega (arith, ints)

@@ -16,7 +16,7 @@ minutes_text seconds =
 abbrev pub sign : ℤ → ℕ
 sign offset = if int_lt offset (pos 0) then 45 else 43
 
--- `%z`: the shortest of `+hh`, `+hhmm` and `+hhmmss` that tells the UT offset, with `-` west of Greenwich
+-- `%z`: the shortest of `+hh`, `+hhmm` and `+hhmmss` that gives the UT offset, with `-` west of Greenwich
 abbrev pub short_offset_text : ℤ → List ℕ
 short_offset_text offset = sign offset ∷ (two_digits (unsigned_abs offset / 3600) ++ minutes_text (unsigned_abs offset % 3600))
 

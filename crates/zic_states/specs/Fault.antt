@@ -13,10 +13,10 @@ use Rattle.zic_occurrences.specs.Occurrence.{IsMember}
 use Rattle.zic_occurrences.specs.Order.{IsOutOfOrder}
 use Rattle.zic_states.specs.Abbreviation.{abbreviation}
 use Rattle.zic_words.specs.Limits.{is_abbreviation}
-use Rattle.zic_states.specs.Kept.{Kept}
+use Rattle.zic_states.specs.InForce.{InForce}
 use Rattle.zic_base.specs.State.{Shown}
 use Rattle.zic_states.specs.Until.{set_of}
-use Rattle.zic_states.specs.Zone.{Zone, lines_of, line_at, Ends, ZoneKeeps, Shows}
+use Rattle.zic_states.specs.Zone.{Zone, lines_of, line_at, Ends, ZoneHasInForce, Shows}
 
 -- a saving of RULES: none, the amount, or that of a rule of the set
 abbrev pub IsSavingOf : List Rule → Rules → ℤ → Type 0
@@ -56,9 +56,9 @@ pub record HasUntilNotRising (zone : Zone) : Type 0 where
 pub record HasNoLetter (zone : Zone) : Type 0 where
   pub t : ℤ
   pub line : ZoneLine
-  pub kept : Kept
-  pub keeps : ZoneKeeps zone t line kept
-  pub wants : abbreviation line.format (line.offset +ℤ kept.saving) kept.daylight kept.letter ≡ None
+  pub in_force : InForce
+  pub keeps : ZoneHasInForce zone t line in_force
+  pub wants : abbreviation line.format (line.offset +ℤ in_force.saving) in_force.daylight in_force.letter ≡ None
 
 -- BadAbbreviation: at some instant the zone shows an abbreviation that breaks its limit
 pub record HasBadAbbreviation (zone : Zone) : Type 0 where

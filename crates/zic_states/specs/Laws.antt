@@ -9,10 +9,10 @@ use Rattle.zic_occurrences.specs.Order.{IsInOrder}
 use Rattle.zic_states.specs.Change.{Change, AreChanges, IsBeforeChanges, IsFirstState}
 use Rattle.zic_states.specs.End.{IsEnd}
 use Rattle.zic_states.specs.Fault.{HasRulesOutOfOrder, HasUntilNotRising, HasNoLetter, IsSound}
-use Rattle.zic_states.specs.Kept.{Kept}
+use Rattle.zic_states.specs.InForce.{InForce}
 use Rattle.zic_base.specs.State.{Shown}
 use Rattle.zic_states.specs.Until.{set_of, IsUntil}
-use Rattle.zic_states.specs.Zone.{Zone, line_at, Governs, Keeps, Shows}
+use Rattle.zic_states.specs.Zone.{Zone, line_at, Governs, HasInForce, Shows}
 
 -- a line whose set, if it has one, is in order on it ends at one instant at most
 abbrev pub OneUntil : Type 0
@@ -51,12 +51,12 @@ OneLine =
     (zone : Zone) → IsOrderly zone
     → (t : ℤ) (i j : ℕ) (a b : ZoneLine) → Governs zone i a t → Governs zone j b t → (i ≡ j) × (a ≡ b)
 
--- at an instant a line keeps at most one thing
-abbrev pub OneKept : Type 0
-OneKept =
+-- at an instant a line has at most one thing in force
+abbrev pub OneInForce : Type 0
+OneInForce =
     (zone : Zone) → HasSetsInOrder zone
-    → (i : ℕ) (line : ZoneLine) (t : ℤ) (a b : Kept) → line_at zone i ≡ Some line
-    → Keeps zone i line t a → Keeps zone i line t b → a ≡ b
+    → (i : ℕ) (line : ZoneLine) (t : ℤ) (a b : InForce) → line_at zone i ≡ Some line
+    → HasInForce zone i line t a → HasInForce zone i line t b → a ≡ b
 
 -- at an instant a zone shows at most one state
 abbrev pub OneState : Type 0

@@ -5,7 +5,7 @@ pub mod code
 pub mod End
 pub mod Fault
 pub mod Observance
-pub mod Kept
+pub mod InForce
 pub mod Laws
 pub mod Occurrences
 pub mod Refusal

@@ -8,10 +8,10 @@ use Rattle.zic_occurrences.specs.Laws.{IsLastOccurrence}
 use Rattle.zic_occurrences.specs.Occurrence.{RuleSet, IsMember, Occurrence, IsOccurrence}
 use Rattle.zic_occurrences.specs.Order.{IsPredecessor}
 use Rattle.zic_states.specs.End.{IsLastLine, IsLastYear}
-use Rattle.zic_states.specs.Kept.{Kept, kept_from}
+use Rattle.zic_states.specs.InForce.{InForce, in_force_from}
 use Rattle.zic_base.specs.State.{Shown}
 use Rattle.zic_states.specs.Until.{set_of}
-use Rattle.zic_states.specs.Zone.{Zone, ZoneKeeps, Shows}
+use Rattle.zic_states.specs.Zone.{Zone, ZoneHasInForce, Shows}
 
 -- The rule goes on for ever: it has no last year.
 abbrev pub IsContinuing : Rule → Type 0
@@ -52,27 +52,27 @@ pub record HasLastSet (zone : Zone) (i : ℕ) (line : ZoneLine) (name : List ℕ
   pub has_set : line.rules ≡ Set name
   pub last_year : IsLastYear zone i name year
 
--- at t the zone keeps this by this line, and nothing else
-pub record KeepsJust (zone : Zone) (t : ℤ) (line : ZoneLine) (kept : Kept) : Type 0 where
-  pub keeps : ZoneKeeps zone t line kept
-  pub only : (other : ZoneLine) (thing : Kept) → ZoneKeeps zone t other thing → (other ≡ line) × (thing ≡ kept)
+-- at t the zone has this in force by this line, and nothing else
+pub record HasJustInForce (zone : Zone) (t : ℤ) (line : ZoneLine) (in_force : InForce) : Type 0 where
+  pub keeps : ZoneHasInForce zone t line in_force
+  pub only : (other : ZoneLine) (thing : InForce) → ZoneHasInForce zone t other thing → (other ≡ line) × (thing ≡ in_force)
 
 -- the same at t and for ever after
-abbrev pub KeepsFrom : Zone → ℤ → ZoneLine → Kept → Type 0
-KeepsFrom zone t line kept = (u : ℤ) → t ≤ℤ u → KeepsJust zone u line kept
+abbrev pub HasInForceFrom : Zone → ℤ → ZoneLine → InForce → Type 0
+HasInForceFrom zone t line in_force = (u : ℤ) → t ≤ℤ u → HasJustInForce zone u line in_force
 
--- at t the zone keeps what the last occurrence not after t begins, which is of a year after this one and of a rule that goes on
+-- at t the zone has in force what the last occurrence not after t begins, which is of a year after this one and of a rule that goes on
 -- for ever
-pub record KeepsByContinuing (zone : Zone) (t : ℤ) (line : ZoneLine) (name : List ℕ) (year : ℤ) : Type 0 where
+pub record HasInForceByContinuing (zone : Zone) (t : ℤ) (line : ZoneLine) (name : List ℕ) (year : ℤ) : Type 0 where
   pub occurrence : Occurrence
   pub instant : ℤ
   pub current : IsLastOccurrence (set_of zone.source.rules name) line.offset t occurrence instant
   pub after : year <ℤ occurrence.year
   pub continues : IsContinuing occurrence.rule
-  pub keeps : KeepsJust zone t line (kept_from occurrence)
+  pub keeps : HasJustInForce zone t line (in_force_from occurrence)
 
--- From this instant on the zone keeps and shows after 400 years, which are 146,097 days, what it keeps and shows.
+-- From this instant on the zone has in force and shows after 400 years, which are 146,097 days, what it has in force and shows.
 pub record Repeats (zone : Zone) (start : ℤ) : Type 0 where
-  pub keeps : (t : ℤ) (line : ZoneLine) (kept : Kept) → start ≤ℤ t → ZoneKeeps zone t line kept
-      → ZoneKeeps zone (t +ℤ pos (146_097 * 86_400)) line kept
+  pub keeps : (t : ℤ) (line : ZoneLine) (in_force : InForce) → start ≤ℤ t → ZoneHasInForce zone t line in_force
+      → ZoneHasInForce zone (t +ℤ pos (146_097 * 86_400)) line in_force
   pub shows : (t : ℤ) (state : Shown) → start ≤ℤ t → Shows zone t state → Shows zone (t +ℤ pos (146_097 * 86_400)) state

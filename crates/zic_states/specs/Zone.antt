@@ -7,7 +7,7 @@ use Rattle.zic_base.specs.Option.{◌>>=◌}
 use Rattle.zic_lines.specs.declared.zone_line.ZoneLine.{ZoneLine}
 use Rattle.zic_source.specs.Source.{SourceLines, ZoneLines, zone_at, lines_of_zone}
 use Rattle.zic_states.specs.Abbreviation.{abbreviation}
-use Rattle.zic_states.specs.Kept.{Kept, RulesKeep}
+use Rattle.zic_states.specs.InForce.{InForce, RulesHaveInForce}
 use Rattle.zic_base.specs.State.{Shown}
 use Rattle.zic_states.specs.Until.{IsUntil}
 
@@ -46,44 +46,44 @@ pub record Governs (zone : Zone) (i : ℕ) (line : ZoneLine) (t : ℤ) : Type 0 
   pub begun : HasBegun zone i t
   pub not_over : IsNotOver zone line t
 
--- The line keeps this by the last of its occurrences, of those before its UNTIL, that isn't after t.
-abbrev pub KeepsBy : Zone → ZoneLine → ℤ → Kept → Type 0
-KeepsBy zone line t kept = RulesKeep zone.source.rules line line.rules (λ u. (u ≤ℤ t) × IsNotOver zone line u) kept
+-- The line has this in force by the last of its occurrences, of those before its UNTIL, that isn't after t.
+abbrev pub HasInForceBy : Zone → ZoneLine → ℤ → InForce → Type 0
+HasInForceBy zone line t in_force = RulesHaveInForce zone.source.rules line line.rules (λ u. (u ≤ℤ t) × IsNotOver zone line u) in_force
 
--- the line's UT offset at t: its standard offset and the saving that it keeps
-abbrev pub HasOffset : (ZoneLine → ℤ → Kept → Type 0) → ZoneLine → ℤ → ℤ → Type 0
-HasOffset Keeps line t offset = (kept : Kept) × Keeps line t kept × (offset ≡ line.offset +ℤ kept.saving)
+-- the line's UT offset at t: its standard offset and the saving in force
+abbrev pub HasOffset : (ZoneLine → ℤ → InForce → Type 0) → ZoneLine → ℤ → ℤ → Type 0
+HasOffset HasInForce line t offset = (in_force : InForce) × HasInForce line t in_force × (offset ≡ line.offset +ℤ in_force.saving)
 
 -- The window of a line that follows line i ends at this instant. Just before the start the earlier line has one offset, and at the start
 -- the later line has another by itself. Where clocks go back from the one to the other, the window lasts for the seconds by which
 -- they do; else it ends at the start.
-pub record IsWindowEnd (zone : Zone) (i : ℕ) (Keeps : ZoneLine → ℤ → Kept → Type 0) (later : ZoneLine) (end : ℤ) : Type 0 where
+pub record IsWindowEnd (zone : Zone) (i : ℕ) (HasEarlierInForce : ZoneLine → ℤ → InForce → Type 0) (later : ZoneLine) (end : ℤ) : Type 0 where
   pub start : ℤ
   pub starts : Ends zone i start
   pub before : ℤ
-  pub is_before : IsSomeAnd (line_at zone i) (λ earlier. HasOffset Keeps earlier (start -ℤ pos 1) before)
+  pub is_before : IsSomeAnd (line_at zone i) (λ earlier. HasOffset HasEarlierInForce earlier (start -ℤ pos 1) before)
   pub after : ℤ
-  pub is_after : HasOffset (KeepsBy zone) later start after
+  pub is_after : HasOffset (HasInForceBy zone) later start after
   pub is : end ≡ start +ℤ int_max (pos 0) (before -ℤ after)
 
--- The line of this number keeps this at t: by the last of its occurrences not after t. What its occurrences say in its window, up to and
+-- The line of this number has this in force at t: by the last of its occurrences not after t. What its occurrences say in its window, up to and
 -- including its end, holds from the start on.
-unfoldable pub Keeps : Zone → ℕ → ZoneLine → ℤ → Kept → Type 0
-Keeps zone zero line t kept = KeepsBy zone line t kept
-Keeps zone (suc i) line t kept =
-    (end : ℤ) × IsWindowEnd zone i (Keeps zone i) line end × KeepsBy zone line (int_max t end) kept
+unfoldable pub HasInForce : Zone → ℕ → ZoneLine → ℤ → InForce → Type 0
+HasInForce zone zero line t in_force = HasInForceBy zone line t in_force
+HasInForce zone (suc i) line t in_force =
+    (end : ℤ) × IsWindowEnd zone i (HasInForce zone i) line end × HasInForceBy zone line (int_max t end) in_force
 
--- The zone keeps this at t by this line, which governs.
-pub record ZoneKeeps (zone : Zone) (t : ℤ) (line : ZoneLine) (kept : Kept) : Type 0 where
+-- The zone has this in force at t by this line, which governs.
+pub record ZoneHasInForce (zone : Zone) (t : ℤ) (line : ZoneLine) (in_force : InForce) : Type 0 where
   pub number : ℕ
   pub governs : Governs zone number line t
-  pub keeps : Keeps zone number line t kept
+  pub keeps : HasInForce zone number line t in_force
 
--- The zone shows this state at t: the governing line's standard offset and what is kept, and its FORMAT filled in.
+-- The zone shows this state at t: the governing line's standard offset and what is in force, and its FORMAT filled in.
 pub record Shows (zone : Zone) (t : ℤ) (state : Shown) : Type 0 where
   pub line : ZoneLine
-  pub kept : Kept
-  pub keeps : ZoneKeeps zone t line kept
-  pub offset : state.offset ≡ line.offset +ℤ kept.saving
-  pub daylight : state.daylight ≡ kept.daylight
-  pub name : abbreviation line.format state.offset kept.daylight kept.letter ≡ Some state.name
+  pub in_force : InForce
+  pub keeps : ZoneHasInForce zone t line in_force
+  pub offset : state.offset ≡ line.offset +ℤ in_force.saving
+  pub daylight : state.daylight ≡ in_force.daylight
+  pub name : abbreviation line.format state.offset in_force.daylight in_force.letter ≡ Some state.name

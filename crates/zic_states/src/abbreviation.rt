@@ -9,7 +9,7 @@ ghost use Rattle.zic_states.specs.Abbreviation.{abbreviation_of};
 use std::marker::Model;
 use zic_base::{LONGEST_ABBREVIATION, SHORTEST_ABBREVIATION, are_abbreviation_bytes};
 
-/// An abbreviation of local time: 3 to 16 ASCII letters, digits, `+` and `-`, kept inline; clauses
+/// An abbreviation of local time: 3 to 16 ASCII letters, digits, `+` and `-`, stored inline; clauses
 /// see its bytes. Two are equal where their bytes are.
 #[derive(Clone, Copy, Debug)]
 pub struct Abbreviation {
@@ -40,9 +40,9 @@ impl Abbreviation {
             return None;
         }
         let len = octets.len();
-        let mut kept = [0; LONGEST_ABBREVIATION];
-        kept[..len].copy_from_slice(octets);
-        Some(Abbreviation { octets: kept, len })
+        let mut room = [0; LONGEST_ABBREVIATION];
+        room[..len].copy_from_slice(octets);
+        Some(Abbreviation { octets: room, len })
     }
 
     /// Returns the bytes.

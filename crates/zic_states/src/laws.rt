@@ -1,6 +1,6 @@
 //! Laws of what zones show as contracts: no function here does anything. The crates above cite the
 //! lemmas in `proofs/` that prove them.
-ghost use Rattle.zic_states.specs.Laws.{OneUntil, UntilsAreRead, OneLine, OneKept, OneState, SomeState, OneStateAtEachInstant, OneEnd, OneListOfChanges, OneFirstState};
+ghost use Rattle.zic_states.specs.Laws.{OneUntil, UntilsAreRead, OneLine, OneInForce, OneState, SomeState, OneStateAtEachInstant, OneEnd, OneListOfChanges, OneFirstState};
 
 /// States that a line has at most one UNTIL instant, where its set, if it has one, is in order.
 pub fn each_line_ends_at_one_instant()
@@ -18,8 +18,8 @@ pub fn one_line_governs()
 {}
 
 /// States that at an instant a line keeps at most one saving, daylight flag and letter.
-pub fn a_line_keeps_one_thing()
-    ensures { OneKept }
+pub fn a_line_has_one_thing_in_force()
+    ensures { OneInForce }
 {}
 
 /// States that at an instant a zone shows at most one state.

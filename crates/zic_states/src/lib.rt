@@ -1,4 +1,4 @@
-//! The states of lines and zones: what a zone shows at an instant. The rows of `witness/rows` test it.
+//! The states of lines and zones: what a zone shows at an instant.
 #![tactic(auto)]
 
 mod abbreviation;

@@ -1,11 +1,11 @@
-//! Observances: what the RULES of a line keep.
+//! Observances: what is in force by the RULES of a line.
 
 ghost use Rattle.std.specs.Prelude.{◌≡◌, ◌<◌, ◌↔◌, pos, false, All, IsTrue, length};
 ghost use Rattle.std.specs.Option.{ForSome, option_copied};
 ghost use Rattle.zic_source.specs.Sound.{IsSoundRule};
 ghost use Rattle.zic_occurrences.specs.Occurrence.{nominal_second};
-ghost use Rattle.zic_states.specs.Observance.{kept};
-ghost use Rattle.zic_states.specs.Kept.{IsLetterBefore, IsKeptBy, IsRuleOf};
+ghost use Rattle.zic_states.specs.Observance.{in_force};
+ghost use Rattle.zic_states.specs.InForce.{IsLetterBefore, IsInForceBy, IsRuleOf};
 ghost use Rattle.zic_states.specs.Until.{set_of};
 ghost use Rattle.zic_states.specs.code.Letters.{ComesFirst, IsFirstOfStandard};
 
@@ -29,7 +29,7 @@ pub struct Observance<'a> {
 /// all occurrences where there is none.
 pub fn observance_by<'a>(source: &'a Source, line: &ZoneLine, rule: Option<u16>) -> Observance<'a>
     requires { IsRuleOf source.now.rules line.now.rules rule }
-    ensures { IsKeptBy source.now.rules line.now.rules rule (kept result) }
+    ensures { IsInForceBy source.now.rules line.now.rules rule (in_force result) }
 {
     match (&line.rules, rule) {
         (Rules::Standard, _) => standard(None),

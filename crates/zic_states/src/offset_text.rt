@@ -16,7 +16,7 @@ const LONGEST_OFFSET_TEXT: usize = 7;
 /// A UT offset's text, or a part of it.
 type Text = ArrayVec<u8, LONGEST_OFFSET_TEXT>;
 
-/// Returns the shortest of `+hh`, `+hhmm` and `+hhmmss` that tells a UT offset in seconds, with `-`
+/// Returns the shortest of `+hh`, `+hhmm` and `+hhmmss` that gives a UT offset in seconds, with `-`
 /// west of Greenwich.
 pub(crate) fn short_offset_text(offset: i32) -> Text
     requires { unsigned_abs offset ≤ GREATEST_OFFSET }

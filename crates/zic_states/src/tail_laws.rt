@@ -1,6 +1,6 @@
 //! Laws of what zones show from their explicit ends on, as contracts: no function here does
 //! anything. The crates above cite the lemmas in `proofs/` that prove them.
-ghost use Rattle.zic_states.specs.TailLaws.{LastLineGoverns, FixedTail, ByContinuing, ByOne, ByNone, KeptBefore, RepeatsForEver, AlternatesForEver, StaysSinceChange, OneStateAfterChanges};
+ghost use Rattle.zic_states.specs.TailLaws.{LastLineGoverns, FixedTail, ByContinuing, ByOne, ByNone, InForceBefore, RepeatsForEver, AlternatesForEver, StaysSinceChange, OneStateAfterChanges};
 
 /// States that from its start on, and so from one second before the explicit end on, the last line
 /// governs.
@@ -9,7 +9,7 @@ pub fn the_last_line_governs()
 {}
 
 /// States that a last line without a set keeps one and the same thing from its start on.
-pub fn a_line_without_a_set_keeps_one_thing_for_ever()
+pub fn a_line_without_a_set_has_one_thing_in_force_for_ever()
     ensures { FixedTail }
 {}
 
@@ -26,13 +26,13 @@ pub fn one_continuing_rule_decides_for_ever()
 {}
 
 /// States that where none goes on for ever, the zone keeps one thing from the explicit end on.
-pub fn without_a_continuing_rule_one_thing_is_kept()
+pub fn without_a_continuing_rule_one_thing_is_in_force()
     ensures { ByNone }
 {}
 
-/// States that all that is kept or shown at some instant is kept or shown before the explicit end.
-pub fn all_is_kept_before_the_end()
-    ensures { KeptBefore }
+/// States that all that is in force or shown at some instant is so before the explicit end.
+pub fn all_is_in_force_before_the_end()
+    ensures { InForceBefore }
 {}
 
 /// States that the states of a zone come again after 400 years, for ever.
@@ -51,7 +51,7 @@ pub fn a_state_stays_since_its_change()
     ensures { StaysSinceChange }
 {}
 
-/// States that where one thing is kept for ever, one state is shown after all changes.
+/// States that where one thing is in force for ever, one state is shown after all changes.
 pub fn one_state_is_shown_after_all_changes()
     ensures { OneStateAfterChanges }
 {}

@@ -11,13 +11,13 @@ use Rattle.zic_occurrences.specs.Laws.{IsLastOccurrence}
 use Rattle.zic_occurrences.specs.Occurrence.{RuleSet, year_second}
 use Rattle.zic_words.specs.Limits.{is_abbreviation}
 use Rattle.zic_states.specs.End.{IsEnd, IsEndBy}
-use Rattle.zic_states.specs.Kept.{Kept, kept_of}
-use Rattle.zic_states.specs.Tail.{HasLastSet, KeepsFrom, Alternate}
+use Rattle.zic_states.specs.InForce.{InForce, in_force_of}
+use Rattle.zic_states.specs.Tail.{HasLastSet, HasInForceFrom, Alternate}
 use Rattle.zic_states.specs.Until.{set_of}
 use Rattle.zic_states.specs.Zone.{Zone, Shows}
 use Rattle.zic_states.proofs.Ends.{one_end}
 use Rattle.zic_states.proofs.TailChanges.{one_state_after_changes}
-use Rattle.zic_states.proofs.TailKept.{given, keeps_from_last, by_one, by_none}
+use Rattle.zic_states.proofs.TailInForce.{given, has_from_last, by_one, by_none}
 use Rattle.zic_states.proofs.TailLine.{governs_from_end, fixed_tail}
 use Rattle.zic_states.proofs.TailSet.{rule_in, own_instant}
 use Rattle.zic_rules.specs.Tail.{AreContinuing, IsTailBy, IsRulesTail, HasConstantTail}
@@ -42,8 +42,8 @@ module _ (zone : Zone) (whole : IsWholeZone zone) (end : ℤ) (is_end : IsEnd zo
   -- ---- one state for ever
 
   -- from one second before the end the zone keeps one thing
-  abbrev KeepsOne : Type 0
-  KeepsOne = (line : ZoneLine) × (kept : Kept) × KeepsFrom zone (end -ℤ pos 1) line kept
+  abbrev HasOneInForce : Type 0
+  HasOneInForce = (line : ZoneLine) × (in_force : InForce) × HasInForceFrom zone (end -ℤ pos 1) line in_force
 
   end_by_set : (number : ℕ) (line : ZoneLine) (name : List ℕ) (year : ℤ) → HasLastSet zone number line name year → end ≡ year_second (year +ℤ pos 3)
   end_by_set number line name year last =
@@ -55,17 +55,17 @@ module _ (zone : Zone) (whole : IsWholeZone zone) (end : ℤ) (is_end : IsEnd zo
       )
 
   module _ (number : ℕ) (line : ZoneLine) (name : List ℕ) (year : ℤ) (last : HasLastSet zone number line name year) where
-    from_end : (kept : Kept) → KeepsFrom zone (year_second (year +ℤ pos 3) -ℤ pos 1) line kept → KeepsOne
-    from_end kept from = (line, kept, subst (λ (t : ℤ). KeepsFrom zone (t -ℤ pos 1) line kept) (sym (end_by_set number line name year last)) from)
+    from_end : (in_force : InForce) → HasInForceFrom zone (year_second (year +ℤ pos 3) -ℤ pos 1) line in_force → HasOneInForce
+    from_end in_force from = (line, in_force, subst (λ (t : ℤ). HasInForceFrom zone (t -ℤ pos 1) line in_force) (sym (end_by_set number line name year last)) from)
 
-    by_set : (numbers : List ℕ) → AreContinuing (set_of zone.source.rules name) numbers → length numbers ≤ 1 → KeepsOne
+    by_set : (numbers : List ℕ) → AreContinuing (set_of zone.source.rules name) numbers → length numbers ≤ 1 → HasOneInForce
     by_set [] all few =
-        let (kept, from) = by_none zone whole.orderly number line name year last
+        let (in_force, from) = by_none zone whole.orderly number line name year last
         (λ has. let found = all.all has.0 has.1 has.2 has.3 in let lt = found.1 in absurd (omega (arith, lt))) in
-        from_end kept from
+        from_end in_force from
     by_set (n ∷ []) all few =
         let (rule, member, continues) = all.each 0 n (omega arith) in
-        from_end (kept_of rule)
+        from_end (in_force_of rule)
         (by_one zone whole.orderly number line name year last n rule (record {
           member = member;
           continues = continues;
@@ -73,22 +73,22 @@ module _ (zone : Zone) (whole : IsWholeZone zone) (end : ℤ) (is_end : IsEnd zo
         }))
     by_set (n ∷ m ∷ rest) all few = absurd (omega (arith, few))
 
-  keeps_one : HasConstantTail zone → KeepsOne
-  keeps_one few = elim few.few [
+  has_one : HasConstantTail zone → HasOneInForce
+  has_one few = elim few.few [
     | inl none ↦
-        let (kept, from) = fixed_tail zone whole.orderly few.number few.line few.last none in
+        let (in_force, from) = fixed_tail zone whole.orderly few.number few.line few.last none in
         let governs = governs_from_end zone whole.orderly.sets few.number few.line end (end -ℤ pos 1) few.last is_end (omega (arith, ints)) in
-        (few.line, kept, from (end -ℤ pos 1) governs.begun)
+        (few.line, in_force, from (end -ℤ pos 1) governs.begun)
     | inr (name, year, numbers, last, all, le) ↦ by_set few.number few.line name year last numbers all le
   ]
 
   module _ (state : Shown) (for_ever : IsForEver zone state) where
     constant_goes_on : state.daylight ≡ false → GoesOn zone (constant state.name state.offset)
     constant_goes_on standard t meant after means =
-        let (line, kept, from) = keeps_one for_ever.few in
+        let (line, in_force, from) = has_one for_ever.few in
         let same_end = one_end zone whole.orderly.sets for_ever.end end for_ever.is_end is_end in
         let shown = subst (λ (e : ℤ). Shows zone (e -ℤ pos 1) state) same_end for_ever.shows in
-        let shows = one_state_after_changes zone whole.orderly whole.is_zone (whole.sound kind.NoLetter) end line kept is_end from state shown t after in
+        let shows = one_state_after_changes zone whole.orderly whole.is_zone (whole.sound kind.NoLetter) end line in_force is_end from state shown t after in
         let same : Path Shown state (record { offset = state.offset; daylight = false; name = state.name }) =
         λ k. record { offset = state.offset; daylight = standard k; name = state.name } in
         subst (Shows zone t) (same ∙ sym means) shows
@@ -156,9 +156,9 @@ module _ (zone : Zone) (whole : IsWholeZone zone) (end : ℤ) (is_end : IsEnd zo
         let (later, t, occurs, at, late, early) = own_instant set by.line.offset by.last from n of is.member is.continues in
         let o = rule_in n of later in
         let current : IsLastOccurrence set by.line.offset t o t = record { is = occurs; instant = at; not_after = omega (arith, ints); last = λ q u is_q at_q le. le } in
-        let keeps = keeps_from_last zone whole.orderly by.number by.line by.name by.last by.last_set t o t (omega (arith, ints)) current in
+        let keeps = has_from_last zone whole.orderly by.number by.line by.name by.last by.last_set t o t (omega (arith, ints)) current in
         let state : Shown = record { offset = by.line.offset +ℤ of.saving.seconds; daylight = of.saving.daylight; name = rule.name } in
-        let shows : Shows zone t state = record { line = by.line; kept = kept_of of; keeps = keeps.keeps; offset = refl; daylight = refl; name = is.is.name } in
+        let shows : Shows zone t state = record { line = by.line; in_force = in_force_of of; keeps = keeps.keeps; offset = refl; daylight = refl; name = is.is.name } in
         (shows_within_limits zone whole.source whole.sound t state shows).name
 
     rules_are_string : IsTzString (by_rules standard starting ending)

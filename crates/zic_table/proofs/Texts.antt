@@ -20,7 +20,7 @@ use Rattle.zic_posix.specs.declared.footer.Dst.{Dst}
 use Rattle.zic_posix.specs.declared.footer.Edge.{Edge}
 use Rattle.zic_posix.specs.declared.limit.TheConstants.{USUAL_TIME, USUAL_SAVING}
 use Rattle.zic_words.specs.Limits.{is_abbreviation}
-use Rattle.zic_states.specs.Kept.{IsKeptBy, kept_of}
+use Rattle.zic_states.specs.InForce.{IsInForceBy, in_force_of}
 use Rattle.zic_states.specs.Zone.{Zone}
 use Rattle.zic_rules.specs.Tail.{IsTailBy}
 use Rattle.zic_rules.specs.Timeline.{IsWholeZone}
@@ -123,8 +123,8 @@ module _ (zone : Zone) (whole : IsWholeZone zone) where
       let state : Shown = record { offset = by.line.offset +ℤ rule.saving.seconds; daylight = rule.saving.daylight; name = tail.name } in
       let shows = shows_held zone by.number (Some n) by.line state by.last_set.is_last.is_line
       (record {
-        kept = kept_of rule;
-        is_kept = subst (λ (says : Rules). IsKeptBy zone.source.rules says (Some n) (kept_of rule)) (sym by.last_set.has_set) (rule, is.member, refl);
+        in_force = in_force_of rule;
+        is_in_force = subst (λ (says : Rules). IsInForceBy zone.source.rules says (Some n) (in_force_of rule)) (sym by.last_set.has_set) (rule, is.member, refl);
         offset = refl;
         daylight = refl;
         name = is.is.name;

@@ -92,6 +92,6 @@ pub record IsFaultOfTable (zone : Zone) (place : Place) (fault : Fault) : Type 0
   pub is_first : of_zone.IsFirstState zone first
   pub first_exceeded : IsFirstFailed place (limits first changes) fault
 
--- The zone has no more changes than a table takes, the one limit that is looked at before memory is asked for.
+-- The zone has no more changes than a table takes, the one limit that is checked before memory is requested.
 abbrev pub HasFewChanges : Zone → Type 0
 HasFewChanges zone = (changes : List of_zone.Change) → of_zone.AreChanges zone changes → length changes ≤ MAX_TRANSITIONS

@@ -47,7 +47,7 @@ fn table_of(alloc: Global, t: &Timeline<'_>, f: &Footer) -> Result<Table, ZoneSt
     ensures err { IfRefusal kind_of result (IsFirstFault t.now) }
     ensures memory { OnOutOfMemory kind_of result (HasFewChanges t.now) }
 {
-    // `end` also tells that the zone is whole.
+    // `end` also states that the zone is whole.
     prove!(t.end() <= i64::MAX);
     let first = t.first();
     let is_long = t.len() > MAX_TRANSITIONS;

@@ -25,8 +25,8 @@ module _ (times : List ℤ) (t : ℤ) (count : ℕ) (gap : Instants) (rising : A
     | inr not ↦ let same : i ≡ j = omega (arith, before, not) in rw same (omega (arith, ints))
   ]
 
-  pub asked : Includes gap t
-  asked = record {
+  pub requested : Includes gap t
+  requested = record {
     from = elim first_is [
       | inl none ↦ omega (arith, ints, none.1)
       | inr some ↦ let come : get_or times some.0 (pos 0) ≤ℤ t = split.not_after some.0 (omega (arith, some.1)) (pos 0) in omega (arith, ints, some.2, come)

@@ -6,7 +6,7 @@ pub mod ReadAgree
 pub mod ReadChecks
 pub mod ReadDesignations
 pub mod ReadFiles
-pub mod ReadKept
+pub mod ReadContent
 pub mod ReadParts
 pub mod ReadPieces
 pub mod ReadTransitions

@@ -16,7 +16,7 @@ use Rattle.zic_tzif.specs.declared.data_block.DataBlock.{DataBlock}
 use Rattle.zic_tzif.specs.Block.{pieces, time_in, type_in, changes_at}
 use Rattle.zic_tzif.specs.code.Parts.{DoesAgree, times_of, records_of, checks_of}
 use Rattle.zic_tzif.proofs.Passed.{pieces_length}
-use Rattle.zic_tzif.proofs.ReadKept.{types_kept, place_inside}
+use Rattle.zic_tzif.proofs.ReadContent.{types_read, place_inside}
 use Rattle.zic_tzif.proofs.Transitions.{changes_length, changes_have_types}
 
 -- an element found by its number has what all have
@@ -27,12 +27,12 @@ found P xs k x all e = subst P (get_or_from_slice_get xs k x x e) (all k x (slic
 one_before : (x c : Change) (xs : List Change) → (earlier : List Change) × (xs ≡ earlier ++ c ∷ []) → (earlier : List Change) × (x ∷ xs ≡ earlier ++ c ∷ [])
 one_before x c xs others = (x ∷ others.0, ap (λ (zs : List Change). x ∷ zs) others.1)
 
-stands_last : (xs : List Change) (c : Change) → slice_get xs (length xs - 1) ≡ Some c → (earlier : List Change) × (xs ≡ earlier ++ c ∷ [])
-stands_last [] c e = absurd cc
-stands_last (x ∷ []) c e = let same : x ≡ c = cc in ([], ap (λ (y : Change). y ∷ []) same)
-stands_last (x ∷ y ∷ ys) c e =
+is_last_byte : (xs : List Change) (c : Change) → slice_get xs (length xs - 1) ≡ Some c → (earlier : List Change) × (xs ≡ earlier ++ c ∷ [])
+is_last_byte [] c e = absurd cc
+is_last_byte (x ∷ []) c e = let same : x ≡ c = cc in ([], ap (λ (y : Change). y ∷ []) same)
+is_last_byte (x ∷ y ∷ ys) c e =
     let shift : length (x ∷ y ∷ ys) - 1 ≡ suc (length (y ∷ ys) - 1) = omega arith in
-    one_before x c (y ∷ ys) (stands_last (y ∷ ys) c (sym (ap (slice_get (x ∷ y ∷ ys)) shift) ∙ e))
+    one_before x c (y ∷ ys) (is_last_byte (y ∷ ys) c (sym (ap (slice_get (x ∷ y ∷ ys)) shift) ∙ e))
 
 has_last : (earlier : List Change) (c : Change) → slice_get (earlier ++ c ∷ []) (length (earlier ++ c ∷ []) - 1) ≡ Some c
 has_last [] c = refl
@@ -52,7 +52,7 @@ agrees_by content f c t state same last type means law decides =
     subst (λ (e : Change). Means f e.instant other) (sym is) (subst (λ (s : Shown). Means f c.instant s) (one ∙ sym shows) means) in
     let shows : DoesAgree content f → state ≡ type_state content.names t = λ agree.
     let is : IsSomeAnd (slice_get content.types c.number) (λ u. type_state content.names t ≡ type_state content.names u) = rw type refl in
-    law.only f c.instant state (type_state content.names t) means (agree c (type_state content.names t) (stands_last content.changes c last) is) in
+    law.only f c.instant state (type_state content.names t) means (agree c (type_state content.names t) (is_last_byte content.changes c last) is) in
     (λ yes. agrees (decides.0 yes), λ agree. decides.1 (shows agree))
 
 -- with no transition it agrees
@@ -80,6 +80,6 @@ number_below b k c passes is =
 pub place_below : (b : DataBlock) (k : ℕ) (t : LocalType) → first_failed (checks_of b) ≡ None → slice_get (map type_in (records_of b)) k ≡ Some t → t.place ≤ length b.names.now
 place_below b k t passes is =
     let each = each_passes (checks_of b) passes in
-    let right = found (IsLocalType b.names.now) (map type_in (records_of b)) k t (types_kept b.names.now (records_of b) each.1.1.0 each.1.1.1.0) is in
+    let right = found (IsLocalType b.names.now) (map type_in (records_of b)) k t (types_read b.names.now (records_of b) each.1.1.0 each.1.1.1.0) is in
     let inside = place_inside b.names.now t.place right.designation in
     omega arith

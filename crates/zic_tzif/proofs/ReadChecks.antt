@@ -11,7 +11,7 @@ use Rattle.zic_tzif.specs.declared.reason.Reason.{Reason}
 use Rattle.zic_tzif.specs.declared.reason.Reason.TheVariants as reason
 use Rattle.zic_base.specs.declared.limit.TheConstants.{LONGEST_FILE}
 use Rattle.zic_tzif.specs.Header.{Counts, counts_at, block_length, second_header, second_block, second_counts, footer_place}
-use Rattle.zic_tzif.specs.Block.{behind_newline}
+use Rattle.zic_tzif.specs.Block.{after_newline}
 use Rattle.zic_tzif.specs.Reading.{are_counts, first_checks, second_checks, footer_checks}
 
 -- whether two headers begin alike, by the answer of `!=`
@@ -85,9 +85,9 @@ pub footer_outcome : (o : List ℕ) (place : ℕ) (there newline closed : Bool) 
 footer_outcome o place there newline closed p-is e1 e2 e3 =
     let f1 : nat_lt (footer_place o) (length o) ≡ there = ap (λ n. nat_lt n (length o)) (sym p-is) ∙ e1 in
     let f2 : (slice_index o (footer_place o) == 10) ≡ newline = ap (λ n. slice_index o n == 10) (sym p-is) ∙ e2 in
-    let f3 : list_any (λ b. b == 10) (behind_newline o) ≡ closed = ap (λ n. list_any (λ b. b == 10) (drop (n + 1) o)) (sym p-is) ∙ e3 in
-    ap (λ a. of_footer a (slice_index o (footer_place o) == 10) (list_any (λ b. b == 10) (behind_newline o))) f1
-    ∙ ap (λ b. of_footer there b (list_any (λ b. b == 10) (behind_newline o))) f2 ∙ ap (of_footer there newline) f3
+    let f3 : list_any (λ b. b == 10) (after_newline o) ≡ closed = ap (λ n. list_any (λ b. b == 10) (drop (n + 1) o)) (sym p-is) ∙ e3 in
+    ap (λ a. of_footer a (slice_index o (footer_place o) == 10) (list_any (λ b. b == 10) (after_newline o))) f1
+    ∙ ap (λ b. of_footer there b (list_any (λ b. b == 10) (after_newline o))) f2 ∙ ap (of_footer there newline) f3
 
 one_on : (n len : ℕ) → nat_lt n len ≡ nat_lt (1 + n) (suc len)
 one_on n len = grind (arith, nat_tests)

@@ -31,9 +31,9 @@ begins_by x xs false e =
     let any : list_any is_nul (x ∷ xs) ≡ list_any is_nul xs = rw e refl in
     ap₂ (λ (a : Bool) (ys : List ℕ). a && list_all is_printable ys) any front ∙ swap (list_any is_nul xs) (list_all is_printable (before_first is_nul xs)) (is_printable x)
 
--- behind the last byte none begins
-pub none_behind : (names : List ℕ) (place : ℕ) → length names ≤ place → is_designated names place ≡ false
-none_behind names place le = rw le-ltb refl
+-- after the last byte none begins
+pub nothing_after : (names : List ℕ) (place : ℕ) → length names ≤ place → is_designated names place ≡ false
+nothing_after names place le = rw le-ltb refl
 
 at_drop : (names : List ℕ) (place : ℕ) (inside : Bool) → nat_lt place (length names) ≡ inside → is_designated names place ≡ begins (drop place names)
 at_drop names place true e = rw e refl
@@ -50,15 +50,15 @@ begins_here names place lt =
     at_drop names place (nat_lt place (length names)) refl ∙ ap begins rest ∙ begins_by x (drop (place + 1) names) (is_nul x) refl
     ∙ ap (λ (b : Bool). is_nul x || (b && is_printable x)) (sym (at_drop names (place + 1) (nat_lt (place + 1) (length names)) refl))
 
-here_or_behind : (p k : ℕ) (t : Bool) → nat_lt p k ≡ t → p ≤ k → (k ≡ p) ⊎ (p + 1 ≤ k)
-here_or_behind p k true e le = inr (omega (arith, ltb-true p k e))
-here_or_behind p k false e le = inl (omega (arith, ltb-false p k e))
+here_or_after : (p k : ℕ) (t : Bool) → nat_lt p k ≡ t → p ≤ k → (k ≡ p) ⊎ (p + 1 ≤ k)
+here_or_after p k true e le = inr (omega (arith, ltb-true p k e))
+here_or_after p k false e le = inl (omega (arith, ltb-false p k e))
 
--- a table of places that is right behind a place, with this place put in
+-- a table of places that is right after a place, with this place put in
 pub known_more : (names : List ℕ) (places : List Bool) (p : ℕ) (b : Bool) → length places ≡ 256 → p < 256 → b ≡ is_designated names p → ((k : ℕ) → p + 1 ≤ k → k < 256 → get_or places k false ≡ is_designated names k)
     → (k : ℕ) → p ≤ k → k < 256 → get_or (set places p b) k false ≡ is_designated names k
 known_more names places p b size within is known k le lt =
-    elim (here_or_behind p k (nat_lt p k) refl le) [
+    elim (here_or_after p k (nat_lt p k) refl le) [
       | inl here ↦ (let inside : p < length places = omega arith in ap (λ j. get_or (set places p b) j false) here ∙ get_or-set_same places p b false inside ∙ is ∙ ap (is_designated names) (sym here))
-      | inr behind ↦ (let other : k ≢ p = omega arith in get_or-set_other places p k b false other ∙ known k behind lt)
+      | inr following ↦ (let other : k ≢ p = omega arith in get_or-set_other places p k b false other ∙ known k following lt)
     ]

@@ -20,10 +20,10 @@ use Rattle.zic_tzif.specs.declared.reason.Reason.TheVariants as reason
 use Rattle.zic_tzif.specs.Header.{second_counts, footer_place}
 use Rattle.zic_tzif.specs.Block.{type_in, times_in, do_rise, numbers_in, changes_at, type_records, names_in, is_type_record, footer_text}
 use Rattle.zic_tzif.specs.Reading.{first_checks, second_checks, block_checks, footer_checks, checks, content_in, HasFooter, EndsAfterFooter, IsFile, IsSomeFile, IsFault, ReadNeedsMemory, reason_of}
-use Rattle.zic_tzif.specs.code.Kept.{IsKept}
+use Rattle.zic_tzif.specs.code.StoredContent.{IsSoundContent}
 use Rattle.zic_tzif.specs.code.Parts.{HasParts, AreParts, times_of, records_of, checks_of, content_of}
 use Rattle.zic_tzif.proofs.Passed.{pieces_length}
-use Rattle.zic_tzif.proofs.ReadKept.{types_kept}
+use Rattle.zic_tzif.proofs.ReadContent.{types_read}
 use Rattle.zic_tzif.proofs.Transitions.{changes_rise, changes_have_types}
 
 -- no check of the groups up to each fails
@@ -67,7 +67,7 @@ pub fails_footer : (o : List ℕ) (r : Reason) → first_failed (first_checks o)
 fails_footer o r e1 e2 e3 e =
     first_failed-append (first_checks o ++ second_checks o ++ block_checks o) (footer_checks o) (three_pass o e1 e2 e3) ∙ e
 
--- behind those checks
+-- after those checks
 fails_later : (o : List ℕ) (r : Reason) → first_failed (checks o) ≡ None
     → ((r ≡ reason.Footer) × (HasFooter (content_in o) → ⊥)) ⊎ ((r ≡ reason.TrailingBytes) × HasFooter (content_in o) × (EndsAfterFooter o → ⊥)) → IsFault o r
 fails_later o r e why = at_none (first_failed (checks o)) _ _ e why
@@ -144,8 +144,8 @@ is_file o p footer passes parts is whole = record {
 }
 
 -- what is kept of it
-pub kept : (o : List ℕ) (p : Parts) (footer : Option TzString) → AreParts o p → IsReadFooter (content_of p) footer → IsKept (content_of p) footer
-kept o p footer parts is =
+pub sound_content : (o : List ℕ) (p : Parts) (footer : Option TzString) → AreParts o p → IsReadFooter (content_of p) footer → IsSoundContent (content_of p) footer
+sound_content o p footer parts is =
     let b = p.block in
     let each = each_passes (checks_of b) parts.passes in
     let number : length (map type_in (records_of b)) ≡ b.types = length-map (records_of b) type_in ∙ pieces_length 6 b.types b.records.now in
@@ -153,7 +153,7 @@ kept o p footer parts is =
       rising = changes_rise (times_of b) b.numbers.now each.0;
       have_types = subst (λ n. All (λ (c : Change). c.number < n) (content_of p).changes) (sym number) (changes_have_types b.types (times_of b) b.numbers.now each.1.0);
       some_type = subst (λ n. 1 ≤ n) (sym number) parts.block.1;
-      types = types_kept b.names.now (records_of b) each.1.1.0 each.1.1.1.0;
+      types = types_read b.names.now (records_of b) each.1.1.0 each.1.1.1.0;
       footer_is = is;
     }
 

@@ -5,28 +5,28 @@ use Rattle.zic_tzif.specs.Header.{Counts, second_block, second_counts, numbers_p
 use Rattle.zic_tzif.specs.Block.{pieces, time_in, times_in, numbers_in, type_records, names_in, indicators_in}
 use Rattle.zic_tzif.proofs.ReadPieces.{pieces-take}
 
--- what is left from the times on, behind the times, behind the numbers of types, behind the records, and behind the designations
+-- what is left from the times on, after the times, after the numbers of types, after the records, and after the designations
 pub at_times : (o : List ℕ) (place : ℕ) (rest : List ℕ) → place ≡ second_block o → rest ≡ drop place o → rest ≡ drop (second_block o) o
 at_times o place rest p-is e = e ∙ ap (λ n. drop n o) p-is
 
-pub at_numbers : (o : List ℕ) (c : Counts) (rest behind : List ℕ) → c ≡ second_counts o → rest ≡ drop (second_block o) o → behind ≡ drop (c.transitions * 8) rest → behind ≡ drop (numbers_place o) o
-at_numbers o c rest behind c-is r-is e =
+pub at_numbers : (o : List ℕ) (c : Counts) (rest following : List ℕ) → c ≡ second_counts o → rest ≡ drop (second_block o) o → following ≡ drop (c.transitions * 8) rest → following ≡ drop (numbers_place o) o
+at_numbers o c rest following c-is r-is e =
     e ∙ ap (λ (d : Counts). drop (d.transitions * 8) rest) c-is ∙ ap (drop ((second_counts o).transitions * 8)) r-is
     ∙ drop-drop ((second_counts o).transitions * 8) (second_block o) o
 
-pub at_types : (o : List ℕ) (c : Counts) (rest behind : List ℕ) → c ≡ second_counts o → rest ≡ drop (numbers_place o) o → behind ≡ drop c.transitions rest → behind ≡ drop (types_place o) o
-at_types o c rest behind c-is r-is e =
+pub at_types : (o : List ℕ) (c : Counts) (rest following : List ℕ) → c ≡ second_counts o → rest ≡ drop (numbers_place o) o → following ≡ drop c.transitions rest → following ≡ drop (types_place o) o
+at_types o c rest following c-is r-is e =
     let place : numbers_place o + (second_counts o).transitions ≡ types_place o = omega arith in
     e ∙ ap (λ (d : Counts). drop d.transitions rest) c-is ∙ ap (drop (second_counts o).transitions) r-is
     ∙ drop-drop (second_counts o).transitions (numbers_place o) o ∙ ap (λ n. drop n o) place
 
-pub at_names : (o : List ℕ) (c : Counts) (rest behind : List ℕ) → c ≡ second_counts o → rest ≡ drop (types_place o) o → behind ≡ drop (c.types * 6) rest → behind ≡ drop (names_place o) o
-at_names o c rest behind c-is r-is e =
+pub at_names : (o : List ℕ) (c : Counts) (rest following : List ℕ) → c ≡ second_counts o → rest ≡ drop (types_place o) o → following ≡ drop (c.types * 6) rest → following ≡ drop (names_place o) o
+at_names o c rest following c-is r-is e =
     e ∙ ap (λ (d : Counts). drop (d.types * 6) rest) c-is ∙ ap (drop ((second_counts o).types * 6)) r-is
     ∙ drop-drop ((second_counts o).types * 6) (types_place o) o
 
-pub at_indicators : (o : List ℕ) (c : Counts) (rest behind : List ℕ) → c ≡ second_counts o → rest ≡ drop (names_place o) o → behind ≡ drop c.characters rest → behind ≡ drop (indicators_place o) o
-at_indicators o c rest behind c-is r-is e =
+pub at_indicators : (o : List ℕ) (c : Counts) (rest following : List ℕ) → c ≡ second_counts o → rest ≡ drop (names_place o) o → following ≡ drop c.characters rest → following ≡ drop (indicators_place o) o
+at_indicators o c rest following c-is r-is e =
     e ∙ ap (λ (d : Counts). drop d.characters rest) c-is ∙ ap (drop (second_counts o).characters) r-is
     ∙ drop-drop (second_counts o).characters (names_place o) o
 

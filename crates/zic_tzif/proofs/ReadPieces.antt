@@ -4,7 +4,7 @@ use Rattle.std.specs.List.{list_all}
 use Rattle.std.proofs.lemmas.List.{length-drop, drop-drop, drop-take, take-take}
 use Rattle.zic_tzif.specs.Block.{pieces}
 
--- one piece more is left than behind it
+-- one piece more is left than after it
 one_more : (count i : ℕ) → i < count → count - i ≡ suc (count - (i + 1))
 one_more count i lt = omega arith
 
@@ -18,7 +18,7 @@ octets_more w count i lt = ap (λ n. n * w) (one_more count i lt) ∙ width_more
 pub enough_left : (w count i : ℕ) (xs : List ℕ) → i < count → (count - i) * w ≤ length xs → (count - (i + 1)) * w ≤ length (drop w xs)
 enough_left w count i xs lt enough = let e = length-drop w xs in let more = octets_more w count i lt in omega arith
 
--- the pieces that are left are this one and those behind it
+-- the pieces that are left are this one and those after it
 pub pieces_left : (w count i : ℕ) (xs : List ℕ) → i < count → pieces w (count - i) xs ≡ take w xs ∷ pieces w (count - (i + 1)) (drop w xs)
 pieces_left w count i xs lt = ap (λ n. pieces w n xs) (one_more count i lt)
 
@@ -43,7 +43,7 @@ module _ {A : Type 0} (f : List ℕ → A) where
       let one : made ++ map f (pieces w (count - i) xs) ≡ made ++ (f (take w xs) ∷ map f (pieces w (count - (i + 1)) (drop w xs))) = ap (λ ps. made ++ map f ps) (pieces_left w count i xs lt) in
       append_assoc made (f (take w xs) ∷ []) (map f (pieces w (count - (i + 1)) (drop w xs))) ∙ sym one ∙ so_far
 
--- bytes behind the pieces don't matter
+-- bytes after the pieces don't matter
 pub pieces-take : (w n : ℕ) (xs : List ℕ) → pieces w n (take (n * w) xs) ≡ pieces w n xs
 pieces-take w zero xs = refl
 pieces-take w (suc n) xs =

@@ -17,27 +17,27 @@ comes_no_later : (a b : ℤ) (t : Bool) → int_lt a b ≡ t → int_le b a ≡ 
 comes_no_later a b true e h = absurd (omega (arith, ints, lt-true a b e, le-true b a h))
 comes_no_later a b false e h = refl
 
--- the times behind a time, so many from the i-th on
-abbrev behind : ℤ → ℕ → ℕ → List ℕ → List ℤ
-behind last count i xs = last ∷ map time_in (pieces 8 (count - i) xs)
+-- the times after a time, so many from the i-th on
+abbrev following : ℤ → ℕ → ℕ → List ℕ → List ℤ
+following last count i xs = last ∷ map time_in (pieces 8 (count - i) xs)
 
 pub rise_first : (count : ℕ) (xs : List ℕ) (last : ℤ) → 0 < count → last ≡ time_in (take 8 xs) → do_rise (last ∷ map time_in (pieces 8 (count - 1) (drop 8 xs))) ≡ do_rise (map time_in (pieces 8 count xs))
 rise_first count xs last some is =
     ap (λ (z : ℤ). do_rise (z ∷ map time_in (pieces 8 (count - 1) (drop 8 xs)))) is ∙ ap (λ (ps : List (List ℕ)). do_rise (map time_in ps)) (sym (first_piece 8 count xs some))
 
-rise_step : (count i : ℕ) (xs : List ℕ) (last time : ℤ) → i < count → time ≡ time_in (take 8 xs) → do_rise (behind last count i xs) ≡ (int_lt last time && do_rise (behind time count (i + 1) (drop 8 xs)))
+rise_step : (count i : ℕ) (xs : List ℕ) (last time : ℤ) → i < count → time ≡ time_in (take 8 xs) → do_rise (following last count i xs) ≡ (int_lt last time && do_rise (following time count (i + 1) (drop 8 xs)))
 rise_step count i xs last time lt is =
     ap (λ (ps : List (List ℕ)). do_rise (last ∷ map time_in ps)) (pieces_left 8 count i xs lt)
     ∙ ap (λ (z : ℤ). int_lt last z && do_rise (z ∷ map time_in (pieces 8 (count - (i + 1)) (drop 8 xs)))) (sym is)
 
 pub rise_more : (count i : ℕ) (xs : List ℕ) (last time : ℤ) (total : Bool) → i < count → time ≡ time_in (take 8 xs) → int_le time last ≡ false → do_rise (last ∷ map time_in (pieces 8 (count - i) xs)) ≡ total → do_rise (time ∷ map time_in (pieces 8 (count - (i + 1)) (drop 8 xs))) ≡ total
 rise_more count i xs last time total lt is later so_far =
-    let one : do_rise (behind last count i xs) ≡ do_rise (behind time count (i + 1) (drop 8 xs)) = rise_step count i xs last time lt is ∙ ap (λ b. b && do_rise (behind time count (i + 1) (drop 8 xs))) (comes_after last time (int_lt last time) refl later) in
+    let one : do_rise (following last count i xs) ≡ do_rise (following time count (i + 1) (drop 8 xs)) = rise_step count i xs last time lt is ∙ ap (λ b. b && do_rise (following time count (i + 1) (drop 8 xs))) (comes_after last time (int_lt last time) refl later) in
     sym one ∙ so_far
 
 pub rise_stops : (count i : ℕ) (xs : List ℕ) (last time : ℤ) (total : Bool) → i < count → time ≡ time_in (take 8 xs) → int_le time last ≡ true → do_rise (last ∷ map time_in (pieces 8 (count - i) xs)) ≡ total → false ≡ total
 rise_stops count i xs last time total lt is no_later so_far =
-    let one : do_rise (behind last count i xs) ≡ false = rise_step count i xs last time lt is ∙ ap (λ b. b && do_rise (behind time count (i + 1) (drop 8 xs))) (comes_no_later last time (int_lt last time) refl no_later) in
+    let one : do_rise (following last count i xs) ≡ false = rise_step count i xs last time lt is ∙ ap (λ b. b && do_rise (following time count (i + 1) (drop 8 xs))) (comes_no_later last time (int_lt last time) refl no_later) in
     sym one ∙ so_far
 
 -- the transition of so many bytes and this number

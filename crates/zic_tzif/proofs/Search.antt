@@ -132,13 +132,13 @@ module _ (content : Content) (t : ℤ) (n : ℕ) (point : IsFound content.change
 
 -- ---- the footer that is kept
 
-pub kept_footer : (content : Content) (footer : Option TzString) (f : TzString) → MatchOption footer (content.text ≡ []) (IsFooter content) → footer ≡ Some f → IsFooter content f
-kept_footer content None f is e = absurd cc
-kept_footer content (Some g) f is e = subst (IsFooter content) (same_Some g f e) is
+pub stored_footer : (content : Content) (footer : Option TzString) (f : TzString) → MatchOption footer (content.text ≡ []) (IsFooter content) → footer ≡ Some f → IsFooter content f
+stored_footer content None f is e = absurd cc
+stored_footer content (Some g) f is e = subst (IsFooter content) (same_Some g f e) is
 
-pub kept_none : (content : Content) (footer : Option TzString) → MatchOption footer (content.text ≡ []) (IsFooter content) → footer ≡ None → content.text ≡ []
-kept_none content None is e = is
-kept_none content (Some g) is e = absurd cc
+pub stored_none : (content : Content) (footer : Option TzString) → MatchOption footer (content.text ≡ []) (IsFooter content) → footer ≡ None → content.text ≡ []
+stored_none content None is e = is
+stored_none content (Some g) is e = absurd cc
 
 -- a number after some transitions is that of a type
 pub number_has_type : (content : Content) (count number : ℕ) → All (λ (c : Change). c.number < length content.types) content.changes → 1 ≤ length content.types

@@ -45,7 +45,7 @@ between_transitions times numbers instants same between = record {
 
 -- ---- between two transitions
 
--- so many transitions have come at t, which lies in the gap behind them
+-- so many transitions have come at t, which lies in the gap after them
 pub record IsPlaced (content : Content) (t : ℤ) (n : ℕ) (gap : Instants) : Type 0 where
   pub point : IsFound content.changes t n
   pub inside : n ≤ length content.changes
@@ -128,7 +128,7 @@ module _ (content : Content) (t : ℤ) (n : ℕ) (gap : Instants) (p : IsPlaced 
 
 -- ---- from the last transition on, with a footer
 
-module _ (content : Content) (t : ℤ) (n : ℕ) (gap : Instants) (p : IsPlaced content t n gap) (f : TzString) (span instants : Instants) (all : length content.changes ≤ n) (footer : IsFooter content f) (asked : Includes span t)
+module _ (content : Content) (t : ℤ) (n : ℕ) (gap : Instants) (p : IsPlaced content t n gap) (f : TzString) (span instants : Instants) (all : length content.changes ≤ n) (footer : IsFooter content f) (requested : Includes span t)
     (edges : AreBetween (HasEdgeAt f) span) (fits : FitsSigned w64 span.last)
     (first_is : instants.first ≡ int_max gap.first span.first) (last_is : instants.last ≡ span.last) where
   in_gap : (u : ℤ) → Includes instants u → Includes gap u
@@ -139,8 +139,8 @@ module _ (content : Content) (t : ℤ) (n : ℕ) (gap : Instants) (p : IsPlaced 
   in_span : (u : ℤ) → Includes instants u → Includes span u
   in_span u there = record { from = omega (arith, ints, clamps, first_is, there.from); to = omega (arith, ints, last_is, there.to) }
 
-  pub asked_of_both : Includes instants t
-  asked_of_both = record { from = omega (arith, ints, clamps, first_is, p.here.from, asked.from); to = omega (arith, ints, last_is, asked.to) }
+  pub requested_of_both : Includes instants t
+  requested_of_both = record { from = omega (arith, ints, clamps, first_is, p.here.from, requested.from); to = omega (arith, ints, last_is, requested.to) }
 
   pub footer_throughout : (state : Shown) → MeansThroughout f span state → AnswersThroughout content instants (Some state)
   footer_throughout state means = λ u there. gives_footer content u n (stays content t n gap p u (in_gap u there)) f state all footer (means u (in_span u there))
@@ -156,7 +156,7 @@ module _ (content : Content) (t : ℤ) (n : ℕ) (gap : Instants) (p : IsPlaced 
       let same : instants.first ≡ span.first = omega (arith, ints, clamps, first_is) in
       rw same (elim edges.first [
         | inl limit ↦ inl limit
-        | inr edge ↦ inr (counts span.first (record { from = omega (arith, ints); to = omega (arith, ints, asked.from, p.here.to) }) edge)
+        | inr edge ↦ inr (counts span.first (record { from = omega (arith, ints); to = omega (arith, ints, requested.from, p.here.to) }) edge)
       ]))
       (λ ge.
       let same : instants.first ≡ gap.first = omega (arith, ints, clamps, first_is) in
@@ -168,7 +168,7 @@ module _ (content : Content) (t : ℤ) (n : ℕ) (gap : Instants) (p : IsPlaced 
       rw last_is (by_lt_z span.last MAX_INSTANT
       (λ lt. elim edges.last [
         | inl limit ↦ inl limit
-        | inr edge ↦ inr (counts (span.last +ℤ pos 1) (record { from = omega (arith, ints, p.here.from, asked.to); to = omega (arith, ints, no_end) }) edge)
+        | inr edge ↦ inr (counts (span.last +ℤ pos 1) (record { from = omega (arith, ints, p.here.from, requested.to); to = omega (arith, ints, no_end) }) edge)
       ])
       (λ ge. inl (omega (arith, ints))))
 

@@ -31,11 +31,11 @@ module _ (times : List ℤ) (t : ℤ) (rising : AllPairs (λ a b. a <ℤ b) time
     | inr not ↦ let same : place ≡ k = omega (arith, before, not) in subst (λ (n : ℕ). get_or times n d ≤ℤ t) same (here d)
   ]
 
-  -- and behind one that is
+  -- and after one that is
   from : (place : ℕ) → ((d : ℤ) → t <ℤ get_or times place d) → (k : ℕ) → place ≤ k → k < length times → (d : ℤ) → t <ℤ get_or times k d
-  from place here k behind inside d = elim (cases_lt place k) [
+  from place here k following inside d = elim (cases_lt place k) [
     | inl less ↦ let higher : get_or times place d <ℤ get_or times k d = rising place k d less inside in let low : t <ℤ get_or times place d = here d in omega (arith, ints, higher, low)
-    | inr not ↦ let same : place ≡ k = omega (arith, behind, not) in subst (λ (n : ℕ). t <ℤ get_or times n d) same (here d)
+    | inr not ↦ let same : place ≡ k = omega (arith, following, not) in subst (λ (n : ℕ). t <ℤ get_or times n d) same (here d)
   ]
 
   -- where the time before a place has come, and the one at it hasn't, the times pass
@@ -47,11 +47,11 @@ module _ (times : List ℤ) (t : ℤ) (rising : AllPairs (λ a b. a <ℤ b) time
         let within : place - 1 < length times = omega (arith, below, inside) in
         let here = λ (e : ℤ). subst (λ (z : ℤ). z ≤ℤ t) (get_or_default times (place - 1) (pos 0) e within) (come (omega (arith, below))) in
         up_to (place - 1) within here k (omega (arith, below)) d;
-    after = λ k behind last d. elim to_come [
-      | inl end ↦ absurd (omega (arith, behind, last, end))
+    after = λ k following last d. elim to_come [
+      | inl end ↦ absurd (omega (arith, following, last, end))
       | inr after ↦
-          let there = λ (e : ℤ). subst (λ (z : ℤ). t <ℤ z) (get_or_default times place (pos 0) e (let h : place < length times = omega (arith, behind, last) in h)) after in
-          from place there k behind last d
+          let there = λ (e : ℤ). subst (λ (z : ℤ). t <ℤ z) (get_or_default times place (pos 0) e (let h : place < length times = omega (arith, following, last) in h)) after in
+          from place there k following last d
     ];
   }
 
@@ -64,7 +64,7 @@ module _ (times : List ℤ) (t : ℤ) (rising : AllPairs (λ a b. a <ℤ b) time
       record {
         inside = omega (arith, inside, twice);
         not_after = λ k below d. up_to place within here k (omega (arith, below, is)) d;
-        after = λ k behind last d. window.after k (omega (arith, behind, twice)) last d;
+        after = λ k following last d. window.after k (omega (arith, following, twice)) last d;
       }
 
   lower_half : (base level place : ℕ) → IsWindow times t base (level + 1) → place + 1 ≡ base + 2 ^ level → ((d : ℤ) → t <ℤ get_or times place d) → IsWindow times t base level
@@ -74,7 +74,7 @@ module _ (times : List ℤ) (t : ℤ) (rising : AllPairs (λ a b. a <ℤ b) time
       record {
         inside = omega (arith, inside, twice);
         not_after = window.not_after;
-        after = λ k behind last d. from place here k (omega (arith, behind, is)) last d;
+        after = λ k following last d. from place here k (omega (arith, following, is)) last d;
       }
 
   pub last_window : (levels place base : ℕ) (e : ℤ) → AreLevels levels (length times) → place + 1 ≡ 2 ^ levels → place < length times → int_le (get_or times place e) t ≡ true
@@ -85,7 +85,7 @@ module _ (times : List ℤ) (t : ℤ) (rising : AllPairs (λ a b. a <ℤ b) time
       record {
         inside = omega (arith, end);
         not_after = λ k below d. up_to place within here k (omega (arith, below, is, end, enough)) d;
-        after = λ k behind last d. absurd (omega (arith, behind, last, end));
+        after = λ k following last d. absurd (omega (arith, following, last, end));
       }
 
   pub front_window : (levels place : ℕ) (e : ℤ) → AreLevels levels (length times) → place + 1 ≡ 2 ^ levels → (place < length times → int_le (get_or times place e) t ≡ false) → IsWindow times t 0 levels
@@ -94,7 +94,7 @@ module _ (times : List ℤ) (t : ℤ) (rising : AllPairs (λ a b. a <ℤ b) time
       record {
         inside = omega (arith, within);
         not_after = λ k below. absurd (omega (arith, below));
-        after = λ k behind last d. from place (let inside : place < length times = omega (arith, behind, last, is) in fails_at times t place e inside (fails inside)) k (omega (arith, behind, is)) last d;
+        after = λ k following last d. from place (let inside : place < length times = omega (arith, following, last, is) in fails_at times t place e inside (fails inside)) k (omega (arith, following, is)) last d;
       }
 
   -- the half by the test at its last place
@@ -118,7 +118,7 @@ found times t base window =
     record {
       inside = omega (arith, inside);
       not_after = window.not_after;
-      after = λ k behind last d. window.after k (omega (arith, behind)) last d;
+      after = λ k following last d. window.after k (omega (arith, following)) last d;
     }
 
 -- ---- times that were read

@@ -16,13 +16,13 @@ use Rattle.zic_tzif.specs.Designation.{designation, is_designated}
 use Rattle.zic_tzif.specs.declared.reason.Reason.{Reason}
 use Rattle.zic_tzif.specs.declared.reason.Reason.TheVariants as reason
 use Rattle.zic_tzif.specs.Header.{Counts, counts_at, second_header, second_block, second_counts, footer_place}
-use Rattle.zic_tzif.specs.Block.{type_in, times_in, do_rise, numbers_in, changes_at, type_records, names_in, indicators_in, behind_newline, footer_text, is_type_record}
+use Rattle.zic_tzif.specs.Block.{type_in, times_in, do_rise, numbers_in, changes_at, type_records, names_in, indicators_in, after_newline, footer_text, is_type_record}
 use Rattle.zic_tzif.specs.Reading.{are_counts, checks, content_in, EndsAfterFooter, IsFile}
 use Rattle.zic_tzif.specs.Writing.{type_octets, written, WrittenIsFile}
 use Rattle.zic_tzif.proofs.Transitions.{do_rise_again, numbers_again, changes_again}
 use Rattle.zic_tzif.proofs.WriteText.{IsOneLine, one_line}
 use Rattle.zic_tzif.proofs.WriteBlock.{offset_again, type_again}
-use Rattle.zic_tzif.proofs.WriteParts.{IsLaid, is_laid, second_counts_are, number_of_types, footer_at, times_are, numbers_are, type_records_are, names_are, no_indicators, newline_stands, behind_newline_is}
+use Rattle.zic_tzif.proofs.WriteParts.{IsLaid, is_laid, second_counts_are, number_of_types, footer_at, times_are, numbers_are, type_records_are, names_are, no_indicators, newline_is_there, after_newline_is}
 
 -- ---- the footer's text
 
@@ -85,7 +85,7 @@ bytes_same : (bytes : List ℕ) → bytes_eq bytes bytes ≡ true
 bytes_same [] = refl
 bytes_same (b ∷ bs) = and_from (b == b) (bytes_eq bs bs) (eq-eqb b b refl) (bytes_same bs)
 
--- a check that passes leaves it to those behind it
+-- a check that passes leaves it to those after it
 on : {passes : Bool} (r : Reason) {rest : Option Reason} → passes ≡ true → rest ≡ None → (if passes then rest else Some r) ≡ None
 on {passes} r {rest} pass others = cond-true passes rest (Some r) pass ∙ others
 
@@ -160,10 +160,10 @@ module _ (octets : List ℕ) (content : Content) (laid : IsLaid octets content) 
   footer_there = ap (λ (n : ℕ). nat_lt n (length octets)) (footer_at octets content laid) ∙ lt-ltb (95 + length content.changes * 9 + length content.types * 6 + length content.names) (length octets) (omega (arith, laid.size))
 
   newline : (slice_index octets (footer_place octets) == 10) ≡ true
-  newline = ap (λ (b : ℕ). b == 10) (newline_stands octets content laid)
+  newline = ap (λ (b : ℕ). b == 10) (newline_is_there octets content laid)
 
-  ended : list_any (λ b. b == 10) (behind_newline octets) ≡ true
-  ended = ap (list_any (λ b. b == 10)) (behind_newline_is octets content laid) ∙ newline_found content.text
+  ended : list_any (λ b. b == 10) (after_newline octets) ≡ true
+  ended = ap (list_any (λ b. b == 10)) (after_newline_is octets content laid) ∙ newline_found content.text
 
   all_pass : first_failed (checks octets) ≡ None
   all_pass =
@@ -173,7 +173,7 @@ module _ (octets : List ℕ) (content : Content) (laid : IsLaid octets content) 
       (on reason.Short footer_there (on reason.Footer newline (on reason.Short ended refl)))))))))))))))))
 
   text_is : footer_text octets ≡ content.text
-  text_is = ap (before_first (λ b. b == 10)) (behind_newline_is octets content laid) ∙ up_to_newline content.text (one_line content.version content.text fits.footer.0 fits.footer.1.spells)
+  text_is = ap (before_first (λ b. b == 10)) (after_newline_is octets content laid) ∙ up_to_newline content.text (one_line content.version content.text fits.footer.0 fits.footer.1.spells)
 
   whole : EndsAfterFooter octets
   whole = omega (arith, laid.size, footer_at octets content laid, ap length text_is)

@@ -7,7 +7,7 @@ use Rattle.zic_tzif.specs.declared.content.Change.{Change}
 use Rattle.zic_tzif.specs.declared.limit.TheConstants.{MAX_TRANSITIONS, MAX_TYPES, MAX_CHARACTERS}
 use Rattle.zic_tzif.specs.Content.{Content}
 use Rattle.zic_tzif.specs.Header.{Counts, counts_at, second_header, second_block, second_counts, numbers_place, types_place, names_place, indicators_place, footer_place, block_length}
-use Rattle.zic_tzif.specs.Block.{time_in, pieces, times_in, numbers_in, type_records, names_in, indicators_in, behind_newline}
+use Rattle.zic_tzif.specs.Block.{time_in, pieces, times_in, numbers_in, type_records, names_in, indicators_in, after_newline}
 use Rattle.zic_tzif.specs.Writing.{time_octets, type_octets, written}
 use Rattle.zic_tzif.proofs.WriteBlock.{number_again, times_again, types_again, types_length, times_length}
 
@@ -35,18 +35,18 @@ length_written content =
 abbrev numbers_of : List Change → List ℕ
 numbers_of changes = map (λ c. c.number) changes
 
--- what stands behind the designations, the local time types, the numbers of types and the times
-abbrev behind_names : Content → List ℕ
-behind_names content = 10 ∷ (content.text ++ 10 ∷ [])
+-- what stands after the designations, the local time types, the numbers of types and the times
+abbrev after_names : Content → List ℕ
+after_names content = 10 ∷ (content.text ++ 10 ∷ [])
 
-abbrev behind_types : Content → List ℕ
-behind_types content = content.names ++ behind_names content
+abbrev after_types : Content → List ℕ
+after_types content = content.names ++ after_names content
 
-abbrev behind_numbers : Content → List ℕ
-behind_numbers content = flat_map type_octets content.types ++ behind_types content
+abbrev after_numbers : Content → List ℕ
+after_numbers content = flat_map type_octets content.types ++ after_types content
 
-abbrev behind_times : Content → List ℕ
-behind_times content = numbers_of content.changes ++ behind_numbers content
+abbrev after_times : Content → List ℕ
+after_times content = numbers_of content.changes ++ after_numbers content
 
 -- the second header's counts
 abbrev pub counts_of : Content → Counts
@@ -68,7 +68,7 @@ pub record IsLaid (octets : List ℕ) (content : Content) : Type 0 where
   pub second : second_header octets ≡ 51
   pub same_start : take 5 (drop 51 octets) ≡ take 5 octets
   pub counts : counts_at octets 51 ≡ counts_of content
-  pub block : drop 95 octets ≡ flat_map time_octets content.changes ++ behind_times content
+  pub block : drop 95 octets ≡ flat_map time_octets content.changes ++ after_times content
 
 counts_are : (content : Content) → length content.changes ≤ MAX_TRANSITIONS → length content.types ≤ MAX_TYPES → length content.names ≤ MAX_CHARACTERS → counts_at (written content) 51 ≡ counts_of content
 counts_are content few_changes few short =
@@ -89,10 +89,10 @@ is_laid content few_changes few short = record {
   second = refl;
   same_start = refl;
   counts = counts_are content few_changes few short;
-  block = four_parts (flat_map time_octets content.changes) (numbers_of content.changes) (flat_map type_octets content.types) content.names (behind_names content);
+  block = four_parts (flat_map time_octets content.changes) (numbers_of content.changes) (flat_map type_octets content.types) content.names (after_names content);
 }
 
--- what stands behind a part
+-- what stands after a part
 further : (octets front rest : List ℕ) (place size next : ℕ) → drop place octets ≡ front ++ rest → length front ≡ size → place + size ≡ next → drop next octets ≡ rest
 further octets front rest place size next from long is =
     ap (λ (n : ℕ). drop n octets) (sym is) ∙ sym (drop-drop size place octets) ∙ ap (drop size) from ∙ drop_at front rest size long
@@ -111,19 +111,19 @@ module _ (octets : List ℕ) (content : Content) (laid : IsLaid octets content) 
 
   -- ---- what stands from each place on
 
-  from_numbers : drop (95 + n * 8) octets ≡ behind_times content
-  from_numbers = further octets (flat_map time_octets content.changes) (behind_times content) 95 (n * 8) (95 + n * 8) laid.block (times_length content.changes) refl
+  from_numbers : drop (95 + n * 8) octets ≡ after_times content
+  from_numbers = further octets (flat_map time_octets content.changes) (after_times content) 95 (n * 8) (95 + n * 8) laid.block (times_length content.changes) refl
 
-  from_types : drop (95 + n * 9) octets ≡ behind_numbers content
+  from_types : drop (95 + n * 9) octets ≡ after_numbers content
   from_types =
-      further octets (numbers_of content.changes) (behind_numbers content) (95 + n * 8) n (95 + n * 9) from_numbers (length-map content.changes (λ (c : Change). c.number)) (omega arith)
+      further octets (numbers_of content.changes) (after_numbers content) (95 + n * 8) n (95 + n * 9) from_numbers (length-map content.changes (λ (c : Change). c.number)) (omega arith)
 
-  from_names : drop (95 + n * 9 + k * 6) octets ≡ behind_types content
-  from_names = further octets (flat_map type_octets content.types) (behind_types content) (95 + n * 9) (k * 6) (95 + n * 9 + k * 6) from_types (types_length content.types) refl
+  from_names : drop (95 + n * 9 + k * 6) octets ≡ after_types content
+  from_names = further octets (flat_map type_octets content.types) (after_types content) (95 + n * 9) (k * 6) (95 + n * 9 + k * 6) from_types (types_length content.types) refl
 
-  from_newline : drop (95 + n * 9 + k * 6 + length content.names) octets ≡ behind_names content
+  from_newline : drop (95 + n * 9 + k * 6 + length content.names) octets ≡ after_names content
   from_newline =
-      further octets content.names (behind_names content) (95 + n * 9 + k * 6) (length content.names) (95 + n * 9 + k * 6 + length content.names) from_names refl refl
+      further octets content.names (after_names content) (95 + n * 9 + k * 6) (length content.names) (95 + n * 9 + k * 6 + length content.names) from_names refl refl
 
   -- ---- the places
 
@@ -162,36 +162,36 @@ module _ (octets : List ℕ) (content : Content) (laid : IsLaid octets content) 
   times_are fit =
       ap₂ (λ (count place : ℕ). map time_in (pieces 8 count (drop place octets))) number_of_changes block_at
       ∙ ap (λ (rest : List ℕ). map time_in (pieces 8 n rest)) laid.block
-      ∙ times_again content.changes (behind_times content) fit
+      ∙ times_again content.changes (after_times content) fit
 
   pub numbers_are : numbers_in octets ≡ numbers_of content.changes
   numbers_are =
       ap (λ (count : ℕ). take count (drop (numbers_place octets) octets)) number_of_changes
-      ∙ piece_at octets (numbers_of content.changes) (behind_numbers content) (95 + n * 8) (numbers_place octets) n from_numbers
+      ∙ piece_at octets (numbers_of content.changes) (after_numbers content) (95 + n * 8) (numbers_place octets) n from_numbers
       (length-map content.changes (λ (c : Change). c.number)) numbers_at
 
   pub type_records_are : type_records octets ≡ map type_octets content.types
   type_records_are =
       ap₂ (λ (count place : ℕ). pieces 6 count (drop place octets)) number_of_types types_at
       ∙ ap (pieces 6 k) from_types
-      ∙ types_again content.types (behind_types content)
+      ∙ types_again content.types (after_types content)
 
   pub names_are : names_in octets ≡ content.names
   names_are =
       ap (λ (count : ℕ). take count (drop (names_place octets) octets)) number_of_characters
-      ∙ piece_at octets content.names (behind_names content) (95 + n * 9 + k * 6) (names_place octets) (length content.names) from_names refl names_at
+      ∙ piece_at octets content.names (after_names content) (95 + n * 9 + k * 6) (names_place octets) (length content.names) from_names refl names_at
 
   pub no_indicators : indicators_in octets ≡ []
   no_indicators = ap (λ (c : Counts). take (c.standard_indicators + c.ut_indicators) (drop (indicators_place octets) octets)) second_counts_are
 
-  from_footer : drop (footer_place octets) octets ≡ behind_names content
+  from_footer : drop (footer_place octets) octets ≡ after_names content
   from_footer = ap (λ (place : ℕ). drop place octets) footer_at ∙ from_newline
 
-  pub newline_stands : slice_index octets (footer_place octets) ≡ 10
-  newline_stands =
+  pub newline_is_there : slice_index octets (footer_place octets) ≡ 10
+  newline_is_there =
       let same : slice_index (drop (footer_place octets) octets) 0 ≡ slice_index octets (footer_place octets + 0) = get_or-drop (footer_place octets) octets 0 0 in
       let plain : footer_place octets + 0 ≡ footer_place octets = omega arith in
       ap (slice_index octets) (sym plain) ∙ sym same ∙ ap (λ (rest : List ℕ). slice_index rest 0) from_footer
 
-  pub behind_newline_is : behind_newline octets ≡ content.text ++ 10 ∷ []
-  behind_newline_is = sym (drop-drop 1 (footer_place octets) octets) ∙ ap (drop 1) from_footer
+  pub after_newline_is : after_newline octets ≡ content.text ++ 10 ∷ []
+  after_newline_is = sym (drop-drop 1 (footer_place octets) octets) ∙ ap (drop 1) from_footer

@@ -9,7 +9,9 @@ use Rattle.zic_posix.specs.declared.footer.Dst.{Dst}
 use Rattle.zic_posix.specs.declared.footer.Edge.{Edge}
 use Rattle.zic_posix.specs.declared.limit.TheConstants.{MAX_HOURS, MAX_WIDE_HOURS, MAX_MINUTES_OR_SECONDS, LAST_DAY}
 use Rattle.zic_posix.specs.Footer.{TzString}
-use Rattle.zic_posix.specs.Grammar.{is_letter, is_digit, SpellsName, SpellsNumber, SpellsPart, SpellsClock, SpellsSigned, SpellsOffset, SpellsTime, SpellsDay, SpellsEdge, SpellsDaylight, Spells}
+use Rattle.zic_posix.proofs.NumberLemmas.{number_has}
+use Rattle.std.specs.Char.{is_ascii_digit}
+use Rattle.zic_posix.specs.Grammar.{is_letter, SpellsName, SpellsNumber, SpellsPart, SpellsClock, SpellsSigned, SpellsOffset, SpellsTime, SpellsDay, SpellsEdge, SpellsDaylight, Spells}
 
 -- no byte of a text is a newline
 abbrev pub IsOneLine : List ℕ → Type 0
@@ -29,7 +31,7 @@ joined front back p q = All-append (λ n. n ≢ 10) front back p q
 letter_fails : is_letter 10 ≡ true → ⊥
 letter_fails e = cc
 
-digit_fails : is_digit 10 ≡ true → ⊥
+digit_fails : is_ascii_digit 10 ≡ true → ⊥
 digit_fails e = cc
 
 abbreviation_fails : is_abbreviation_byte 10 ≡ true → ⊥
@@ -55,7 +57,7 @@ one_line_name text name spelled =
     ]
 
 one_line_number : (longest least most : ℕ) (text : List ℕ) (n : ℕ) → SpellsNumber longest least most text n → IsOneLine text
-one_line_number longest least most text n spelled = not_newline is_digit digit_fails text spelled.digits
+one_line_number longest least most text n spelled = not_newline is_ascii_digit digit_fails text (number_has longest text n spelled.value).digits
 
 -- two texts round a mark
 round_mark : (mark : ℕ) → (mark ≢ 10) → (front back : List ℕ) → IsOneLine front → IsOneLine back → IsOneLine (front ++ mark ∷ back)

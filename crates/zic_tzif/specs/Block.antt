@@ -55,11 +55,11 @@ abbrev pub indicators_in : List ℕ → List ℕ
 indicators_in octets = take ((second_counts octets).standard_indicators + (second_counts octets).ut_indicators) (drop (indicators_place octets) octets)
 
 -- the bytes after the footer's first newline, and its text, which ends at the next newline
-abbrev pub behind_newline : List ℕ → List ℕ
-behind_newline octets = drop (footer_place octets + 1) octets
+abbrev pub after_newline : List ℕ → List ℕ
+after_newline octets = drop (footer_place octets + 1) octets
 
 abbrev pub footer_text : List ℕ → List ℕ
-footer_text octets = before_first (λ b. b == 10) (behind_newline octets)
+footer_text octets = before_first (λ b. b == 10) (after_newline octets)
 
 -- a flag of 0 or 1, and an offset within 25:59:59 either way (own choice)
 abbrev pub is_type_record : List ℕ → Bool

@@ -14,7 +14,7 @@ use Rattle.zic_tzif.specs.declared.reason.ReadStop.TheVariants as stop
 use Rattle.zic_tzif.specs.declared.reason.Reason.{Reason}
 use Rattle.zic_tzif.specs.declared.reason.Reason.TheVariants as reason
 use Rattle.zic_tzif.specs.Header.{Counts, counts_at, second_header, second_block, second_counts, footer_place}
-use Rattle.zic_tzif.specs.Block.{type_in, times_in, do_rise, numbers_in, changes_at, type_records, names_in, indicators_in, behind_newline, footer_text, is_type_record}
+use Rattle.zic_tzif.specs.Block.{type_in, times_in, do_rise, numbers_in, changes_at, type_records, names_in, indicators_in, after_newline, footer_text, is_type_record}
 
 -- the checks of the size and of the first header, and that its data block, which isn't looked at, and a second header are there
 abbrev pub first_checks : List ℕ → List (Check Reason)
@@ -57,7 +57,7 @@ abbrev pub footer_checks : List ℕ → List (Check Reason)
 footer_checks octets =
     check (nat_lt (footer_place octets) (length octets)) reason.Short
     ∷ check (slice_index octets (footer_place octets) == 10) reason.Footer
-    ∷ check (list_any (λ b. b == 10) (behind_newline octets)) reason.Short
+    ∷ check (list_any (λ b. b == 10) (after_newline octets)) reason.Short
     ∷ []
 
 -- the checks up to the second newline, in order
@@ -107,7 +107,7 @@ ReadNeedsMemory octets =
     IsSomeFile octets
     ⊎ ((first_failed (checks octets) ≡ None) × NeedsMemory (content_in octets).version (footer_text octets))
 
--- the reason that a reader tells, and nothing where it is out of memory
+-- the reason of a reader, and none where it is out of memory
 abbrev pub reason_of : ReadStop → Option Reason
 reason_of (stop.Bad reason) = Some reason
 reason_of stop.Memory = None

@@ -1,6 +1,6 @@
 -- Definitions for the code of this crate and for proofs. No contract of an exported function cites them.
 pub mod After
-pub mod Kept
+pub mod StoredContent
 pub mod Parts
 pub mod Stored
 pub mod Window

@@ -19,7 +19,7 @@ impl Times {
     pub fn gap_at(&self, t: i64) -> Gap
         requires { AllPairs (λ a b. a <ℤ b) self.now.times.items }
         ensures count { IsSplit self.now.times.items t result.count }
-        ensures asked { Includes result.instants t }
+        ensures requested { Includes result.instants t }
         ensures between { AreBetween (Contains self.now.times.items) result.instants }
     {
         let times = self.times.as_slice();

@@ -8,7 +8,7 @@ use std::alloc::{AllocError, Global};
 const MAX_SLOT_BITS: u32 = 10;
 
 /// How many times come before each slot, where a slot is one of up to 1,024 equal parts of the time
-/// from the first of them to the last. They only tell a search where to begin: what it finds there
+/// from the first of them to the last. They only say where a search begins: what it finds there
 /// is compared with the times.
 #[derive(Debug, Drop)]
 pub struct Hints {

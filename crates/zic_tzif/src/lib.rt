@@ -1,5 +1,5 @@
 //! TZif files, as RFC 9636 has them: their content, from bytes, as bytes, and what they answer at
-//! an instant. The rows of `witness/rows` test it.
+//! an instant.
 #![tactic(auto)]
 
 mod content;

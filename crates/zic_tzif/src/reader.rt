@@ -10,7 +10,7 @@ ghost use Rattle.zic_posix.specs.Parsing.{NeedsMemory};
 ghost use Rattle.zic_tzif.specs.Content.{IsFooter, type_state};
 ghost use Rattle.zic_tzif.specs.Header.{second_header, footer_place};
 ghost use Rattle.zic_tzif.specs.Reading.{first_checks, second_checks, footer_checks, checks, HasFooter, IsFile, IsSomeFile, IsFault, ReadNeedsMemory, reason_of};
-ghost use Rattle.zic_tzif.specs.code.Kept.{IsKept};
+ghost use Rattle.zic_tzif.specs.code.StoredContent.{IsSoundContent};
 ghost use Rattle.zic_tzif.specs.code.Stored.{stored_content};
 ghost use Rattle.zic_tzif.specs.code.Parts.{Checks, IsFirstPart, IsBlock, IsText, AreParts, DoesAgree, checks_of, content_of};
 
@@ -32,7 +32,7 @@ use zic_posix::{Footer, ParseStop, parse, spells_at_most_one};
 /// The bytes with which a header begins.
 const MAGIC: &[u8] = b"TZif";
 
-/// The version of a file, and the place of its second header, as the first header tells them.
+/// The version of a file, and the place of its second header, as the first header gives them.
 #[derive(Clone, Copy)]
 pub struct FirstPart {
     /// The version, 2 or 3.
@@ -205,7 +205,7 @@ fn footer_of(alloc: Global, parts: &Parts<'_>) -> Result<Option<Footer>, ReadSto
 
 /// Copies a zone out of these parts, with the footer of their text.
 fn zone_of(alloc: Global, parts: &Parts<'_>, footer: Option<Footer>) -> Result<Zone, AllocError>
-    requires { IsKept (content_of parts.now) footer }
+    requires { IsSoundContent (content_of parts.now) footer }
     ensures { IfOk result (λ zone. zone ≡ content_of parts.now) }
 {
     let stored = stored_of(alloc, parts)?;
@@ -231,7 +231,7 @@ fn stored_of(alloc: Global, parts: &Parts<'_>) -> Result<Stored, AllocError>
 ///
 /// The content of the first data block and the reserved bytes aren't looked at. Returns `Memory`
 /// only for bytes that are a file, or whose footer's text has a name of more than 16 bytes, once
-/// all before it passes. The memory that is asked for lies within what the bytes hold.
+/// all before it passes. The memory that is requested lies within what the bytes hold.
 pub fn read(alloc: Global, octets: &[u8]) -> Result<Zone, ReadStop>
     ensures ok { IfOk result (IsFile octets.now) }
     ensures only { IsSomeFile octets.now → NeverRefuses reason_of result }

@@ -2,7 +2,7 @@
 
 ghost use Rattle.std.specs.Prelude.{◌≡◌, ◌<◌, ◌≤◌, length, map, All, IfOk};
 ghost use Rattle.zic_tzif.specs.Content.{IsLocalType};
-ghost use Rattle.zic_tzif.specs.code.Kept.{name_length};
+ghost use Rattle.zic_tzif.specs.code.StoredContent.{name_length};
 
 use crate::content::LocalType;
 use crate::designation::designation;
@@ -41,7 +41,7 @@ impl Model for Zone {
     ghost Value = { Content };
 
     ghost use Rattle.zic_tzif.specs.Block.{changes_at};
-    ghost use Rattle.zic_tzif.specs.code.Kept.{IsStored};
+    ghost use Rattle.zic_tzif.specs.code.StoredContent.{IsStored};
 
     ghost view = { λ z. record {
       version = z.version;
@@ -73,7 +73,7 @@ impl Zone {
     ghost use Rattle.zic_base.specs.State.{shown};
     ghost use Rattle.zic_tzif.specs.Answer.{Answers, answered};
     ghost use Rattle.zic_tzif.specs.code.After.{IsNumberAfter, IsStateAfter};
-    ghost use Rattle.zic_tzif.specs.code.Kept.{IsKept};
+    ghost use Rattle.zic_tzif.specs.code.StoredContent.{IsSoundContent};
     ghost use Rattle.zic_tzif.specs.code.Stored.{stored_content};
 
     /// Returns the zone of these parts, with the footer of their text.
@@ -83,7 +83,7 @@ impl Zone {
         footer: Option<Footer>,
     ) -> Result<Zone, AllocError>
         requires as_many { length stored.times.times.items ≡ length stored.numbers.items }
-        requires kept { IsKept (stored_content stored) footer }
+        requires sound_content { IsSoundContent (stored_content stored) footer }
         ensures { IfOk result (λ zone. zone ≡ stored_content stored) }
     {
         let lengths = name_lengths(alloc, &stored.names, &stored.types)?;

@@ -88,14 +88,14 @@ abbrev Below : ℕ → List (ℕ × List ℕ) → Type 0
 Below m [] = Unit {0}
 Below m (word ∷ words) = (word.0 < m) × Below m words
 
-kept : (m : ℕ) (b : Bool) (word : ℕ × List ℕ) (words : List (ℕ × List ℕ)) → word.0 < m → Below m words → Below m (cond b (word ∷ words) words)
-kept m true word words lt all = (lt, all)
-kept m false word words lt all = all
+unchanged : (m : ℕ) (b : Bool) (word : ℕ × List ℕ) (words : List (ℕ × List ℕ)) → word.0 < m → Below m words → Below m (cond b (word ∷ words) words)
+unchanged m true word words lt all = (lt, all)
+unchanged m false word words lt all = all
 
 all_within : (p : ℕ × List ℕ → Bool) (n m : ℕ) (words : List (List ℕ)) → n + length words ≤ m → Below m (filter p (enumerate_from n words))
 all_within p n m [] le = tt
 all_within p n m (word ∷ words) le =
-    kept m (p (n, word)) (n, word) (filter p (enumerate_from (n + 1) words)) (omega (arith, le)) (all_within p (n + 1) m words (omega (arith, le)))
+    unchanged m (p (n, word)) (n, word) (filter p (enumerate_from (n + 1) words)) (omega (arith, le)) (all_within p (n + 1) m words (omega (arith, le)))
 
 one_within : (m : ℕ) (words : List (ℕ × List ℕ)) → Below m words → IfSome (option_map (λ w. w.0) (only_one words)) (λ place. place < m)
 one_within m [] all = tt

@@ -23,7 +23,7 @@ use Rattle.zic_words.specs.Saving.{saving_of, saving_by, daylight_suffix}
 use Rattle.zic_words.specs.Year.{year_of, last_year_of, is_only, is_maximum, IsYear}
 use Rattle.zic_words.specs.Month.{month_of, month_words, IsMonth}
 use Rattle.zic_words.specs.Word.{only_word}
-use Rattle.zic_words.specs.DayForm.{day_form_of, day_within, last_weekday, weekday_of, weekday_words, weekday_and_day, behind, or_else, FitsEachYear}
+use Rattle.zic_words.specs.DayForm.{day_form_of, day_within, last_weekday, weekday_of, weekday_words, weekday_and_day, text_after, or_else, FitsEachYear}
 use Rattle.zic_words.proofs.OnlyWords.{place_within}
 
 -- ---- what holds of a value that may be missing
@@ -144,7 +144,7 @@ unfolding weekday_and_day
 weekday_and_day_within sign longest field =
     bound _ (split_at_most_once field sign) (λ parts. Unit {0}) (IsDayBy longest) (any (split_at_most_once field sign))
     (λ parts _. bound _ parts.1 (λ rest. Unit {0}) (IsDayBy longest) (any parts.1)
-    (λ rest _. bound _ (behind 61 rest) (λ text. Unit {0}) (IsDayBy longest) (any (behind 61 rest))
+    (λ rest _. bound _ (text_after 61 rest) (λ text. Unit {0}) (IsDayBy longest) (any (text_after 61 rest))
     (λ text _. bound _ (weekday_of parts.0) IsWeekday (IsDayBy longest) (weekday_within parts.0) (λ weekday is_weekday. day_by longest weekday text is_weekday))))
 
 common_shorter : (is_leap february : Bool) (days : ℕ) → cond february 28 days ≤ cond february (cond is_leap 29 28) days

@@ -1,9 +1,9 @@
 -- The nearest second to a time is one and the computed one.
-use Rattle.std.proofs.Common.{◌≡◌, ℕ, ◌+◌, ◌*◌, ◌^◌, ◌<◌, ◌≤◌, Bool, cond, nat_le, inl, inr, List, Option, Some, None, sym, ap, ◌∙◌, arith}
+use Rattle.std.proofs.Common.{◌≡◌, ℕ, ◌+◌, ◌*◌, ◌/◌, ◌%◌, ◌^◌, ◌<◌, ◌≤◌, Bool, cond, nat_le, inl, inr, List, Option, Some, None, sym, ap, ◌∙◌, arith}
 use Rattle.std.specs.Prelude.{option_and_then, option_map}
-use Rattle.std.proofs.lemmas.Bool.{cases_lt, le-leb}
-use Rattle.zic_words.specs.Laws.{RoundToNearest}
-use Rattle.zic_words.specs.Time.{IsNearestSecond, nearest_second, magnitude, whole_seconds}
+use Rattle.std.proofs.lemmas.Bool.{cases_lt, le-leb, le-ltb, lt-ltb}
+use Rattle.zic_words.specs.Laws.{IsNearestSecond, RoundToNearest}
+use Rattle.zic_words.specs.Time.{nearest_second, magnitude, whole_seconds}
 
 -- of two neighbours one at most is the nearest
 not_below : (n s t : ℕ) → s < t → IsNearestSecond n s → IsNearestSecond n t → ⊥
@@ -24,7 +24,12 @@ same n s t is other = elim (cases_lt s t) [
 
 is_nearest : (n : ℕ) → IsNearestSecond n (nearest_second n)
 unfolding nearest_second
-is_nearest n = record { below = omega arith; above = omega arith; even = λ tie. omega arith }
+is_nearest n =
+    let twice = 2 * (n % 10 ^ 9) + n / 10 ^ 9 % 2 in
+    elim (cases_lt (10 ^ 9) twice) [
+      | inl up ↦ rw (lt-ltb (10 ^ 9) twice up) (record { below = omega (arith, up); above = omega (arith, up); even = λ tie. omega (arith, up, tie) })
+      | inr down ↦ rw (le-ltb (10 ^ 9) twice down) (record { below = omega (arith, down); above = omega (arith, down); even = λ tie. omega (arith, down, tie) })
+    ]
 
 -- the nearest second is the computed one
 pub nearest_is : (n s : ℕ) → IsNearestSecond n s → s ≡ nearest_second n

@@ -25,21 +25,21 @@ day_within longest field = do
   n ← number 2 field
   if nat_le 1 n && nat_le n longest then Some n else None
 
--- the weekday behind `last`, which is in any ASCII case and never cut
+-- the weekday after `last`, which is in any ASCII case and never cut
 unfoldable pub last_weekday : List ℕ → Option ℕ
 last_weekday field = if starts_with nat_eq (str_to_ascii_lowercase field) (codes "last") then weekday_of (drop 4 field) else None
 
--- what stands behind this byte, where the text begins with it
-abbrev pub behind : ℕ → List ℕ → Option (List ℕ)
-behind first [] = None
-behind first (byte ∷ bytes) = if byte == first then Some bytes else None
+-- what follows this byte, where the text begins with it
+abbrev pub text_after : ℕ → List ℕ → Option (List ℕ)
+text_after first [] = None
+text_after first (byte ∷ bytes) = if byte == first then Some bytes else None
 
 -- a weekday, this sign and `=`, and a day of the month up to this number
 unfoldable pub weekday_and_day : ℕ → ℕ → List ℕ → Option (ℕ × ℕ)
 weekday_and_day sign longest field = do
   parts ← split_at_most_once field sign
   bound ← parts.1
-  text ← behind 61 bound
+  text ← text_after 61 bound
   weekday ← weekday_of parts.0
   day ← day_within longest text
   Some (weekday, day)
@@ -49,8 +49,8 @@ abbrev pub or_else : {X : Type 0} → Option X → Option X → Option X
 or_else None other = other
 or_else (Some x) other = Some x
 
--- `lastX`, `X>=D`, `X<=D` or a day. 29 February is a day where only one year is meant, a leap year; it may not stand behind
--- `>=`, and behind `<=` means the last of the month.
+-- `lastX`, `X>=D`, `X<=D` or a day. 29 February is a day where only one year is meant, a leap year; it may not stand after
+-- `>=`, and after `<=` means the last of the month.
 unfoldable pub day_form_of : Bool → ℕ → List ℕ → Option On
 day_form_of one_leap_year month field =
     or_else (option_map Last (last_weekday field))

@@ -1,5 +1,5 @@
 -- Times and offsets: zic(8), FILES; digits and limits are own choice.
-use Rattle.std.specs.Prelude.{◌≡◌, ℕ, ◌+◌, ◌-◌, ◌*◌, ◌/◌, ◌%◌, ◌^◌, ◌≤◌, ◌⊎◌, List, [], ◌∷◌, length, ℤ, pos, unsigned_abs, Option, Some, None, option_map, if◌then◌else◌, nat_lt, nat_le, ◌==◌}
+use Rattle.std.specs.Prelude.{ℕ, ◌+◌, ◌-◌, ◌*◌, ◌/◌, ◌%◌, ◌^◌, ◌≤◌, List, [], ◌∷◌, length, ℤ, pos, unsigned_abs, Option, Some, None, option_map, if◌then◌else◌, nat_lt, nat_le, ◌==◌}
 use Rattle.std.specs.List.{slice_split}
 use Rattle.zic_base.specs.Number.{number, signed}
 use Rattle.zic_base.specs.Option.{◌>>=◌}
@@ -46,15 +46,10 @@ time_of_parts (h ∷ m ∷ s ∷ part ∷ parts) = None
 unfoldable pub magnitude : List ℕ → Option ℕ
 magnitude text = time_of_parts (slice_split (λ byte. byte == 58) text)
 
--- s is the whole second nearest to n billionths; of two equally near, the even one
-pub record IsNearestSecond (n s : ℕ) : Type 0 where
-  pub below : 2 * n ≤ 10 ^ 9 * (2 * s + 1)
-  pub above : 10 ^ 9 * (2 * s) ≤ 2 * n + 10 ^ 9
-  pub even : (2 * n ≡ 10 ^ 9 * (2 * s + 1)) ⊎ (10 ^ 9 * (2 * s) ≡ 2 * n + 10 ^ 9) → s % 2 ≡ 0
-
--- that second, by arithmetic
+-- the whole second nearest to a time in billionths, and of two equally near the even one: one more than its whole seconds, where the
+-- fraction is above a half, or is a half after an odd second
 unfoldable pub nearest_second : ℕ → ℕ
-nearest_second n = (2 * n + 10 ^ 9 - 1 + n / 10 ^ 9 % 2) / (2 * 10 ^ 9)
+nearest_second n = if nat_lt (10 ^ 9) (2 * (n % 10 ^ 9) + n / 10 ^ 9 % 2) then n / 10 ^ 9 + 1 else n / 10 ^ 9
 
 -- a time without its sign in whole seconds, at most the limit after rounding
 unfoldable pub whole_seconds : ℕ → List ℕ → Option ℕ

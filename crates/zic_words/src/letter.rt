@@ -12,7 +12,7 @@ use zic_base::{ShortText, are_abbreviation_bytes};
 pub const LONGEST_LETTER: usize = 16;
 
 /// The text for which `%s` of a FORMAT stands: at most 16 ASCII letters, digits, `+` and `-`, all
-/// kept inline; clauses see its bytes.
+/// stored inline; clauses see its bytes.
 #[derive(Debug, Drop)]
 pub struct Letter {
     text: ShortText<LONGEST_LETTER>,

@@ -1,5 +1,4 @@
 //! Words of time zone source text, each one field: times, years, months, days, names and letters.
-//! The rows of `witness/rows` test it.
 //!
 //! Memory is taken only by `Name::parse` and `SetName::parse`, where the field is a name, and by
 //! copies of names.

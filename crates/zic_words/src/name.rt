@@ -13,7 +13,7 @@ use zic_base::ShortText;
 pub const LONGEST_NAME: usize = 255;
 
 /// The name of a zone or a link: 1 to 255 ASCII letters, digits, `_`, `-`, `+`, `.` and `/`, and no
-/// part between slashes is empty, `.` or `..`; clauses see its bytes. Up to 32 bytes are kept
+/// part between slashes is empty, `.` or `..`; clauses see its bytes. Up to 32 bytes are stored
 /// inline.
 #[derive(Debug, Drop, Clone, PartialEq, Eq, Hash)]
 pub struct Name {

@@ -10,7 +10,7 @@ use std::marker::Model;
 use zic_base::ShortText;
 
 /// The name of a rule set: 1 to 255 bytes from 0x21 to 0x7E, the first no digit, `-` or `+`;
-/// clauses see its bytes. Up to 16 bytes are kept inline.
+/// clauses see its bytes. Up to 16 bytes are stored inline.
 #[derive(Debug, Drop, Clone, PartialEq, Eq, Hash)]
 pub struct SetName {
     text: ShortText<16>,

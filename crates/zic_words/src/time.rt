@@ -2,7 +2,8 @@
 
 ghost use Rattle.std.specs.Prelude.{◌≡◌, ◌+◌, ◌*◌, ◌^◌, ◌<◌, ◌≤◌, IfSome, Some, length, option_map};
 ghost use Rattle.zic_base.specs.Number.{number};
-ghost use Rattle.zic_words.specs.Time.{sixtieths, decimals, seconds_of, magnitude, whole_seconds, signed_seconds, offset_of, IsNearestSecond, IsWithin};
+ghost use Rattle.zic_words.specs.Laws.{IsNearestSecond};
+ghost use Rattle.zic_words.specs.Time.{sixtieths, decimals, seconds_of, magnitude, whole_seconds, signed_seconds, offset_of, IsWithin};
 
 use crate::dash::is_dash;
 use crate::split::{split_at_most_once, split_once};

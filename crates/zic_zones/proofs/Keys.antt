@@ -47,15 +47,15 @@ cleared [] (suc n) long = absurd (omega (arith, long))
 cleared (x ∷ xs) zero long = absurd (omega (arith, long))
 cleared (x ∷ xs) (suc n) long = ap₂ (λ (a : ℕ) (t : List ℕ). a ∷ t) (and_zero_r x) (cleared xs n (omega (arith, long)))
 
-kept : (x : ℕ) → x < 2 ^ 8 → bit_and x 255 ≡ x
-kept x small = and_mask x 8 ∙ omega (arith, small)
+stays : (x : ℕ) → x < 2 ^ 8 → bit_and x 255 ≡ x
+stays x small = and_mask x 8 ∙ omega (arith, small)
 
 -- bytes under a mask that keeps the first of them
 pub masked : (xs : List ℕ) (n m : ℕ) → length xs ≡ n + m → Each1 (λ x. x < 2 ^ 8) xs
     → zip2 bit_and xs (replicate n 255 ++ replicate m 0) ≡ take n xs ++ replicate m 0
 masked xs zero m long bytes = cleared xs m (omega (arith, long))
 masked [] (suc n) m long bytes = absurd (omega (arith, long))
-masked (x ∷ xs) (suc n) m long bytes = ap₂ (λ (a : ℕ) (t : List ℕ). a ∷ t) (kept x bytes.0) (masked xs n m (omega (arith, long)) bytes.1)
+masked (x ∷ xs) (suc n) m long bytes = ap₂ (λ (a : ℕ) (t : List ℕ). a ∷ t) (stays x bytes.0) (masked xs n m (omega (arith, long)) bytes.1)
 
 -- a part of bytes that keep, and as many that clear
 pub mask_part : (w n keep clear : ℕ) → n ≤ w

@@ -5,7 +5,7 @@ use Rattle.std.proofs.lemmas.Bool.{false≢true}
 use Rattle.std.proofs.lemmas.List.Elements.{All-weaker, Contains-append_cases, Contains-append_left, Contains-append_right}
 use Rattle.zic_base.proofs.Elements.{only_one}
 use Rattle.zic_files.specs.File.{File, FileImage}
-use Rattle.zic_files.specs.Tree.{AreAsked, AreOfName, Gains, GrowsBy, IsKnown, IsLearntFrom, IsSettled, Learnt, Reply, files_named}
+use Rattle.zic_files.specs.Tree.{AreRequestedOnce, AreOfName, Gains, GrowsBy, IsKnown, IsLearntFrom, IsSettled, Learnt, Reply, files_named}
 use Rattle.zic_zones.specs.Growing.{gains_on}
 use Rattle.zic_zones.specs.Tree.{Breaks, Grows, TreeOf}
 use Rattle.zic_zones.specs.code.Ready.{AreReady}
@@ -21,14 +21,14 @@ name_of_one name (Some image) file has = ap (λ (f : File). f.name) (sym (only_o
 module _ (name : List ℕ) (old new : Learnt) (grows : GrowsBy name old new) where
   pub known_then : IsKnown new name
   known_then proper = elim grows [
-    | inl same ↦ subst (λ (l : Learnt). Contains l.asked name) (sym same.1) (same.0 proper)
-    | inr adds ↦ subst (λ (l : List (List ℕ)). Contains l name) (sym adds.asked) (Contains-append_right old.asked (name ∷ []) name (0, omega arith, refl))
+    | inl same ↦ subst (λ (l : Learnt). Contains l.requested name) (sym same.1) (same.0 proper)
+    | inr adds ↦ subst (λ (l : List (List ℕ)). Contains l name) (sym adds.requested) (Contains-append_right old.requested (name ∷ []) name (0, omega arith, refl))
   ]
 
-  asked_still : (other : List ℕ) → Contains old.asked other → Contains new.asked other
-  asked_still other has = elim grows [
-    | inl same ↦ subst (λ (l : Learnt). Contains l.asked other) (sym same.1) has
-    | inr adds ↦ subst (λ (l : List (List ℕ)). Contains l other) (sym adds.asked) (Contains-append_left old.asked (name ∷ []) other has)
+  requested_still : (other : List ℕ) → Contains old.requested other → Contains new.requested other
+  requested_still other has = elim grows [
+    | inl same ↦ subst (λ (l : Learnt). Contains l.requested other) (sym same.1) has
+    | inr adds ↦ subst (λ (l : List (List ℕ)). Contains l other) (sym adds.requested) (Contains-append_left old.requested (name ∷ []) other has)
   ]
 
   files_still : (file : File) → Contains old.files file → Contains new.files file
@@ -44,7 +44,7 @@ module _ (name : List ℕ) (old new : Learnt) (grows : GrowsBy name old new) whe
       | inl before ↦ before
       | inr added ↦
           let is = name_of_one name adds.image file added in
-          absurd (adds.first (subst (Contains old.asked) is (known (rw is adds.named))))
+          absurd (adds.first (subst (Contains old.requested) is (known (rw is adds.named))))
     ]
   ]
 
@@ -61,9 +61,9 @@ pub grows_by : {T : Type 0} (replied : T → Option (List Reply)) (old new : Tre
     → ((replies : List Reply) → IsLearntFrom replies old.learnt
     → (more : List Reply) × Gains (replied old.tree) (replied new.tree) more × IsLearntFrom (replies ++ more) new.learnt × IsSettled (replies ++ more) name × AreOfName name more)
     → GrowsBy name old.learnt new.learnt → Grows replied old new
-grows_by replied old new name told grows = record {
-  replies = λ replies from. let (more, gains, learnt, settled, of_name) = told replies from in (more, gains, learnt);
-  asked = asked_still name old.learnt new.learnt grows;
+grows_by replied old new name facts grows = record {
+  replies = λ replies from. let (more, gains, learnt, settled, of_name) = facts replies from in (more, gains, learnt);
+  requested = requested_still name old.learnt new.learnt grows;
   files = files_still name old.learnt new.learnt grows;
   only = only_before name old.learnt new.learnt grows;
 }
@@ -75,20 +75,20 @@ on_ok (Err e) P p = tt
 -- ---- what grew, and broke then
 
 pub breaks_now : {T : Type 0} (replied : T → Option (List Reply)) (a b : TreeOf T) → Grows replied a b → Breaks replied a b
-breaks_now replied a b grows = λ replies from. let (more, gains, learnt) = grows.replies replies from in (more, gains, learnt.files.asked)
+breaks_now replied a b grows = λ replies from. let (more, gains, learnt) = grows.replies replies from in (more, gains, learnt.files.requested)
 
 pub breaks_then : {T : Type 0} (replied : T → Option (List Reply)) (a b c : TreeOf T) → Grows replied a b → Breaks replied b c → Breaks replied a c
 breaks_then replied a b c grows breaks = λ replies from.
     let (more, gains, learnt) = grows.replies replies from in
-    let (others, gains_others, asked) = breaks (replies ++ more) learnt in (
+    let (others, gains_others, requested) = breaks (replies ++ more) learnt in (
       more ++ others,
       gains_on (replied a.tree) (replied b.tree) (replied c.tree) more others gains gains_others,
-      subst AreAsked (append_assoc replies more others) asked,
+      subst AreRequestedOnce (append_assoc replies more others) requested,
     )
 
 -- names that are known stay so
 pub known_on : {T : Type 0} (replied : T → Option (List Reply)) (a b : TreeOf T) (name : List ℕ) → Grows replied a b → IsKnown a.learnt name → IsKnown b.learnt name
-known_on replied a b name grows known proper = grows.asked name (known proper)
+known_on replied a b name grows known proper = grows.requested name (known proper)
 
 pub all_known_on : {T : Type 0} (replied : T → Option (List Reply)) (a b : TreeOf T) (names : List (List ℕ)) → Grows replied a b → All (IsKnown a.learnt) names → All (IsKnown b.learnt) names
 all_known_on replied a b names grows known = All-weaker (IsKnown a.learnt) (IsKnown b.learnt) (λ name is. known_on replied a b name grows is) names known

@@ -4,6 +4,7 @@ pub mod Held
 pub mod Numbered
 pub mod Slotted
 pub mod Once
+pub mod OneState
 pub mod Readying
 pub mod Shows
 pub mod Learning

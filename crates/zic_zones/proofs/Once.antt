@@ -75,8 +75,8 @@ got_untaken (y ∷ xs) (suc n) zero x at = at
 got_untaken (y ∷ xs) (suc n) (suc j) x at = got_untaken xs n j x at
 
 got_in_range : (xs run : List ℕ) (s j x : ℕ) → slice_range xs s (s + length run) ≡ run → slice_get run j ≡ Some x → slice_get xs (s + j) ≡ Some x
-got_in_range xs run s j x stands at =
-    let part : slice_get (slice_range xs s (s + length run)) j ≡ Some x = ap (λ (l : List ℕ). slice_get l j) stands ∙ at in
+got_in_range xs run s j x located at =
+    let part : slice_get (slice_range xs s (s + length run)) j ≡ Some x = ap (λ (l : List ℕ). slice_get l j) located ∙ at in
     sym (got_dropped xs s j) ∙ got_untaken (drop s xs) _ j x part
 
 module _ (slots slots' : List Slot) (keeps : Keeps slots slots') where
@@ -120,12 +120,12 @@ module _ (slots : List Slot) (run : List ℕ) (table : List Slot) (are : AreNumb
   -- a table whose numbers stand among others
   pub has_table : (content : Content) (zone : List ℕ) (base : ℤ) (numbers : List ℕ) (start : ℕ) → length table ≡ SLOTS → AreRight content zone base table
       → slice_range numbers start (start + length run) ≡ run → HasTable content zone (map (slot_of slots) numbers) base start
-  has_table content zone base numbers start long right stands = record {
+  has_table content zone base numbers start long right located = record {
     is = λ place lt.
         let length_is = are.long in
         let (n, at) = got run place (omega (arith, lt, long, length_is)) in
         let (slot, is, of) = are.each place n at in
-        let here = got_in_range numbers run start place n stands at in
+        let here = got_in_range numbers run start place n located at in
         let that : slot_of slots n ≡ slot = get_or_from_slice_get slots n slot _ is in
         (slot, get_mapped (slot_of slots) numbers (start + place) n here ∙ ap (λ (s : Slot). Some s) that, right.each place slot of);
   }

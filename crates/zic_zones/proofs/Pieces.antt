@@ -5,7 +5,7 @@ use Rattle.std.proofs.lemmas.Grind.{flat_map-append}
 use Rattle.std.proofs.lemmas.List.{append-nil, map-append}
 use Rattle.std.proofs.lemmas.List.Elements.{All-append, All-cons, All-head, All-tail}
 use Rattle.zic_base.proofs.Lists.{take_next}
-use Rattle.zic_columns.proofs.Wholes.{wholes_fields}
+use Rattle.zic_columns.proofs.PieceRecords.{wholes_fields}
 use Rattle.zic_columns.specs.Column.{column_records}
 use Rattle.zic_columns.specs.Own.{CsvRecord, csv_records}
 use Rattle.zic_columns.specs.Record.{IsSplit, Splitting, record_at}

@@ -1,6 +1,7 @@
 -- What is made ready of files.
 use Rattle.std.proofs.Common.{◌≡◌, ◌∙◌, ◌<◌, ◌++◌, ℕ, zero, suc, List, [], ◌∷◌, length, Option, Some, None, inl, inr, ap, subst, sym, length-append, arith}
-use Rattle.std.specs.Prelude.{ℤ, ◌+◌, IfSome, slice_get, slice_index_or}
+use Rattle.std.specs.Prelude.{ℤ, pos, ◌+ℤ◌, ◌-ℤ◌, ◌+◌, IfSome, slice_get, slice_index_or, unsigned_abs}
+use Rattle.std.proofs.lemmas.Int.{ints}
 use Rattle.std.proofs.lemmas.Option.{same_Some, slice_get_within}
 use Rattle.zic_base.proofs.Elements.{got}
 use Rattle.zic_base.proofs.Options.{if_at}
@@ -9,6 +10,7 @@ use Rattle.zic_files.specs.File.{File}
 use Rattle.zic_slots.proofs.Slots.{got_more}
 use Rattle.zic_slots.specs.Places.{IsPlaceOf, base_of, start_of}
 use Rattle.zic_slots.specs.Slots.{number_at}
+use Rattle.zic_slots.specs.declared.limit.TheConstants.{SLOT_SECONDS}
 use Rattle.zic_slots.specs.declared.place.Place.{Place}
 use Rattle.zic_slots.specs.declared.slot.Slot.{Slot}
 use Rattle.zic_tzif.specs.Content.{Content}
@@ -17,6 +19,7 @@ use Rattle.zic_zones.proofs.Slotted.{table_still}
 use Rattle.zic_zones.proofs.Numbered.{numbers_still}
 use Rattle.zic_zones.specs.code.Ready.{AnswersState, AreReady, IsReadyZone, IsTextOf}
 use Rattle.zic_zones.specs.code.NameKeys.{AreNamesOf}
+use Rattle.zic_zones.specs.code.Near.{AnswersNear, IsNumberNear}
 use Rattle.zic_zones.specs.code.Tables.{HasTexts}
 use Rattle.zic_zones.specs.States.{HasState}
 use Rattle.zic_zones.specs.Zones.{AnswersAt}
@@ -93,10 +96,14 @@ ready_added files old new zone content named pushed texts tables lt is made are 
 }
 
 -- what a number says of the state of its text
-pub told : (states : List Shown) (n : ℕ) (state : Shown) (holds : Shown → Type 0) → HasState states n holds → IsText states n state → holds state
-told states n state holds has is =
+pub facts : (states : List Shown) (n : ℕ) (state : Shown) (holds : Shown → Type 0) → HasState states n holds → IsText states n state → holds state
+facts states n state holds has is =
     let (other, got, it) = has is.0 in
     subst holds (same_Some other state (sym got ∙ is.1)) it
+
+-- what has a number in a list is one
+same_at : {X : Type 0} (xs : List X) (n : ℕ) (a b : X) → slice_get xs n ≡ Some a → slice_get xs n ≡ Some b → a ≡ b
+same_at xs n a b at_a at_b = same_Some a b (sym at_a ∙ at_b)
 
 module _ (files : List File) (ready : Ready) (are : AreReady files ready) (file : ℕ) (zone : ReadyZone) (ready_at : slice_get ready.zones.items file ≡ Some zone) where
   -- the file of the zone
@@ -107,16 +114,16 @@ module _ (files : List File) (ready : Ready) (are : AreReady files ready) (file 
       got files file (omega (arith, few, lt))
 
   -- the number of a state
-  pub state_told : (number n : ℕ) → slice_get zone.numbers.items number ≡ Some n → HasState ready.texts n (λ s. IsTextOf files file number s)
-  state_told number n named = λ says.
+  pub state_found : (number n : ℕ) → slice_get zone.numbers.items number ≡ Some n → HasState ready.texts n (λ s. IsTextOf files file number s)
+  state_found number n named = λ says.
       let (f, at) = its_file in
       let (state, got, of) = (are.each file f zone at ready_at).numbers.each number n named says in
       (state, got, rw at of)
 
   -- the number that a table tells
-  pub quick_told : (instant : ℤ) (place : Place) (start : ℕ) (slot : Slot) → IsPlaceOf instant place → slice_index_or zone.tables place.era None ≡ Some start
+  pub quick_is : (instant : ℤ) (place : Place) (start : ℕ) (slot : Slot) → IsPlaceOf instant place → slice_index_or zone.tables place.era None ≡ Some start
       → slice_get ready.tables (start + place.slot) ≡ Some slot → HasState ready.texts (number_at slot place.second) (λ s. AnswersAt files file instant s)
-  quick_told instant place start slot lies begins at_slot = λ says.
+  quick_is instant place start slot lies begins at_slot = λ says.
       let (f, at) = its_file in
       let content = f.image.content in
       let table = (are.each file f zone at ready_at).tables place.era start begins in
@@ -124,3 +131,35 @@ module _ (files : List File) (ready : Ready) (are : AreReady files ready) (file 
       let texts = subst (λ (s : Slot). HasTexts ready.texts (AnswersState content) (start_of place.era place.slot) s) (same_Some other slot (sym at_other ∙ at_slot)) has in
       let (state, got, answers) = texts place.second lies.second says in
       (state, got, rw at (subst (λ (t : ℤ). AnswersState content t state) lies.is answers))
+
+  -- the number that a table tells of all instants near a local time
+  pub near_found : (local : ℤ) (place : Place) (start : ℕ) (slot : Slot) (n : ℕ) → IsPlaceOf local place → slice_index_or zone.tables place.era None ≡ Some start
+      → slice_get ready.tables (start + place.slot) ≡ Some slot → IsNumberNear slot place.second n → HasState ready.texts n (λ s. AnswersNear files file local s)
+  near_found local place start slot n lies begins at_slot near = λ says.
+      let (f, at) = its_file in
+      let content = f.image.content in
+      let table = (are.each file f zone at ready_at).tables place.era start begins in
+      let (other, at_other, has) = table.is place.slot lies.slot in
+      let from = start_of place.era place.slot in
+      let slot_is : other ≡ slot = same_at ready.tables (start + place.slot) other slot at_other at_slot in
+      let texts = subst (λ (s : Slot). HasTexts ready.texts (AnswersState content) from s) slot_is has in
+      let number : (x : ℕ) → HasState ready.texts (number_at slot x) (AnswersState content (from +ℤ pos x)) → number_at slot x ≡ n → HasState ready.texts n (AnswersState content (from +ℤ pos x)) =
+      λ x it same. subst (λ (m : ℕ). HasState ready.texts m (AnswersState content (from +ℤ pos x))) same it in
+      let here = near.is place.second (omega arith) (omega arith) in
+      let (state, got, answers) = number place.second (texts place.second lies.second) here says in
+      let at_second : (x : ℕ) (t : ℤ) → from +ℤ pos x ≡ t → x < SLOT_SECONDS → number_at slot x ≡ n → AnswersState content t state =
+      λ x t counted within same.
+      let (state', got', answers') = number x (texts x within) same says in
+      subst (λ (u : ℤ). AnswersState content u state) counted
+      (subst (λ (s : Shown). AnswersState content (from +ℤ pos x) s) (same_at ready.texts n state' state got' got) answers') in (
+        state,
+        got,
+        rw at (λ t close.
+            let x = unsigned_abs (t -ℤ from) in
+            let is = lies.is in
+            let low = near.from in
+            let high = near.to in
+            let counted : from +ℤ pos x ≡ t = omega (arith, ints, close, is, low) in
+            let within : x < SLOT_SECONDS = omega (arith, ints, close, is, low, high) in
+            at_second x t counted within (near.is x (omega (arith, ints, close, is, counted)) (omega (arith, ints, close, is, counted)))),
+      )

@@ -4,7 +4,7 @@ use Rattle.std.specs.Prelude.{All, slice_get}
 use Rattle.std.proofs.lemmas.List.{map-append}
 use Rattle.std.proofs.lemmas.List.Elements.{All-push}
 use Rattle.zic_base.proofs.Lists.{take_next}
-use Rattle.zic_columns.specs.Record.{StandsIn, field_text}
+use Rattle.zic_columns.specs.Record.{IsWithinPiece, field_text}
 use Rattle.zic_columns.specs.declared.fields.Field.{Field}
 use Rattle.zic_columns.specs.declared.fields.Field.TheVariants as field
 use Rattle.zic_columns.specs.declared.fields.Record.{Record}
@@ -29,7 +29,7 @@ no_record = record {
 -- what was learnt of the records so far, of which the last names a zone in this field
 pub record LearnsRecords {T : Type 0} (replied : T → Option (List Reply)) (old now : TreeOf T) (piece : List ℕ) (last : Field) (done : List Record) : Type 0 where
   pub grown : Grows replied old now
-  pub stands : StandsIn piece last
+  pub located : IsWithinPiece piece last
   pub last_known : IsKnown now.learnt (field_text piece last)
   pub known : All (IsKnown now.learnt) (map (zone_text piece) done)
 
@@ -37,7 +37,7 @@ module _ {T : Type 0} (replied : T → Option (List Reply)) (old : TreeOf T) (pi
   pub no_records : LearnsRecords replied old old piece (field.Plain (record { start = 0; end = 0 })) []
   no_records = record {
     grown = grows_same replied old;
-    stands = (omega arith, omega arith);
+    located = (omega arith, omega arith);
     last_known = empty_known old.learnt;
     known = λ k d lt. absurd (omega (arith, lt));
   }
@@ -55,17 +55,17 @@ module _ {T : Type 0} (replied : T → Option (List Reply)) (old : TreeOf T) (pi
     pub record_same : zone_text piece given ≡ field_text piece last → LearnsRecords replied old now piece last (take (i + 1) records)
     record_same same = record {
       grown = far.grown;
-      stands = far.stands;
+      located = far.located;
       last_known = far.last_known;
       known = known_next now far.known (subst (IsKnown now.learnt) (sym same) far.last_known);
     }
 
     -- a record of another name
-    pub record_next : (then : TreeOf T) → Grows replied now then → StandsIn piece given.zone → IsKnown then.learnt (zone_text piece given)
+    pub record_next : (then : TreeOf T) → Grows replied now then → IsWithinPiece piece given.zone → IsKnown then.learnt (zone_text piece given)
         → LearnsRecords replied old then piece given.zone (take (i + 1) records)
-    record_next then grows stands known = record {
+    record_next then grows located known = record {
       grown = grows_then replied old now then far.grown grows;
-      stands = stands;
+      located = located;
       last_known = known;
       known = known_next then (all_known_on replied now then (map (zone_text piece) (take i records)) grows far.known) known;
     }

@@ -17,16 +17,16 @@ gains_on (Some a) None c xs ys first second = absurd first
 gains_on (Some a) (Some b) None xs ys first second = absurd second
 gains_on (Some a) (Some b) (Some c) xs ys first second = second ∙ ap (λ (l : List Reply). l ++ ys) first ∙ append_assoc a xs ys
 
--- Nothing more was asked for.
+-- Nothing more was requested.
 pub grows_same : {T : Type 0} (replied : T → Option (List Reply)) (z : TreeOf T) → Grows replied z z
 grows_same replied z = record {
   replies = λ replies from. ([], gains_none (replied z.tree), subst (λ (l : List Reply). IsLearntFrom l z.learnt) (sym (append-nil replies)) from);
-  asked = λ name has. has;
+  requested = λ name has. has;
   files = λ file has. has;
   only = λ file has known. has;
 }
 
--- More was asked for, and then still more.
+-- More was requested, and then still more.
 pub grows_then : {T : Type 0} (replied : T → Option (List Reply)) (a b c : TreeOf T) → Grows replied a b → Grows replied b c → Grows replied a c
 grows_then replied a b c first second = record {
   replies = λ replies from.
@@ -36,9 +36,9 @@ grows_then replied a b c first second = record {
         gains_on (replied a.tree) (replied b.tree) (replied c.tree) more others gains gains_others,
         subst (λ (l : List Reply). IsLearntFrom l c.learnt) (append_assoc replies more others) learnt_others,
       );
-  asked = λ name has. second.asked name (first.asked name has);
+  requested = λ name has. second.requested name (first.requested name has);
   files = λ file has. second.files file (first.files file has);
-  only = λ file has known. first.only file (second.only file has (λ proper. first.asked file.name (known proper))) known;
+  only = λ file has known. first.only file (second.only file has (λ proper. first.requested file.name (known proper))) known;
 }
 
 -- Files that agree with what was learnt agree with what was learnt before.
@@ -47,5 +47,5 @@ pub grows_narrows : {T : Type 0} (replied : T → Option (List Reply)) (a b : Tr
 grows_narrows replied a b files grows are = record {
   sound = are.sound;
   still = λ file has. are.still file (grows.files file has);
-  only = λ file has known. grows.only file (are.only file has (λ proper. grows.asked file.name (known proper))) known;
+  only = λ file has known. grows.only file (are.only file has (λ proper. grows.requested file.name (known proper))) known;
 }

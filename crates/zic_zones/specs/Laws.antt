@@ -14,7 +14,7 @@ abbrev pub RepliesAgree : Type 0
 RepliesAgree = (replies others : List Reply) (learnt : Learnt) (files : List File) → IsLearntFrom replies learnt → AreFilesOfReplies (replies ++ others) files
     → Agree (IsKnown learnt) learnt.files files
 
--- what is meant by a local time of a file's, as the function tells it
+-- what is meant by a local time of a file's, as the function gives it
 abbrev pub LocalTimesResolve : Type 0
 LocalTimesResolve =
     (octets : List ℕ) (content : Content) → IsFile octets content → (local : ℤ) (disambiguation : Disambiguation)

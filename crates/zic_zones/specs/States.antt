@@ -9,6 +9,6 @@ pub record NumberedStates : Type 0 where
   pub files : List File
   pub states : List Shown
 
--- a number says nothing, or it is that of a state of which this holds
+-- a number is unknown, or that of a state of which this holds
 abbrev pub HasState : List Shown → ℕ → (Shown → Type 0) → Type 0
 HasState states n holds = n ≢ UNKNOWN → (state : Shown) × (slice_get states n ≡ Some state) × holds state

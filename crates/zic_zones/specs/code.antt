@@ -1,5 +1,6 @@
 -- Definitions for the code of this crate and for proofs. No contract of an exported function cites them.
 pub mod NameKeys
+pub mod Near
 pub mod Ready
 pub mod Tables
 pub mod Texts

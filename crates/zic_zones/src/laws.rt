@@ -11,7 +11,7 @@ pub fn replies_agree()
     files_stay();
 }
 
-/// States that the function `resolved` tells what each choice means by the local times of a file.
+/// States that the function `resolved` gives what each choice means by the local times of a file.
 pub fn local_times_resolve()
     ensures { LocalTimesResolve }
 {}

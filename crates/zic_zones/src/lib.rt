@@ -1,9 +1,10 @@
 //! Zones by name, ready for rows: those of the files of a source, or of a tree of files, each read
-//! once its name is needed. The tests stand in `program_tests`.
+//! once its name is needed.
 #![tactic(auto)]
 
 pub mod laws;
 mod name_keys;
+mod near;
 mod ready;
 mod row_states;
 mod row_zones;
@@ -16,7 +17,7 @@ mod tree_zones;
 mod zones;
 
 pub use row_states::RowStates;
-pub use row_zones::{RowSpan, RowZones};
+pub use row_zones::{OnlyInstant, RowSpan, RowZones};
 pub use source_zones::SourceZones;
 pub use tree_zones::TreeZones;
 pub use zic_slots::UNKNOWN;

@@ -19,7 +19,7 @@ const TRIES: usize = 4;
 /// share one.
 const LEAST_BITS: u32 = 13;
 
-/// Stands at a place that no name has.
+/// Marks a vacant place.
 const VACANT: u32 = u32::MAX;
 
 /// The masks of all lengths: that of a length keeps as many bytes and clears the rest.
@@ -127,8 +127,8 @@ impl NameKeys {
         Ok(())
     }
 
-    /// Returns the number of the file that a part of some bytes names, if it is at hand. `None` says
-    /// nothing.
+    /// Returns the number of the file that a part of some bytes names, if it is at hand. `None` doesn't
+    /// mean that no file has the name.
     #[inline(always)]
     pub(crate) fn quick(&self, bytes: &[u8], start: usize, end: usize) -> Option<usize>
         requires order { start ≤ end }

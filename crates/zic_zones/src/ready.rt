@@ -4,10 +4,12 @@ ghost use Rattle.std.specs.Prelude.{◌≡◌, ◌<◌, ◌≤◌, List, [], IfO
 ghost use Rattle.zic_files.specs.File.{File};
 ghost use Rattle.zic_zones.specs.States.{HasState};
 ghost use Rattle.zic_zones.specs.Zones.{AnswersAt};
+ghost use Rattle.zic_zones.specs.code.Near.{AnswersNear};
 ghost use Rattle.zic_zones.specs.code.Ready.{AreReady, IsFileOf, IsReadyZone, IsTextOf};
 ghost use Rattle.zic_zones.specs.code.Texts.{Keeps};
 
 use crate::name_keys::NameKeys;
+use crate::near::number_near;
 use crate::tables::{Expected, Tables};
 use crate::texts::Texts;
 use std::alloc::{AllocError, Global};
@@ -99,7 +101,7 @@ impl Ready {
     }
 
     /// Returns the number of the text of the state that a file shows at an instant, where a table
-    /// tells it.
+    /// has it.
     #[inline(always)]
     fn state_by_table(&self, file: usize, instant: i64) -> Option<u16>
         ensures { (files : List File) → AreReady files self.now
@@ -110,6 +112,20 @@ impl Ready {
         let start = zone.tables[place.era]?;
         let slot = self.tables.slot(start, place.slot)?;
         Some(slot.number_at(place.second))
+    }
+
+    /// Returns the number of the text of the state that a file shows at each instant that a local time
+    /// may have, where a table has it that it is one.
+    #[inline(always)]
+    fn state_near_by_table(&self, file: usize, local: i64) -> Option<u16>
+        ensures { (files : List File) → AreReady files self.now
+            → IfSome result (λ n. HasState self.now.texts n (AnswersNear files file local)) }
+    {
+        let zone = self.zones.get(file)?;
+        let place = place_of(local)?;
+        let start = zone.tables[place.era]?;
+        let slot = self.tables.slot(start, place.slot)?;
+        number_near(slot, place.second)
     }
 
     /// Returns the number of the text of a state of a file, by the number of the state. `UNKNOWN` says
@@ -130,6 +146,16 @@ impl Ready {
             → HasState self.now.texts result (AnswersAt files file instant) }
     {
         self.state_by_table(file, instant).unwrap_or(UNKNOWN)
+    }
+
+    /// Returns the number of the text of the state that a file shows at each instant that a local time
+    /// may have; `UNKNOWN` if no table has it.
+    #[inline(always)]
+    pub(crate) fn state_near(&self, file: usize, local: i64) -> u16
+        ensures { (files : List File) → AreReady files self.now
+            → HasState self.now.texts result (AnswersNear files file local) }
+    {
+        self.state_near_by_table(file, local).unwrap_or(UNKNOWN)
     }
 
     /// Returns the text of a state, by its number.

@@ -31,7 +31,7 @@ impl<'a> Model for RowStates<'a> {
 }
 
 impl<'a> RowStates<'a> {
-    /// Returns the number of the state that a file shows at an instant. [`UNKNOWN`] says nothing.
+    /// Returns the number of the state that a file shows at an instant; [`UNKNOWN`] if it isn't known.
     #[inline(always)]
     pub fn number(&self, file: usize, instant: i64) -> u16
         requires { file < length self.now.files }

@@ -1,8 +1,9 @@
 //! Files that are ready for rows.
 
-ghost use Rattle.std.specs.Prelude.{◌≡◌, ◌<◌, ◌≤◌, ℤ, length, IfSome, slice_get, slice_range};
+ghost use Rattle.std.specs.Prelude.{◌≡◌, ◌<◌, ◌≤◌, ℤ, length, IfSome, Ok, slice_get, slice_range};
 ghost use Rattle.zic_files.specs.Sound.{AreSoundFiles};
 ghost use Rattle.zic_local.specs.LocalTime.{IsInRange};
+ghost use Rattle.zic_plan.specs.declared.disambiguation.Disambiguation.{Disambiguation};
 ghost use Rattle.zic_posix.specs.Instants.{Includes};
 ghost use Rattle.zic_rows.specs.Row.{IsRowState};
 ghost use Rattle.zic_zones.specs.Resolved.{resolved};
@@ -16,7 +17,8 @@ use zic_files::Files;
 use zic_local::laws::{choices_mean_one, instants_are_near};
 use zic_local::{Unresolved, instant};
 use zic_plan::Disambiguation;
-use zic_rows::RowWriter;
+use zic_rows::{RowWriter, StateText};
+use zic_slots::UNKNOWN;
 use zic_tzif::{Answer, Instants};
 
 /// Some instants, and the number of the state that a zone shows at each of them.
@@ -24,6 +26,14 @@ use zic_tzif::{Answer, Instants};
 pub struct RowSpan {
     pub instants: Instants,
     pub number: usize,
+}
+
+/// The only instant of a local time, and the text of the state that a file shows then.
+#[derive(Clone, Copy, Drop)]
+pub struct OnlyInstant<'a> {
+    /// In seconds from 1970-01-01T00:00:00 UT.
+    pub instant: i64,
+    pub text: &'a StateText,
 }
 
 /// The files that rows are made by, with the texts of their states. Clauses see the files.
@@ -51,7 +61,7 @@ impl<'a> RowZones<'a> {
     pub fn are_sound(&self)
         ensures { AreSoundFiles self.now }
     {
-        // `len` tells it.
+        // `len` states it.
         prove!(self.files.len() <= usize::MAX);
     }
 
@@ -92,7 +102,7 @@ impl<'a> RowZones<'a> {
     /// which it shows the same.
     pub fn span(&self, file: usize, instant: i64) -> RowSpan
         requires { file < length self.now }
-        ensures asked { Includes result.instants instant }
+        ensures requested { Includes result.instants instant }
         ensures shows { ShowsThroughout self.now file result.instants result.number }
     {
         let span = self.files.zone(file).span(instant);
@@ -123,6 +133,32 @@ impl<'a> RowZones<'a> {
         choices_mean_one();
         local_times_resolve();
         instant(self.files.zone(file), local, disambiguation)
+    }
+
+    /// Returns the only instant of a local time of a file's clocks, and the state that the file shows
+    /// then, where a table has it that it shows one state at all instants near. `None` doesn't mean that the
+    /// local time has none or several.
+    #[inline(always)]
+    pub fn only_instant(&self, file: usize, local: i64) -> Option<OnlyInstant<'a>>
+        requires within { file < length self.now }
+        requires range { IsInRange local }
+        ensures instant { IfSome result (λ only. (choice : Disambiguation)
+            → IfSome (slice_get self.now file)
+            (λ f. resolved f.image.octets local choice ≡ Ok only.instant)) }
+        ensures state { IfSome result
+            (λ only. AnswersAt self.now file only.instant only.text.now) }
+    {
+        self.are_sound();
+        instants_are_near();
+        choices_mean_one();
+        local_times_resolve();
+        let number = self.ready.state_near(file, local);
+        if number == UNKNOWN {
+            return None;
+        }
+        let text = self.ready.state_text(number);
+        let instant = local - i64::from(text.offset());
+        Some(OnlyInstant { instant, text })
     }
 
     /// Returns the states that the files show, by number.

@@ -1,4 +1,4 @@
-//! Runs of numbers, one after another, each kept once.
+//! Runs of numbers, one after another, each stored once.
 
 ghost use Rattle.std.specs.Prelude.{◌≡◌, ◌+◌, ◌++◌, ◌⊎◌, [], IfOk, IfSome, IsTrue, length, slice_range, Some, slice_get};
 
@@ -11,7 +11,7 @@ const BITS: u32 = 12;
 /// The number of places, one after another, that a run may have.
 const TRIES: usize = 4;
 
-/// Stands at a place that no run has.
+/// Marks a vacant place.
 const VACANT: u32 = u32::MAX;
 
 /// Runs of numbers, one after another. Clauses see the numbers.
@@ -52,7 +52,7 @@ impl Runs {
     /// Returns where a run begins, which is added if it isn't here, or `None` where it would begin too
     /// far on.
     pub(crate) fn add(&mut self, run: &[u16]) -> Result<Option<u32>, AllocError>
-        ensures kept { (self.new ≡ self.old) ⊎ (self.new ≡ self.old ++ run.now) }
+        ensures stays { (self.new ≡ self.old) ⊎ (self.new ≡ self.old ++ run.now) }
         ensures start { IfOk result (λ found. IfSome found
             (λ start. slice_range self.new start (start + length run.now) ≡ run.now)) }
     {
@@ -98,7 +98,7 @@ impl Runs {
 
     /// Adds a run, whose start is written at a place, if there is such a place, and returns the start.
     fn push(&mut self, run: &[u16], place: usize) -> Result<Option<u32>, AllocError>
-        ensures kept { (self.new ≡ self.old) ⊎ (self.new ≡ self.old ++ run.now) }
+        ensures stays { (self.new ≡ self.old) ⊎ (self.new ≡ self.old ++ run.now) }
         ensures start { IfOk result (λ found. IfSome found
             (λ start. slice_range self.new start (start + length run.now) ≡ run.now)) }
     {

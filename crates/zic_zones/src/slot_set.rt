@@ -1,4 +1,4 @@
-//! Slots by number, each kept once.
+//! Slots by number, each stored once.
 
 ghost use Rattle.std.specs.Prelude.{◌≡◌, [], IfOk, IfSome, IsTrue, Some, slice_get};
 ghost use Rattle.zic_zones.specs.code.Tables.{AreNumbersOfSlots};
@@ -57,7 +57,7 @@ impl SlotSet {
         alloc: Global,
         slots: &[Slot],
     ) -> Result<Option<Vec<u16>>, AllocError>
-        ensures kept { Keeps self.old self.new }
+        ensures stays { Keeps self.old self.new }
         ensures numbers { IfOk result (λ found. IfSome found
             (λ numbers. AreNumbersOfSlots self.new numbers.items slots.now)) }
     {
@@ -79,7 +79,7 @@ impl SlotSet {
     /// Returns the number of a slot, which is added if it isn't here, or `None` where the numbers are
     /// all taken. Many slots are the same as the one before, whose number is the last.
     fn number(&mut self, slot: Slot, last: u16) -> Result<Option<u16>, AllocError>
-        ensures kept { Keeps self.old self.new }
+        ensures stays { Keeps self.old self.new }
         ensures number { IfOk result (λ found. IfSome found
             (λ number. slice_get self.new number ≡ Some slot)) }
     {
@@ -125,7 +125,7 @@ impl SlotSet {
     /// Adds a slot, whose number is written at a place, if there is such a place, and returns the
     /// number.
     fn add(&mut self, slot: Slot, place: usize) -> Result<Option<u16>, AllocError>
-        ensures kept { Keeps self.old self.new }
+        ensures stays { Keeps self.old self.new }
         ensures number { IfOk result (λ found. IfSome found
             (λ number. slice_get self.new number ≡ Some slot)) }
     {

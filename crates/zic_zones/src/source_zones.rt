@@ -130,7 +130,7 @@ impl<'a> Zones for SourceZones<'a> {
 
     ghost broken = { λ a b. b ≡ a };
 
-    ghost asked_for = { λ a _ b. b ≡ a };
+    ghost requests = { λ a _ b. b ≡ a };
 
     fn learn(&mut self, _alloc: Global, _name: &[u8]) -> Result<(), AllocError> {
         Ok(())

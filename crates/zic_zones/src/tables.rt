@@ -13,8 +13,8 @@ use std::marker::Model;
 use zic_slots::{ERAS, FIRST_BASE, Slot, slots_of};
 use zic_tzif::Zone;
 
-/// What rows are expected. Tables pay for many: those of one era take as long as some ten thousand
-/// rows.
+/// How many rows are expected, and of which years. Making the tables of one era takes as long as some ten
+/// thousand rows.
 #[derive(Clone, Copy, Debug, Drop)]
 pub(crate) enum Expected {
     FewRows,
@@ -37,7 +37,7 @@ impl Expected {
     }
 }
 
-/// The slots of tables, one table after another: each slot is kept once, with a number, and a table
+/// The slots of tables, one table after another: each slot is stored once, with a number, and a table
 /// is the numbers of its slots. Clauses see the slots.
 #[derive(Drop)]
 pub(crate) struct Tables {
@@ -79,7 +79,7 @@ impl Tables {
         zone: &Zone,
         numbers: &[u16],
     ) -> Result<[Option<u32>; ERAS], AllocError>
-        ensures kept { Keeps self.old self.new }
+        ensures stays { Keeps self.old self.new }
         ensures tables { IfOk result (HaveTables zone.now numbers.now self.new) }
     {
         let mut starts = [None; ERAS];
@@ -100,7 +100,7 @@ impl Tables {
         base: i64,
     ) -> Result<Option<u32>, AllocError>
         requires { base ≤ℤ LAST_BASE }
-        ensures kept { Keeps self.old self.new }
+        ensures stays { Keeps self.old self.new }
         ensures table { IfOk result (λ start. IfSome start
             (HasTable zone.now numbers.now self.new base)) }
     {

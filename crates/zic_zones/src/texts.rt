@@ -53,7 +53,7 @@ impl Texts {
     /// Adds the texts of all states of a zone, and returns their numbers by the numbers of the
     /// states.
     pub(crate) fn add_zone(&mut self, alloc: Global, zone: &Zone) -> Result<Vec<u16>, AllocError>
-        ensures kept { Keeps self.old self.new }
+        ensures stays { Keeps self.old self.new }
         ensures numbers { IfOk result (λ numbers. AreNumbersOf zone.now self.new numbers.items) }
     {
         let count = zone.state_count();
@@ -67,7 +67,7 @@ impl Texts {
     /// Returns the number of the text of a state, which is added if it isn't here, or `UNKNOWN` where
     /// no row may have the state or all numbers are taken.
     fn add(&mut self, state: State<'_>) -> Result<u16, AllocError>
-        ensures kept { Keeps self.old self.new }
+        ensures stays { Keeps self.old self.new }
         ensures number { IfOk result (λ n. HasState self.new n (λ text. text ≡ shown state.entry)) }
     {
         if self.places.is_empty() {
@@ -102,7 +102,7 @@ impl Texts {
     /// Adds the text of a state, whose number is written at a place, if there is such a place, and
     /// returns the number, or `UNKNOWN` where no row may have the state or all numbers are taken.
     fn push(&mut self, state: State<'_>, place: usize) -> Result<u16, AllocError>
-        ensures kept { Keeps self.old self.new }
+        ensures stays { Keeps self.old self.new }
         ensures number { IfOk result (λ n. HasState self.new n (λ text. text ≡ shown state.entry)) }
     {
         let number = self.texts.len();

@@ -2,7 +2,7 @@
 
 ghost use Rattle.std.specs.Prelude.{◌≡◌, [], OnOk, OnErr, IsTrue, All, map};
 ghost use Rattle.zic_columns.specs.Column.{column_records};
-ghost use Rattle.zic_columns.specs.Record.{StandsIn, field_text};
+ghost use Rattle.zic_columns.specs.Record.{IsWithinPiece, field_text};
 ghost use Rattle.zic_columns.specs.Round.{records_of};
 ghost use Rattle.zic_files.specs.Tree.{IsKnown, IsLearntFrom};
 ghost use Rattle.zic_zones.specs.Tree.{Breaks, Grows};
@@ -18,10 +18,10 @@ use zic_columns::{BATCH, Field, Record, Round, Span, Splitter, Wanted, push_fiel
 use zic_files::{TreeFiles, ZoneTree};
 use zic_plan::ZoneFrom;
 
-/// No bytes of a piece.
+/// An empty range of a piece.
 const NOWHERE: Span = Span { start: 0, end: 0 };
 
-/// The zones of a tree, as far as it was asked for their names, ready for rows. Clauses see the tree,
+/// The zones of a tree, as far as their names were requested, ready for rows. Clauses see the tree,
 /// and the names and files that were learnt.
 #[derive(Drop)]
 pub struct TreeZones<T: ZoneTree> {
@@ -42,8 +42,8 @@ impl<T: ZoneTree> Model for TreeZones<T> {
 }
 
 impl<T: ZoneTree> TreeZones<T> {
-    /// Returns the zones of a tree that was asked for nothing. Names are looked up by this key: those
-    /// that were chosen without knowing it don't make that slow. No row depends on it.
+    /// Returns the zones of a tree of which nothing was requested. The key seeds the hash of names, so that
+    /// names can't be chosen to collide. No row depends on it.
     pub fn new(alloc: Global, key: u64, tree: T) -> TreeZones<T>
         ensures tree { result.tree ≡ tree }
         ensures none { IsLearntFrom [] result.learnt }
@@ -57,7 +57,7 @@ impl<T: ZoneTree> TreeZones<T> {
 
     /// Learns the zone that a field of a piece names.
     fn learn_field(&mut self, alloc: Global, piece: &[u8], field: Field) -> Result<(), AllocError>
-        requires { StandsIn piece.now field }
+        requires { IsWithinPiece piece.now field }
         ensures grown { OnOk result (Grows T.replied self.old self.new) }
         ensures known { OnOk result (IsKnown self.new.learnt (field_text piece.now field)) }
         ensures broken { OnErr result (Breaks T.replied self.old self.new) }
@@ -80,7 +80,7 @@ impl<T: ZoneTree> TreeZones<T> {
         piece: &[u8],
         records: &[Record],
     ) -> Result<(), AllocError>
-        requires { All (λ given. StandsIn piece.now given.zone) records.now }
+        requires { All (λ given. IsWithinPiece piece.now given.zone) records.now }
         ensures grown { OnOk result (Grows T.replied self.old self.new) }
         ensures known { OnOk result (All (IsKnown self.new.learnt)
             (map (λ given. field_text piece.now given.zone) records.now)) }
@@ -143,7 +143,7 @@ impl<T: ZoneTree> TreeZones<T> {
 impl<T: ZoneTree> Zones for TreeZones<T> {
     ghost use Rattle.zic_files.specs.Tree.{IsKnown};
     ghost use Rattle.zic_zones.specs.Growing.{grows_narrows, grows_same, grows_then};
-    ghost use Rattle.zic_zones.specs.Tree.{AsksFor, Breaks, Grows};
+    ghost use Rattle.zic_zones.specs.Tree.{Requests, Breaks, Grows};
     ghost use Rattle.zic_zones.specs.Zones.{Agree};
 
     ghost known = { λ z. z.learnt.files };
@@ -156,7 +156,7 @@ impl<T: ZoneTree> Zones for TreeZones<T> {
 
     ghost broken = { λ a b. Breaks T.replied a b };
 
-    ghost asked_for = { λ a name b. AsksFor T.replied a name b };
+    ghost requests = { λ a name b. Requests T.replied a name b };
 
     fn learn(&mut self, alloc: Global, name: &[u8]) -> Result<(), AllocError> {
         match self.learnt.learn(alloc, &mut self.tree, name) {
@@ -199,8 +199,8 @@ impl<T: ZoneTree> Zones for TreeZones<T> {
 
 /// Returns whether two fields of a piece have the same bytes, and so the same text.
 fn have_same_bytes(piece: &[u8], field: Field, other: Field) -> bool
-    requires field { StandsIn piece.now field }
-    requires other { StandsIn piece.now other }
+    requires field { IsWithinPiece piece.now field }
+    requires other { IsWithinPiece piece.now other }
     ensures { IsTrue result → field_text piece.now field ≡ field_text piece.now other }
 {
     match (field, other) {

@@ -21,14 +21,14 @@ pub trait Zones {
     // Rows may be made by these files, as far as is known.
     ghost may_be: { Self → List File → Type 0 };
 
-    // The second may come of the first as names are asked for.
+    // Asking for names can turn the first into the second.
     ghost grown: { Self → Self → Type 0 };
 
-    // The second may come of the first as memory is refused.
+    // Running out of memory can turn the first into the second.
     ghost broken: { Self → Self → Type 0 };
 
-    // The second may come of the first as this name is asked for, and no other.
-    ghost asked_for: { Self → List ℕ → Self → Type 0 };
+    // Asking for this name alone can turn the first into the second.
+    ghost requests: { Self → List ℕ → Self → Type 0 };
 
     /// Makes the zone of a name ready, if there is one. Asks for no other name.
     ///
@@ -39,7 +39,7 @@ pub trait Zones {
         ensures grown { OnOk result (grown self.old self.new) }
         ensures settled { OnOk result (settled self.new name.now) }
         ensures broken { OnErr result (broken self.old self.new) }
-        ensures asked { asked_for self.old name.now self.new };
+        ensures requested { requests self.old name.now self.new };
 
     /// Makes the zones ready that the records of a round name.
     ///

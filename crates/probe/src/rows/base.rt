@@ -50,12 +50,12 @@ fn place(call: &Call<'_>, word: usize) -> Result<Place, Refusal> {
     Ok(Place { text, line })
 }
 
-/// Prints a text of which four bytes are kept inline, and whether its copy is equal.
+/// Prints a text of which four bytes are stored inline, and whether its copy is equal.
 fn short_text(alloc: Global, octets: &[u8], answers: &mut Answers) -> Result<(), Refusal> {
-    let kept: ShortText<4> = ShortText::new(alloc, octets)?;
-    let copy = kept.clone()?;
-    answers.bracketed(kept.octets());
-    answers.show(&(kept == copy));
+    let held: ShortText<4> = ShortText::new(alloc, octets)?;
+    let copy = held.clone()?;
+    answers.bracketed(held.octets());
+    answers.show(&(held == copy));
     answers.end_line();
     Ok(())
 }

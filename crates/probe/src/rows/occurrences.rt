@@ -98,7 +98,7 @@ fn current(
     push_current(found.items(), call, answers)
 }
 
-/// Prints each instant that is asked for, the rule that is current then, and how many occurrences come
+/// Prints each instant that is given, the rule that is current then, and how many occurrences come
 /// before it.
 fn push_current(
     found: &[TimedOccurrence],

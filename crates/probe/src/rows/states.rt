@@ -72,10 +72,10 @@ fn observance(source: &Source, answers: &mut Answers) {
     if source.zones() == 0 {
         return;
     }
-    let kept = observance_by(source, source.line(0, 0), None);
-    answers.show(&kept.saving);
-    answers.show(&kept.daylight);
-    match kept.letter {
+    let held = observance_by(source, source.line(0, 0), None);
+    answers.show(&held.saving);
+    answers.show(&held.daylight);
+    match held.letter {
         Some(letter) => answers.bracketed(letter.octets()),
         None => answers.word("None"),
     }

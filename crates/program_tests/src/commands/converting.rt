@@ -1,6 +1,6 @@
 //! `convert` over readers and writers that fail, and its progress reports.
 
-use super::{expect_told, plan};
+use super::{expect_reported, plan};
 use crate::samples::{Defect, Device, Sink, expect, expect_text, must};
 use std::alloc::Global;
 use std::cell::Cell;
@@ -10,12 +10,11 @@ use std::slice;
 use std::sync::Wait;
 use std::thread::Threads;
 use std::time::{Clock, Duration};
-use zic_base::Unnoted;
 use zic_commands::*;
 use zic_counted::Counted;
 use zic_io::FaultList;
 use zic_pieces::Open;
-use zic_plan::{AtFault, Header, Layout};
+use zic_plan::{AtFault, Header, Layout, Unnoted};
 
 const UTC: &[u8] = b"Zone Etc/UTC 0 - UTC";
 
@@ -52,7 +51,7 @@ fn convert_tells_that_rows_are_not_written_and_flushes_also_without_rows(rt: Hos
     for (column, defect, header) in &UNWRITTEN {
         let mut writer = Counted::new(Sink::new(rt.alloc(), *defect));
         let answer = converted(&rt, rt.alloc(), (UTC, *header), *column, &mut writer);
-        expect_told(&rt, rt.alloc(), answer, "cannot write rows, status 3");
+        expect_reported(&rt, rt.alloc(), answer, "cannot write rows, status 3");
         expect(&rt, writer.failures() == 1, "a failure of the writer");
     }
 }
@@ -92,10 +91,10 @@ fn converted_to_a_failed_read<T: Threads + Wait + Sync + Abort>(
 fn rows_and_faults_before_a_failed_read_end_at_the_same_row(rt: HostRuntime) {
     let mut rows = Counted::new(Vec::new(rt.alloc()));
     let mut file = Vec::new(rt.alloc());
-    let mut list = FaultList::new(Some(&mut file));
+    let mut list = FaultList::new(Some(&mut file), None);
     let answer = converted_to_a_failed_read(&rt, rt.alloc(), &mut rows, &mut list);
-    expect_told(&rt, rt.alloc(), answer, "cannot read column, status 3");
-    expect(&rt, list.count() == 2 && list.finish(), "two faults");
+    expect_reported(&rt, rt.alloc(), answer, "cannot read column, status 3");
+    expect(&rt, list.count() == 2 && list.finish_faults(), "two faults");
     drop(list);
     let wanted = b"Etc/UTC,0,1970-01-01T00:00:00,+00:00:00,0,UTC\nNo/Such,0,,,,\nEtc/UTC,x,,,,\n";
     expect_text(&rt, &rows.into_inner(), wanted, "the rows");
@@ -141,13 +140,13 @@ fn are_taken<W: Write + Drop>(
     rows: &[&[u8]],
 ) -> bool {
     let clock = Quarters(Cell::new(1000));
-    let mut progress = Progress::new(writer, &clock, line, has_header);
+    let mut progress = Progress::new(writer, &clock, line, has_header, Some(b','));
     let taken = write_each(&mut progress, rows);
     progress.finish();
     taken
 }
 
-/// Where the line is told.
+/// Where the line is written.
 #[derive(Clone, Copy)]
 enum Line {
     Nowhere,
@@ -157,8 +156,8 @@ enum Line {
 
 const FOUR: &[u8] = b"a,1\nb,2\nc,3\nd,4\n";
 
-/// Where a line is told, whether it is of rows below a header, the writer and the rows, the number of
-/// bytes that it takes, if it takes all, and what is told.
+/// Where a line is written, whether it is of rows below a header, the writer and the rows, the number of
+/// bytes that it takes, if it takes all, and what is reported.
 type OneLine = (
     (Line, bool),
     (Defect, &'static [&'static [u8]]),
@@ -166,7 +165,7 @@ type OneLine = (
     &'static [u8],
 );
 
-static LINES: [OneLine; 7] = [
+static LINES: [OneLine; 8] = [
     // twice a second, and at the end
     (
         (Line::OnTerminal, false),
@@ -213,19 +212,34 @@ static LINES: [OneLine; 7] = [
         Some(12),
         b"3 rows, 12 rows a second\n",
     ),
+    // a line feed in double quotes ends no row; a quote within a field opens none
+    (
+        (Line::Once, false),
+        (
+            Defect::Full(100),
+            &[b"\"a\"\"\n", b"b\",1\nc\",2\nd,\"\n\"\n"],
+        ),
+        Some(21),
+        b"3 rows, 12 rows a second\n",
+    ),
 ];
 
 #[test]
-fn progress_is_told_of_the_rows_that_the_writer_took(rt: HostRuntime) {
+fn progress_has_the_rows_that_the_writer_took(rt: HostRuntime) {
     for ((line, has_header), (defect, rows), bytes, want) in &LINES {
-        let mut told: Vec<u8> = Vec::new(rt.alloc());
+        let mut reported: Vec<u8> = Vec::new(rt.alloc());
         let mut sink = Sink::new(rt.alloc(), *defect);
         let taken = match line {
             Line::Nowhere => are_taken(&mut sink, ProgressLine::Never, *has_header, *rows),
-            Line::Once => are_taken(&mut sink, ProgressLine::Once(&mut told), *has_header, *rows),
+            Line::Once => are_taken(
+                &mut sink,
+                ProgressLine::Once(&mut reported),
+                *has_header,
+                *rows,
+            ),
             Line::OnTerminal => are_taken(
                 &mut sink,
-                ProgressLine::Anew(&mut told),
+                ProgressLine::Anew(&mut reported),
                 *has_header,
                 *rows,
             ),
@@ -237,6 +251,6 @@ fn progress_is_told_of_the_rows_that_the_writer_took(rt: HostRuntime) {
             bytes.is_none()
         };
         expect(&rt, is_right, "the bytes that are taken");
-        expect_text(&rt, &told, *want, "what is told");
+        expect_text(&rt, &reported, *want, "what is reported");
     }
 }

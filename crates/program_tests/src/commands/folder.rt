@@ -1,6 +1,6 @@
 //! `build`, and the files that the commands open, over a file system that records its calls.
 
-use super::{failure_text, plan, told};
+use super::{failure_text, plan, reported};
 use crate::samples::{UTC_FILE, copy_of, expect, expect_text, must, name_of, words_of};
 use std::alloc::{Allocator, Global};
 use std::cell::RefCell;
@@ -70,10 +70,10 @@ fn log_of<'a>(
     }
 }
 
-/// Ends the test where other calls were made, or something else is told.
-fn expect_calls(rt: &impl Abort, calls: RefCell<String>, told: &str, want: &str) {
+/// Ends the test where other calls were made, or something else is reported.
+fn expect_calls(rt: &impl Abort, calls: RefCell<String>, reported: &str, want: &str) {
     let mut calls = calls.into_inner();
-    must(rt, calls.push_str(told));
+    must(rt, calls.push_str(reported));
     expect_text(rt, calls.as_bytes(), want.as_bytes(), "the calls");
 }
 
@@ -218,7 +218,7 @@ impl<'a> Files for Disk<'a> {
     }
 }
 
-/// Returns what is told of building texts in a folder, with links of a kind or copies in their place.
+/// Returns what is reported of building texts in a folder, with links of a kind or copies in their place.
 fn built_of<T: Threads + Wait + Sync + Abort>(
     rt: &T,
     alloc: Global,
@@ -230,7 +230,7 @@ fn built_of<T: Threads + Wait + Sync + Abort>(
     built_in(rt, alloc, &mut tree, folder, texts)
 }
 
-/// Returns what is told of building a text in the folder D, and of syncing it.
+/// Returns what is reported of building a text in the folder D, and of syncing it.
 fn synced_of<T: Threads + Wait + Sync + Abort>(
     rt: &T,
     alloc: Global,
@@ -240,7 +240,7 @@ fn synced_of<T: Threads + Wait + Sync + Abort>(
     let mut tree = zic_commands::Disk::new(alloc, disk, 7, Durability::Synced);
     let mut built = built_in(rt, alloc, &mut tree, ("D", None), slice::from_ref(text));
     if built.is_empty() {
-        let synced = told(rt, alloc, tree.sync());
+        let synced = reported(rt, alloc, tree.sync());
         must(rt, built.push_str(synced.as_str()));
     }
     built
@@ -281,8 +281,8 @@ fn what_is_synced_is_synced_before_it_has_its_name(rt: HostRuntime) {
             bytes: b"",
             names: b"",
         };
-        let told = synced_of(&rt, rt.alloc(), &disk, &text);
-        expect_calls(&rt, calls, told.as_str(), *want);
+        let reported = synced_of(&rt, rt.alloc(), &disk, &text);
+        expect_calls(&rt, calls, reported.as_str(), *want);
     }
 }
 
@@ -299,10 +299,10 @@ fn built_in<T: Threads + Wait + Sync + Abort, D: Tree>(
         Some(kind) => build_linked(rt, alloc, &plan, texts, tree, &LinkedFolder { path, kind }),
         None => build(rt, alloc, &plan, texts, tree, path),
     };
-    told(rt, alloc, answer)
+    reported(rt, alloc, answer)
 }
 
-/// Returns what is told of placing the links of a source in the folder D.
+/// Returns what is reported of placing the links of a source in the folder D.
 fn linked<T: Threads + Wait + Sync + Abort>(
     rt: &T,
     alloc: Global,
@@ -412,12 +412,12 @@ fn a_link_is_made_after_all_files_and_before_it_has_its_name(rt: HostRuntime) {
             bytes: b"",
             names: b"UTC\0",
         };
-        let told = linked(&rt, rt.alloc(), &disk, *source, *kind);
-        expect_calls(&rt, calls, told.as_str(), *want);
+        let reported = linked(&rt, rt.alloc(), &disk, *source, *kind);
+        expect_calls(&rt, calls, reported.as_str(), *want);
     }
 }
 
-/// Returns what is told of building the sources that words name in a folder. The word `-` stands for
+/// Returns what is reported of building the sources that words name in a folder. The word `-` stands for
 /// `input`.
 fn built<T: Threads + Wait + Sync + Abort>(
     rt: &T,
@@ -528,7 +528,7 @@ static BUILDS: [Build; 18] = [
         "list D/\ncreate D/~pzic7\nwrite 111\nflush \nrename D/~pzic7\nto D/A\n\
 create D/~pzic7\nwrite 111\nflush \nrename D/~pzic7\nto D/B\n",
     ),
-    // what runs left behind, and other names; one can't be removed
+    // what runs left, and other names; one can't be removed
     (
         ("D", "-", TWO),
         (
@@ -575,8 +575,8 @@ fn sources_are_read_before_anything_is_made_and_files_are_written_whole(rt: Host
             bytes: b"# A source.\n",
             names: *names,
         };
-        let told = built(&rt, rt.alloc(), &disk, *folder, *words, *input);
-        expect_calls(&rt, calls, told.as_str(), *want);
+        let reported = built(&rt, rt.alloc(), &disk, *folder, *words, *input);
+        expect_calls(&rt, calls, reported.as_str(), *want);
     }
 }
 
@@ -594,18 +594,18 @@ fn a_file_that_other_runs_always_remove_is_refused(rt: HostRuntime) {
         bytes: b"",
         names: b"A\0",
     };
-    let told = built(&rt, rt.alloc(), &disk, "D", "-", "Zone A 0 - UTC");
+    let reported = built(&rt, rt.alloc(), &disk, "D", "-", "Zone A 0 - UTC");
     expect_text(
         &rt,
-        told.as_bytes(),
+        reported.as_bytes(),
         b"cannot write D/A, status 3",
-        "what is told",
+        "what is reported",
     );
     let renamed = calls.into_inner().matches("rename").count();
     expect(&rt, renamed == 1_000, "the number of tries");
 }
 
-/// Returns the first text of the sources that a word names, or what is told. The word `-` stands for
+/// Returns the first text of the sources that a word names, or what is reported. The word `-` stands for
 /// `Zone A 0 - UTC`.
 fn source_of(rt: &impl Abort, alloc: Global, disk: &Disk<'_>, word: &str) -> Vec<u8> {
     match texts_of(rt, alloc, disk, word, "Zone A 0 - UTC") {
@@ -614,7 +614,7 @@ fn source_of(rt: &impl Abort, alloc: Global, disk: &Disk<'_>, word: &str) -> Vec
     }
 }
 
-/// Words, the call that is made, and the text or what is told.
+/// Words, the call that is made, and the text or what is reported.
 static OPENED: [(&str, &str, &[u8]); 3] = [
     ("a", "open a\n", UTC_FILE),
     ("-", "", b"Zone A 0 - UTC"),
@@ -631,9 +631,9 @@ fn words_for_sources_and_files_are_opened(rt: HostRuntime) {
         expect_calls(&rt, calls, "", *opened);
     }
     let calls = RefCell::new(String::new(rt.alloc()));
-    let told = read_two(&rt, rt.alloc(), &disk_without_none(rt.alloc(), &calls));
+    let reported = read_two(&rt, rt.alloc(), &disk_without_none(rt.alloc(), &calls));
     let want = "open f\nopen none\ncannot read none, status 3";
-    expect_calls(&rt, calls, told.as_str(), want);
+    expect_calls(&rt, calls, reported.as_str(), want);
 }
 
 /// Returns a file system in which only the file `none` is not opened.
@@ -645,11 +645,11 @@ fn disk_without_none<'a>(alloc: Global, calls: &'a RefCell<String>) -> Disk<'a> 
     }
 }
 
-/// Reads a file, and returns what is told of reading one that is not opened.
+/// Reads a file, and returns what is reported of reading one that is not opened.
 fn read_two(rt: &impl Abort, alloc: Global, disk: &Disk<'_>) -> String {
     let bytes = must(rt, read_file(alloc, disk, "f"));
     expect_text(rt, &bytes, UTC_FILE, "a file");
-    told(rt, alloc, read_file(alloc, disk, "none"))
+    reported(rt, alloc, read_file(alloc, disk, "none"))
 }
 
 /// Returns the file of a zone in the folder D, or an empty text where it is missing.
@@ -692,17 +692,18 @@ fn what_is_no_regular_file_is_not_opened(rt: HostRuntime) {
     expect_calls(&rt, calls, "", "");
 }
 
-/// Opens the list D/list, writes this number of lines to it, and flushes it.
+/// Opens the list D/list, writes this number of lines to it, flushes it, and syncs it.
 fn list_lines(disk: &Disk<'_>, lines: usize) -> io::Result<()> {
     let mut file = ListFile::open(disk, "D/list")?;
     disk.log.note("opened", "")?;
     for _ in 0..lines {
         file.write_all(b"1,Row\n")?;
     }
-    file.flush()
+    file.flush()?;
+    file.sync()
 }
 
-/// The number of lines, the call that fails, and the calls, followed by what is told if one fails.
+/// The number of lines, the call that fails, and the calls, followed by what is reported if one fails.
 type List = (usize, (&'static str, ErrorKind), &'static str);
 
 /// A file is emptied, or made, by the first write or flush, and its errors are those of the list.
@@ -749,10 +750,10 @@ fn the_file_of_a_list_is_emptied_once_it_is_used(rt: HostRuntime) {
             bytes: b"",
             names: b"",
         };
-        let told = match list_lines(&disk, *lines) {
+        let reported = match list_lines(&disk, *lines) {
             Ok(()) => "",
             Err(_) => "failed",
         };
-        expect_calls(&rt, calls, told, *want);
+        expect_calls(&rt, calls, reported, *want);
     }
 }

@@ -1,6 +1,6 @@
 //! Rounds of columns that come in reads of each length, and readers that fail.
 
-ghost use Rattle.zic_columns.specs.Record.{StandsIn};
+ghost use Rattle.zic_columns.specs.Record.{IsWithinPiece};
 
 use crate::samples::{Device, count_of, expect, expect_text, must};
 use std::alloc::Global;
@@ -21,8 +21,8 @@ const STEPS: [usize; 6] = [1, 2, 3, 5, 8, 1000];
 /// Adds a record of a piece to a text: its two fields with `=` between them, or nothing for another
 /// number of fields, and `|`.
 fn push_record(rt: &impl Abort, text: &mut Vec<u8>, piece: &[u8], given: Record)
-    requires zone { StandsIn piece.now given.zone }
-    requires time { StandsIn piece.now given.time }
+    requires zone { IsWithinPiece piece.now given.zone }
+    requires time { IsWithinPiece piece.now given.time }
 {
     if given.count == 2 {
         must(rt, push_field(text, piece, given.zone));
@@ -67,13 +67,14 @@ fn push_round(
     (wanted, size): (usize, usize),
 ) -> Option<bool> {
     let size = size.max(1);
-    match column.next_round(alloc, wanted, size).ok()? {
+    match column.next_round(alloc, wanted, size, None).ok()? {
         Taken::Round => {}
         Taken::OpenLine(line) => {
             must(rt, text.extend_from_slice(&line));
             must(rt, text.extend_from_slice(b"!|"));
         }
         Taken::End => return Some(false),
+        Taken::TooLong => return None,
     }
     if size < push_pieces(rt, text, &column.round()) {
         return None;
@@ -189,7 +190,7 @@ fn after_first(
 ) -> Vec<u8> {
     let mut device = Device::new(column, step, Ok(()));
     let mut column = must(rt, Column::new(alloc, &mut device, 100, records));
-    let mut text = must(rt, column.pass_record(alloc, 1000));
+    let mut text = must(rt, column.pass_record(alloc, 1000, None));
     let (rest, _) = must(rt, rest_of(rt, alloc, column, (1000, 2)).ok_or(()));
     must(rt, text.push(b'>'));
     must(rt, text.extend_from_slice(&rest));
@@ -241,6 +242,70 @@ fn an_open_line_is_taken_by_itself(rt: HostRuntime) {
         for step in STEPS {
             let text = after_first(&rt, rt.alloc(), *column, Records::Lines, step);
             expect_text(&rt, &text, *want, "the records of lines");
+        }
+    }
+}
+
+/// Returns the records of a column in reads of one byte, up to the first that is longer than this, and
+/// then `>`; or up to the end.
+fn up_to_long(
+    rt: &impl Abort,
+    alloc: Global,
+    column: &[u8],
+    records: Records,
+    longest: u64,
+) -> Vec<u8> {
+    let mut device = Device::new(column, 1, Ok(()));
+    let mut column = must(rt, Column::new(alloc, &mut device, 100, records));
+    let mut text = Vec::new(alloc);
+    for _ in 0..1_000 {
+        match must(rt, column.next_round(alloc, 1000, 2, Some(longest))) {
+            Taken::Round => {
+                push_pieces(rt, &mut text, &column.round());
+            }
+            Taken::OpenLine(line) => {
+                must(rt, text.extend_from_slice(&line));
+                must(rt, text.extend_from_slice(b"!|"));
+            }
+            Taken::TooLong => {
+                must(rt, text.push(b'>'));
+                break;
+            }
+            Taken::End => break,
+        }
+    }
+    text
+}
+
+/// Columns of records of CSV and of lines with the greatest length of one, and the records before a
+/// longer one.
+static LONG: [(&[u8], u64, &[u8], &[u8]); 5] = [
+    (b"a,0\nbb,1\nc,2\n", 4, b"a=0|bb=1|c=2|", b"a=0|bb=1|c=2|"),
+    (b"a,0\n\r\nbb,1\nc,2\n", 3, b"a=0|>", b"a=0|>"),
+    (b"a,0\nbb,1", 3, b"a=0|>", b"a=0|>"),
+    (b"a,0\nb,\"\n\"\nc,2\n", 4, b"a=0|>", b"a=0|b,\"!|\"!|c=2|"),
+    (b"\n\na,\"\r\n0\"\n", 6, b">", b"a,\"!||"),
+];
+
+#[test]
+fn a_long_record_is_left(rt: HostRuntime) {
+    for (column, longest, csv, lines) in &LONG {
+        let text = up_to_long(&rt, rt.alloc(), *column, Records::Csv, *longest);
+        expect_text(&rt, &text, *csv, "the records before a long one");
+        let text = up_to_long(&rt, rt.alloc(), *column, Records::Lines, *longest);
+        expect_text(&rt, &text, *lines, "the lines before a long one");
+    }
+}
+
+#[test]
+fn a_long_first_record_is_not_passed_over(rt: HostRuntime) {
+    for step in STEPS {
+        for (longest, passes) in [(12, true), (11, false), (1, false)] {
+            let mut device = Device::new(b"zone,instant\na,0\n", step, Ok(()));
+            let alloc = rt.alloc();
+            let mut column = must(&rt, Column::new(alloc, &mut device, 100, Records::Csv));
+            let passed = column.pass_record(alloc, 1000, Some(longest)).is_ok();
+            expect(&rt, passed == passes, "a first record of 12 bytes");
         }
     }
 }
@@ -379,7 +444,22 @@ fn a_column_has_a_greatest_number_of_bytes(rt: HostRuntime) {
 }
 
 #[test]
-fn a_failed_read_is_told(rt: HostRuntime) {
+fn a_column_that_is_too_long_is_read_one_byte_beyond_its_limit(rt: HostRuntime) {
+    for column in &LIMITED {
+        for most in 0..column.len() {
+            let mut device = Device::new(*column, 1, Ok(()));
+            let text = shown(&rt, rt.alloc(), &mut device, most as u64, (2, 1));
+            expect(
+                &rt,
+                text.is_none() && device.reads() == most + 1,
+                "the reads of a column that is too long",
+            );
+        }
+    }
+}
+
+#[test]
+fn a_failed_read_is_reported(rt: HostRuntime) {
     let column = b"\xEF\xBB\xBFa,0\nb,1\r\nc,\"2\"\n";
     for kind in [ErrorKind::Interrupted, ErrorKind::Other] {
         for step in STEPS {

@@ -4,7 +4,7 @@ use Rattle.csv.specs.Machine.{next_record, step}
 use Rattle.csv.specs.Reading.{default_config}
 use Rattle.csv.specs.declared.parser.Action.TheVariants as act
 use Rattle.csv.specs.declared.parser.State.TheVariants as st
-use Rattle.zic_columns.specs.Record.{StandsIn, field_text}
+use Rattle.zic_columns.specs.Record.{IsWithinPiece, field_text}
 use Rattle.zic_columns.specs.code.Block.{ends_field}
 use Rattle.zic_columns.specs.code.Machine.{state_at}
 use Rattle.zic_columns.specs.declared.machine.FieldByte.{FieldByte}
@@ -36,15 +36,15 @@ Spells bytes text p =
 -- the first `len` bytes spell the text of a field, and are all bytes or the next byte ends it
 pub record IsField (bytes text : List ℕ) (len : ℕ) : Type 0 where
   pub within : len ≤ length bytes
-  pub stands : Place
-  pub spells : Spells (take len bytes) text stands
-  pub ends : (len ≡ length bytes) ⊎ EndsField stands (slice_index bytes len)
+  pub place_now : Place
+  pub spells : Spells (take len bytes) text place_now
+  pub ends : (len ≡ length bytes) ⊎ EndsField place_now (slice_index bytes len)
 
 -- the same of a field that stands in a piece from an index on
 pub record IsFieldAt (piece : List ℕ) (at : ℕ) (found : FoundField) : Type 0 where
   pub low : at ≤ found.stop
   pub high : found.stop ≤ length piece
-  pub field : StandsIn piece found.field
-  pub stands : Place
-  pub spells : Spells (slice_range piece at found.stop) (field_text piece found.field) stands
-  pub ends : (found.stop ≡ length piece) ⊎ EndsField stands (slice_index piece found.stop)
+  pub field : IsWithinPiece piece found.field
+  pub place_now : Place
+  pub spells : Spells (slice_range piece at found.stop) (field_text piece found.field) place_now
+  pub ends : (found.stop ≡ length piece) ⊎ EndsField place_now (slice_index piece found.stop)

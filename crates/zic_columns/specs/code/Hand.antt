@@ -1,6 +1,6 @@
 -- The bytes in hand.
 use Rattle.std.specs.Prelude.{◌≡◌, ◌<◌, ◌≤◌, ◌⊎◌, ℕ, List, [], ◌∷◌, ◌++◌, length, take, drop, Option, Some, None, MatchOption, IfSome}
-use Rattle.std.specs.Io.KnownBytes.{IsAtEnd}
+use Rattle.std.specs.Io.KnownBytes.{IsAtEnd, prepend_known}
 use Rattle.csv.specs.declared.parser.State.TheVariants as st
 use Rattle.zic_plan.specs.declared.layout.Records.{Records}
 use Rattle.zic_plan.specs.declared.layout.Records.TheVariants as by
@@ -13,9 +13,10 @@ use Rattle.zic_columns.specs.declared.line_scan.OpenLine.{OpenLine}
 use Rattle.zic_columns.specs.declared.scan.Scan.{Scan}
 use Rattle.zic_columns.specs.declared.scan.Scan.TheVariants as scan
 use Rattle.zic_columns.specs.code.Line.{AreWholeLines}
-use Rattle.zic_columns.specs.Round.{ColumnOf, with_past}
+use Rattle.zic_columns.specs.Round.{ColumnOf, IsNextTooLong, with_past}
 use Rattle.zic_columns.specs.code.Machine.{BeginsRecord, ReadsTo, state_at}
 use Rattle.zic_columns.specs.declared.hand.CsvScan.{CsvScan}
+use Rattle.zic_columns.specs.declared.machine.Place.{Place}
 
 -- the first `count` bytes are whole lines without a double quote, and the next byte, if there is
 -- one, ends no line
@@ -58,10 +59,11 @@ pub record OpensWith (by : Records) (held : List ℕ) (come : Option (List ℕ))
   pub within : line.len ≤ length held
   pub opens : IfSome come (λ more. records_by by (held ++ more) ≡ open_record (take line.own held) ∷ records_by by (drop line.len held ++ more))
 
--- what is in hand first
-abbrev pub IsAtHand : Records → List ℕ → Option (List ℕ) → AtHand → Type 0
-IsAtHand by held come (hand.Records count) = CanBeCut by held come count
-IsAtHand by held come (hand.Line line) = OpensWith by held come line
+-- what is in hand first, where a record may have this number of bytes of its own
+abbrev pub IsAtHand : Option ℕ → Records → List ℕ → Option (List ℕ) → AtHand → Type 0
+IsAtHand most by held come (hand.Records count) = CanBeCut by held come count
+IsAtHand most by held come (hand.Line line) = OpensWith by held come line
+IsAtHand most by held come hand.TooLong = IsNextTooLong most by (prepend_known held come)
 
 -- the mode of a scan
 abbrev pub mode_of : Scan → Records
@@ -83,7 +85,11 @@ abbrev pub open_of_scan : Scan → Option OpenLine
 open_of_scan (scan.Csv found) = None
 open_of_scan (scan.Lines found) = found.opened
 
--- where each line is a record, no line ends in the bytes
+-- no byte, or the first of a record, up to a place in it
+abbrev pub AreBegun : List ℕ → Type 0
+AreBegun bytes = (bytes ≡ []) ⊎ ((place : Place) × BeginsRecord bytes × ReadsTo st.StartField bytes (state_at place))
+
+-- no record ends in the bytes; where each line is a record, no line does
 abbrev pub UnendedBy : Records → List ℕ → Type 0
-UnendedBy by.Csv bytes = Unit {0}
+UnendedBy by.Csv bytes = AreBegun bytes
 UnendedBy by.Lines bytes = HasNoLineEnd bytes

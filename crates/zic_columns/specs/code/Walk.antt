@@ -4,7 +4,7 @@ use Rattle.csv.specs.Machine.{next_record}
 use Rattle.csv.specs.Reading.{default_config}
 use Rattle.csv.specs.declared.parser.State.TheVariants as st
 use Rattle.zic_columns.specs.Own.{own_texts}
-use Rattle.zic_columns.specs.Record.{IsSplit, StandsIn, bytes_at, field_text, wanted_text}
+use Rattle.zic_columns.specs.Record.{IsSplit, IsWithinPiece, bytes_at, field_text, wanted_text}
 use Rattle.zic_columns.specs.code.Block.{ends_field}
 use Rattle.zic_columns.specs.code.Machine.{IsEndOfRecord, ReadsTo}
 use Rattle.zic_columns.specs.declared.fields.Field.TheVariants.{Plain}
@@ -33,9 +33,9 @@ quoted_field text = record { field = Plain text.span; stop = text.stop }
 -- of these fields a record has the number and the wanted ones
 pub record HasFields (piece : List ℕ) (wanted : Wanted) (fields : List (List ℕ)) (given : Record) : Type 0 where
   pub count : given.count ≡ length fields
-  pub zone_stands : StandsIn piece given.zone
+  pub zone_within : IsWithinPiece piece given.zone
   pub zone : field_text piece given.zone ≡ wanted_text fields wanted.zone
-  pub time_stands : StandsIn piece given.time
+  pub time_within : IsWithinPiece piece given.time
   pub time : field_text piece given.time ≡ wanted_text fields (Some wanted.time)
 
 -- the fields of a record were read up to an index, at which another begins

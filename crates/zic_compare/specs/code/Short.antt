@@ -1,5 +1,5 @@
 -- UT offsets of two digits of hours.
-use Rattle.std.specs.Prelude.{ℕ, ◌*◌, ◌<◌, ℤ, unsigned_abs, Option, IfSome}
+use Rattle.std.specs.Prelude.{◌*◌, ◌<◌, ℤ, unsigned_abs, Option, IfSome}
 use Rattle.zic_base.specs.State.{Shown}
 use Rattle.zic_tzif.specs.Answer.{Answers}
 use Rattle.zic_tzif.specs.Content.{Content}

@@ -15,10 +15,10 @@ use Rattle.zic_occurrences.proofs.Bounds.{instant_from}
 use Rattle.zic_occurrences.proofs.LastNamed.{named_year}
 use Rattle.zic_states.specs.Change.{IsChange}
 use Rattle.zic_states.specs.End.{IsEndBy, IsEndOfFixed, IsLastYear}
-use Rattle.zic_states.specs.Kept.{Kept, RulesKeep}
+use Rattle.zic_states.specs.InForce.{InForce, RulesHaveInForce}
 use Rattle.zic_states.specs.Laws.{IsOrderly}
 use Rattle.zic_states.specs.Until.{IsUntil, set_of}
-use Rattle.zic_states.specs.Zone.{Zone, line_at, Ends, Governs, IsNotOver, Keeps, ZoneKeeps, Shows}
+use Rattle.zic_states.specs.Zone.{Zone, line_at, Ends, Governs, IsNotOver, HasInForce, ZoneHasInForce, Shows}
 use Rattle.zic_base.specs.State.{Shown}
 use Rattle.zic_states.proofs.Lines.{some_and_has, sound_line}
 use Rattle.zic_states.proofs.States.{one_state}
@@ -53,26 +53,26 @@ module _ (zone : Zone) (orderly : IsOrderly zone) where
     not_over_before line None holds = tt
     not_over_before line (Some until) (end, is, lt) = (end, is, omega (arith, ints, lt))
 
-    rules_before : (line : ZoneLine) → line_at zone 0 ≡ Some line → (says : Rules) (kept : Kept)
-        → RulesKeep zone.source.rules line says (λ u. (u ≤ℤ t) × IsNotOver zone line u) kept
-        → RulesKeep zone.source.rules line says (λ u. (u ≤ℤ (t -ℤ pos 1)) × IsNotOver zone line u) kept
-    rules_before line is_line Standard kept keeps = keeps
-    rules_before line is_line (Amount saving) kept keeps = keeps
-    rules_before line is_line (Set name) kept (inl (o, last, is)) =
+    rules_before : (line : ZoneLine) → line_at zone 0 ≡ Some line → (says : Rules) (in_force : InForce)
+        → RulesHaveInForce zone.source.rules line says (λ u. (u ≤ℤ t) × IsNotOver zone line u) in_force
+        → RulesHaveInForce zone.source.rules line says (λ u. (u ≤ℤ (t -ℤ pos 1)) × IsNotOver zone line u) in_force
+    rules_before line is_line Standard in_force keeps = keeps
+    rules_before line is_line (Amount saving) in_force keeps = keeps
+    rules_before line is_line (Set name) in_force (inl (o, last, is)) =
         let late = occurs_in_years 0 line name o last.instant is_line last.is last.at in
         let not_after = last.such.0 in
         absurd (omega (arith, ints))
-    rules_before line is_line (Set name) kept (inr (none, saving, daylight, letter)) =
+    rules_before line is_line (Set name) in_force (inr (none, saving, daylight, letter)) =
         inr (λ q u is at such. let before = such.0 in none q u is at (omega (arith, ints), such.1), saving, daylight, letter)
 
-    keeps_before : (i : ℕ) (line : ZoneLine) (kept : Kept) → Governs zone i line t → Keeps zone i line t kept → ZoneKeeps zone (t -ℤ pos 1) line kept
-    unfolding Keeps
-    keeps_before zero line kept governs keeps = record {
+    has_before : (i : ℕ) (line : ZoneLine) (in_force : InForce) → Governs zone i line t → HasInForce zone i line t in_force → ZoneHasInForce zone (t -ℤ pos 1) line in_force
+    unfolding HasInForce
+    has_before zero line in_force governs keeps = record {
       number = 0;
       governs = record { is_line = governs.is_line; begun = tt; not_over = not_over_before line line.until governs.not_over };
-      keeps = rules_before line governs.is_line line.rules kept keeps;
+      keeps = rules_before line governs.is_line line.rules in_force keeps;
     }
-    keeps_before (suc i) line kept governs keeps =
+    has_before (suc i) line in_force governs keeps =
         let (start, ends, begun) = governs.begun in
         let late = (ends_in_years i start ends).0 in
         absurd (omega (arith, ints))
@@ -80,8 +80,8 @@ module _ (zone : Zone) (orderly : IsOrderly zone) where
     shows_before : (state : Shown) → Shows zone t state → Shows zone (t -ℤ pos 1) state
     shows_before state shows = record {
       line = shows.line;
-      kept = shows.kept;
-      keeps = keeps_before shows.keeps.number shows.line shows.kept shows.keeps.governs shows.keeps.keeps;
+      in_force = shows.in_force;
+      keeps = has_before shows.keeps.number shows.line shows.in_force shows.keeps.governs shows.keeps.keeps;
       offset = shows.offset;
       daylight = shows.daylight;
       name = shows.name;

@@ -1,4 +1,5 @@
--- Some records of a piece, column by column: each column is told by those before it.
+-- Some records of a piece, column by column: each column follows from those before it.
+use Rattle.zic_columns.specs.Lines.{exchanged_record}
 use Rattle.std.specs.Prelude.{◌≡◌, ◌≢◌, ◌<◌, ◌≤◌, true, ℕ, ℤ, pos, List, Option, Some, None, Result, Ok, Err, MatchResult, IfSome, All, length, map, slice_index, slice_index_or, string_bytes, take}
 use Rattle.zic_base.specs.Check.{first_failed}
 use Rattle.zic_base.specs.State.{Shown}
@@ -29,11 +30,12 @@ use Rattle.zic_rows.specs.declared.row_time.RowTime.{RowTime}
 use Rattle.zic_zones.specs.States.{HasState}
 use Rattle.zic_zones.specs.Zones.{AnswersAt, IsShownAt, number_of, zone_in}
 use Rattle.zic_convert.specs.LayoutRows.{checks_of, count_in, file_at, time_by}
-use Rattle.zic_convert.specs.code.Row.{put_back}
 use Rattle.zic_convert.specs.declared.piece.Piece.{Piece}
 use Rattle.zic_convert.specs.declared.batch.Batch.{Batch}
 use Rattle.zic_convert.specs.declared.batch.TheConstants.{NO_TIME}
 use Rattle.zic_convert.specs.declared.lookup.Counts.{Counts}
+use Rattle.zic_convert.specs.declared.lookup.FoundState.{FoundState}
+use Rattle.zic_convert.specs.declared.lookup.FoundState.TheVariants as found
 use Rattle.zic_convert.specs.declared.lookup.Lookup.{Lookup}
 use Rattle.zic_convert.specs.declared.quick.Known.{Known}
 use Rattle.zic_convert.specs.declared.quick.QuickRow.{QuickRow}
@@ -65,7 +67,7 @@ IfTime time holds = time.second ≢ NO_TIME → holds time
 
 -- a record of a piece, with the delimiter put back
 abbrev pub record_of : Piece → Record → CsvRecord
-record_of piece given = put_back piece.layout.now.delimiter (record_at piece.bytes.now given)
+record_of piece given = exchanged_record piece.layout.now.delimiter (record_at piece.bytes.now given)
 
 -- the number of the file of a record's zone, the count in its field, and the count of its instant, or the fault of a row that has none
 abbrev pub zone_at : Piece → Record → Option ℕ
@@ -79,7 +81,7 @@ time_at piece given = time_by piece.layout.now (file_at piece.zones.now (zone_at
 
 -- the fault of a record of a piece, as the row of a number
 abbrev pub fault_at : Piece → ℕ → Record → Option RowKind
-fault_at piece number given = first_failed (checks_of piece.layout.now piece.zones.now piece.most number (record_at piece.bytes.now given).fields (time_at piece given))
+fault_at piece number given = first_failed (checks_of piece.layout.now piece.zones.now piece.most number (record_at piece.bytes.now given) (time_at piece given))
 
 -- fields have local times
 abbrev pub IsLocal : TimeFrom → Type 0
@@ -92,14 +94,14 @@ IsCountFor from.Rfc3339 u count = Prim.Unit {0}
 IsCountFor (from.Local choice) u count = IsLocalSecond (second_of u count)
 
 -- the counts that the record's field has and that its instant is of
-pub record AreCountsOf (layout : Layout) (file : Option File) (asked : Option ℤ) (counts : Counts) : Type 0 where
-  pub asked_is : asked ≡ Some counts.asked
-  pub sound : IsCountFor layout.from layout.unit counts.asked
-  pub time : time_by layout file asked ≡ Ok counts.count
+pub record AreCountsOf (layout : Layout) (file : Option File) (input : Option ℤ) (counts : Counts) : Type 0 where
+  pub input_is : input ≡ Some counts.input
+  pub sound : IsCountFor layout.from layout.unit counts.input
+  pub time : time_by layout file input ≡ Ok counts.count
 
 -- or the fault of its row
 abbrev pub AreTimesOf : Layout → Option File → Option ℤ → Result Counts RowKind → Type 0
-AreTimesOf layout file asked times = MatchResult times (AreCountsOf layout file asked) (λ kind. time_by layout file asked ≡ Err kind)
+AreTimesOf layout file input times = MatchResult times (AreCountsOf layout file input) (λ kind. time_by layout file input ≡ Err kind)
 
 -- where all rows are in one zone, the number is that of its file
 abbrev pub IsNamed : ZoneFrom → List File → Option ℕ → Type 0
@@ -110,10 +112,15 @@ IsNamed (zone.Name name) files file = file ≡ number_of files (string_bytes nam
 abbrev pub IsFile : Piece → Option ℕ → Type 0
 IsFile piece file = IfSome file (λ n. n < length piece.zones.now)
 
--- where a row may have the whole second of the count, the file shows the state of this number there
-abbrev pub IsStateFor : Piece → Option ℕ → Option ℤ → ℕ → Type 0
-IsStateFor piece file count number = IfSome file (λ n. IfSome count (λ c. IsRowInstant (second_of piece.layout.now.unit c)
-    → IsShownAt piece.zones.now n (second_of piece.layout.now.unit c) number))
+-- the file of this number shows the state at the second
+abbrev pub IsFoundAt : List File → ℕ → ℤ → FoundState → Type 0
+IsFoundAt files file second (found.Number number) = IsShownAt files file second number
+IsFoundAt files file second (found.Text text) = AnswersAt files file second text.now
+
+-- where a row may have the whole second of the count, the file shows the state there
+abbrev pub IsStateFor : Piece → Option ℕ → Option ℤ → FoundState → Type 0
+IsStateFor piece file count state = IfSome file (λ n. IfSome count (λ c. IsRowInstant (second_of piece.layout.now.unit c)
+    → IsFoundAt piece.zones.now n (second_of piece.layout.now.unit c) state))
 
 -- the field has no double quotes, and has the time in plain decimals
 abbrev pub IsTimeIn : Unit → List ℕ → Field → RowTime → Type 0
@@ -124,7 +131,7 @@ IsTimeIn u bytes (Quoted span) time = ⊥
 pub record IsStateAt (piece : Piece) (given : Record) (zone : Option ℕ) (time : RowTime) (state : Shown) : Type 0 where
   pub file : ℕ
   pub zone_is : zone ≡ Some file
-  pub told : time.second ≢ NO_TIME
+  pub has_time : time.second ≢ NO_TIME
   pub admitted : has_count piece.layout.now.count given.count ≡ true
   pub answers : AnswersAt piece.zones.now file time.second state
 
@@ -142,7 +149,7 @@ AreStates piece batch count shown = (i : ℕ) → i < count → HasState shown.s
 abbrev pub records_of : Piece → Batch → ℕ → List CsvRecord
 records_of piece batch count = map (record_of piece) (take count batch.records)
 
--- what is told of the first records of a batch
+-- the columns of the first records of a batch
 pub record AreColumns (piece : Piece) (batch : Batch) (count : ℕ) : Type 0 where
   pub few : count ≤ BATCH
   pub split : All (IsSplit piece.bytes.now (wanted_by piece.layout.now)) (take count batch.records)
@@ -168,11 +175,15 @@ abbrev pub count_of_times : Result Counts RowKind → Option ℤ
 count_of_times (Ok counts) = Some counts.count
 count_of_times (Err kind) = None
 
--- what a record asks for
-pub record IsLookup (piece : Piece) (given : Record) (lookup : Lookup) : Type 0 where
-  pub file : lookup.file ≡ zone_at piece given
-  pub times : AreTimesOf piece.layout.now (file_at piece.zones.now (zone_at piece given)) (count_at piece given) lookup.times
+-- what was found by the number of a zone's file and the count in a field
+pub record IsLookupOf (piece : Piece) (zone : Option ℕ) (count : Option ℤ) (lookup : Lookup) : Type 0 where
+  pub file : lookup.file ≡ zone
+  pub times : AreTimesOf piece.layout.now (file_at piece.zones.now zone) count lookup.times
   pub state : IsStateFor piece lookup.file (count_of_times lookup.times) lookup.state
+
+-- the query of a record
+abbrev pub IsLookup : Piece → Record → Lookup → Type 0
+IsLookup piece given = IsLookupOf piece (zone_at piece given) (count_at piece given)
 
 -- the file of a record's zone, and its counts, which a row may have
 pub record IsRowQuery (piece : Piece) (given : Record) (query : RowQuery) : Type 0 where
@@ -184,7 +195,7 @@ pub record IsRowQuery (piece : Piece) (given : Record) (query : RowQuery) : Type
 pub record IsSoundQuery (piece : Piece) (number : ℕ) (given : Record) (lookup : Lookup) (query : RowQuery) : Type 0 where
   pub sound : fault_at piece number given ≡ None
   pub is : IsRowQuery piece given query
-  pub state : IsShownAt piece.zones.now query.file (second_of piece.layout.now.unit query.counts.count) lookup.state
+  pub state : IsFoundAt piece.zones.now query.file (second_of piece.layout.now.unit query.counts.count) lookup.state
 
 -- A pen shows the state of its number of its file, wherever the file shows that state.
 abbrev pub IsPen : List File → RowPen → Type 0

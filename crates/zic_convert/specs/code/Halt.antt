@@ -18,7 +18,7 @@ IsOwnCause old new stop.WriteFailed = HasFailedSince new old.failures
 IsOwnCause old new stop.Memory = Unit {0}
 IsOwnCause old new _ = ⊥
 
--- where the column can't be read on, its reader tells the cause
+-- where the column can't be read on, its reader has the cause
 abbrev pub IsCauseOfHalt : {W : Type 0} → Counts W → Counts W → Halt → Type 0
 IsCauseOfHalt old new halt.Unread = Unit {0}
 IsCauseOfHalt old new (halt.Stop stop) = IsOwnCause old new stop
@@ -30,7 +30,7 @@ IsReadingStop reader failures taken most stop.ColumnTooLong = (taken + most < re
 IsReadingStop reader failures taken most stop.Memory = Unit {0}
 IsReadingStop reader failures taken most _ = ⊥
 
--- why the conversion of a column with this outcome ends early: where all was converted, or the column can't be read on, its reader tells why
+-- why the conversion of a column with this outcome ends early: where all was converted, or the column can't be read on, its reader says why
 abbrev pub IsStopOf : {R : Type 0} → Counts R → ℕ → ℕ → ℕ → Result ℕ Halt → RunStop → Type 0
 IsStopOf reader failures taken most (Ok n) why = IsReadingStop reader failures taken most why
 IsStopOf reader failures taken most (Err halt.Unread) why = IsReadingStop reader failures taken most why

@@ -1,10 +1,11 @@
 -- How far the rows of a piece have been made.
+use Rattle.zic_columns.specs.Lines.{exchanged_record}
 use Rattle.std.specs.Prelude.{◌≡◌, ◌<◌, ◌≤◌, ℕ, List, [], ◌++◌, None, length, map, take, All}
 use Rattle.zic_columns.specs.Own.{CsvRecord}
 use Rattle.zic_columns.specs.Record.{IsSplit, Splitting}
 use Rattle.zic_columns.specs.declared.splits.TheConstants.{BATCH}
 use Rattle.zic_convert.specs.code.Batch.{records_of, wanted_by}
-use Rattle.zic_convert.specs.code.Row.{AreRowsOf, RowsOf, put_back, csv_records_in}
+use Rattle.zic_convert.specs.code.Row.{AreRowsOf, RowsOf, csv_records_in}
 use Rattle.zic_convert.specs.declared.batch.Batch.{Batch}
 use Rattle.zic_convert.specs.declared.piece.Piece.{Piece}
 
@@ -18,6 +19,6 @@ pub record AreSoFar (piece : Piece) (rows : RowsOf) (batch : Batch) (count : ℕ
   pub split : All (IsSplit piece.bytes.now (wanted_by piece.layout.now)) (take count batch.records)
   pub end : count < BATCH → splitter.left ≡ []
   pub done : List CsvRecord
-  pub parts : csv_records_in piece.layout.now.delimiter piece.bytes.now ≡ done ++ (records_of piece batch count ++ map (put_back piece.layout.now.delimiter) splitter.left)
+  pub parts : csv_records_in piece.layout.now.delimiter piece.bytes.now ≡ done ++ (records_of piece batch count ++ map (exchanged_record piece.layout.now.delimiter) splitter.left)
   pub rows_are : AreRowsOf piece.layout.now piece.zones.now piece.most piece.first done rows
   pub counted : rows.fault ≡ None → rows.count ≡ length done

@@ -7,15 +7,19 @@ use Rattle.zic_columns.specs.Exchange.{exchanged}
 use Rattle.zic_columns.specs.Lines.{records_by, texts_by}
 use Rattle.zic_columns.specs.Own.{CsvRecord}
 use Rattle.zic_columns.specs.Round as Columns
-use Rattle.zic_columns.specs.Round.{ArePiecesOf, ColumnOf, HasNoRecord, taken_records, unread}
+use Rattle.zic_columns.specs.Round.{ArePiecesOf, ColumnOf, HasNoRecord, IsNextTooLong, taken_records, unread}
 use Rattle.zic_columns.specs.declared.columns.Taken.{Taken}
 use Rattle.zic_columns.specs.declared.columns.Taken.TheVariants as taken
 use Rattle.zic_columns.specs.declared.pieces.TheConstants.{MAX_ROUND_PIECES}
 use Rattle.zic_counted.specs.Counts.{Counts, HasFailedSince}
 use Rattle.zic_counted.specs.Written.{FailsWithin}
 use Rattle.zic_plan.specs.Layout.{records_before}
+use Rattle.zic_plan.specs.declared.layout.AtFault.{AtFault}
+use Rattle.zic_plan.specs.declared.layout.AtFault.TheVariants as at
 use Rattle.zic_plan.specs.declared.layout.Layout.{Layout}
-use Rattle.zic_base.specs.declared.row_fault.RowFault.{RowFault}
+use Rattle.zic_plan.specs.declared.layout.Records.{Records}
+use Rattle.zic_plan.specs.declared.layout.Records.TheVariants as by
+use Rattle.zic_plan.specs.Noted.{RowNote}
 use Rattle.zic_base.specs.declared.run_stop.RunStop.{RunStop}
 use Rattle.zic_base.specs.declared.run_stop.RunStop.TheVariants as stop
 use Rattle.zic_files.specs.File.{File}
@@ -26,7 +30,7 @@ use Rattle.zic_convert.specs.code.Row.{records_in}
 use Rattle.zic_convert.specs.declared.halt.Halt.{Halt}
 use Rattle.zic_convert.specs.declared.halt.Halt.TheVariants as halt
 
-abbrev pub output : Option (List ℕ) → Option (List ℕ) → Option (List RowFault) → Option (List RowFault) → Output
+abbrev pub output : Option (List ℕ) → Option (List ℕ) → Option (List RowNote) → Option (List RowNote) → Output
 output held held' log log' = record { held = held; held' = held'; log = log; log' = log' }
 
 -- Where the bytes that are left of a column are known, these records come next, and then those of the bytes that are left then. Their
@@ -70,7 +74,7 @@ EndsInColumn layout most known why out files = IfSome known (λ column.
 
 -- the column's own header with names added, but for the delimiter of the column
 abbrev pub own_line_in : Layout → List ℕ → List ℕ
-own_line_in layout column = header_of layout.start layout.from layout.delimiter (exchanged layout.delimiter (own_header layout.header (texts_by layout.records (strip_bom column))))
+own_line_in layout column = header_of layout.start layout.style layout.from layout.delimiter (exchanged layout.delimiter (own_header layout.header (texts_by layout.records (strip_bom column))))
 
 -- The bytes that are left of a column have its records after those that are a header.
 abbrev pub BeginsRows : Layout → List ℕ → Option (List ℕ) → Type 0
@@ -83,16 +87,29 @@ HaltsAtHead contents old new layout known (halt.Stop stop.Memory) = new ≡ old
 HaltsAtHead contents old new layout known (halt.Stop stop.WriteFailed) = HasFailedSince new old.failures × IfSome known (λ column. FailsWithin contents old new (own_line_in layout column))
 HaltsAtHead contents old new layout known (halt.Stop _) = ⊥
 
--- a column was taken to its next round, in pieces of so many records, to its next open line, or to its end
-pub record TakesNext {R : Type 0} (remaining : R → Option (List ℕ)) (size : ℕ) (old new : ColumnOf R) (next : Taken) : Type 0 where
+-- the most bytes that a record may have, where one with more ends the run
+abbrev pub end_limit : AtFault → Records → Option ℕ → Option ℕ
+end_limit at.End mode most = most
+end_limit at.GoOn by.Csv most = most
+end_limit at.GoOn by.Lines most = None
+end_limit at.Reject by.Csv most = most
+end_limit at.Reject by.Lines most = None
+
+abbrev pub longest_of : Layout → Option ℕ
+longest_of layout = end_limit layout.at_fault layout.records layout.max_record
+
+-- a column was taken to its next round, in pieces of this number of records, to its next open line, to a record of more bytes than it may have, or
+-- to its end
+pub record TakesNext {R : Type 0} (remaining : R → Option (List ℕ)) (size : ℕ) (longest : Option ℕ) (old new : ColumnOf R) (next : Taken) : Type 0 where
   pub by : new.by ≡ old.by
   pub takes : Columns.Takes old.by (unread remaining old) (unread remaining new) (taken_records next new.round)
   pub some : next ≡ taken.Round ↔ (0 < length new.round)
   pub end : next ≡ taken.End → HasNoRecord old.by (unread remaining new)
+  pub long : next ≡ taken.TooLong → IsNextTooLong longest old.by (unread remaining new)
   pub few : length new.round ≤ MAX_ROUND_PIECES
   pub cut : ArePiecesOf size new.round
 
--- the column could not be read on, before zones were asked for, or memory was refused then
+-- the column could not be read on, before zones were requested, or memory was refused then
 abbrev pub EndsAtTaking : {Z : Type 0} → (Z → Z → Type 0) → Z → Z → Halt → Type 0
 EndsAtTaking broken old new halt.Unread = new ≡ old
 EndsAtTaking broken old new (halt.Stop stop.Memory) = broken old new

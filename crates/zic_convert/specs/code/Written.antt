@@ -8,12 +8,12 @@ use Rattle.zic_counted.specs.Written.{FailsWithin}
 use Rattle.zic_files.specs.File.{File}
 use Rattle.zic_plan.specs.Plan.{Limits}
 use Rattle.zic_plan.specs.declared.layout.Layout.{Layout}
-use Rattle.zic_base.specs.declared.row_fault.RowFault.{RowFault}
+use Rattle.zic_plan.specs.Noted.{RowNote}
 use Rattle.zic_base.specs.declared.row_fault.RowKind.{RowKind}
 use Rattle.zic_base.specs.declared.run_stop.RunStop.{RunStop}
 use Rattle.zic_base.specs.declared.run_stop.RunStop.TheVariants as stop
 use Rattle.zic_convert.specs.Run.{Notes}
-use Rattle.zic_convert.specs.code.Row.{AreRowsOf, RowsOf, wholes_of_all}
+use Rattle.zic_convert.specs.code.Row.{AreRowsOf, RowsOf, records_of_all}
 use Rattle.zic_convert.specs.code.Pieces.{Pieces, joined}
 
 -- the writer's bytes, where they are known, grew by these bytes, and nothing failed
@@ -29,16 +29,16 @@ pub record FailsAfter {W : Type 0} (contents : W → Option (List ℕ)) (old new
   pub failed : HasFailedSince new old.failures
 
 -- all rows were written, their faults were noted, and this is their count
-abbrev pub WroteRows : {W : Type 0} → (W → Option (List ℕ)) → Counts W → Counts W → Option (List RowFault) → Option (List RowFault) → RowsOf → ℕ → Type 0
+abbrev pub WroteRows : {W : Type 0} → (W → Option (List ℕ)) → Counts W → Counts W → Option (List RowNote) → Option (List RowNote) → RowsOf → ℕ → Type 0
 WroteRows contents old new log log' rows count = (rows.fault ≡ None) × (count ≡ rows.count) × Wrote contents old new rows.text × Notes log log' rows.faults
 
 -- the rows before one that ends the run were written, and their faults noted
-abbrev pub StopsAtRow : {W : Type 0} → (W → Option (List ℕ)) → Counts W → Counts W → Option (List RowFault) → Option (List RowFault) → ℕ → RowsOf → ℕ → RowKind → Type 0
+abbrev pub StopsAtRow : {W : Type 0} → (W → Option (List ℕ)) → Counts W → Counts W → Option (List RowNote) → Option (List RowNote) → ℕ → RowsOf → ℕ → RowKind → Type 0
 StopsAtRow contents old new log log' first rows row kind =
     (rows.fault ≡ Some kind) × (row ≡ first + rows.count) × Wrote contents old new rows.text × Notes log log' rows.faults
 
 -- pieces were written up to one that ends the run, or up to where the writer failed
-abbrev pub EndsInPieces : {W : Type 0} → (W → Option (List ℕ)) → Counts W → Counts W → Option (List RowFault) → Option (List RowFault) → ℕ → List RowsOf → RunStop → Type 0
+abbrev pub EndsInPieces : {W : Type 0} → (W → Option (List ℕ)) → Counts W → Counts W → Option (List RowNote) → Option (List RowNote) → ℕ → List RowsOf → RunStop → Type 0
 EndsInPieces contents old new log log' first pieces (stop.Row row kind) = StopsAtRow contents old new log log' first (joined pieces) row kind
 EndsInPieces contents old new log log' first pieces stop.WriteFailed =
     (i : ℕ) × FailsAfter contents old new (joined (take i pieces)).text (joined pieces).text × Notes log log' (joined (take i pieces)).faults
@@ -57,16 +57,16 @@ EndsAtHead contents old new head stop.Memory = new ≡ old
 EndsAtHead contents old new head _ = ⊥
 
 -- the rows of these records, the first of which is the row of a number, were all written, and this is their count
-abbrev pub WritesRecords : {W : Type 0} → Layout → List File → ℕ → ℕ → List CsvRecord → (W → Option (List ℕ)) → Counts W → Counts W → Option (List RowFault) → Option (List RowFault) → ℕ → Type 0
+abbrev pub WritesRecords : {W : Type 0} → Layout → List File → ℕ → ℕ → List CsvRecord → (W → Option (List ℕ)) → Counts W → Counts W → Option (List RowNote) → Option (List RowNote) → ℕ → Type 0
 WritesRecords layout files most first row_records contents old new log log' count =
     (rows : RowsOf) × AreRowsOf layout files most first row_records rows × WroteRows contents old new log log' rows count
 
 -- those of a round
-abbrev pub WritesRound : {W : Type 0} → Pieces → (W → Option (List ℕ)) → Counts W → Counts W → Option (List RowFault) → Option (List RowFault) → ℕ → Type 0
-WritesRound p contents old new log log' count = WritesRecords p.layout p.files p.most p.first (wholes_of_all p.layout.delimiter p.pieces) contents old new log log' count
+abbrev pub WritesRound : {W : Type 0} → Pieces → (W → Option (List ℕ)) → Counts W → Counts W → Option (List RowNote) → Option (List RowNote) → ℕ → Type 0
+WritesRound p contents old new log log' count = WritesRecords p.layout p.files p.most p.first (records_of_all p.layout.delimiter p.pieces) contents old new log log' count
 
 -- of the rows of these records, those of the first records were written, and their faults noted, and then the writer failed
-pub record FailsInRows {W : Type 0} (contents : W → Option (List ℕ)) (old new : Counts W) (log log' : Option (List RowFault))
+pub record FailsInRows {W : Type 0} (contents : W → Option (List ℕ)) (old new : Counts W) (log log' : Option (List RowNote))
     (layout : Layout) (files : List File) (most first : ℕ) (row_records : List CsvRecord) (rows : RowsOf) : Type 0 where
   pub done : List CsvRecord
   pub more : List CsvRecord
@@ -77,21 +77,21 @@ pub record FailsInRows {W : Type 0} (contents : W → Option (List ℕ)) (old ne
   pub noted : Notes log log' front.faults
 
 -- the rows of records were written up to one that ends the run, or up to where the writer failed
-abbrev pub EndsInRows : {W : Type 0} → (W → Option (List ℕ)) → Counts W → Counts W → Option (List RowFault) → Option (List RowFault)
+abbrev pub EndsInRows : {W : Type 0} → (W → Option (List ℕ)) → Counts W → Counts W → Option (List RowNote) → Option (List RowNote)
     → Layout → List File → ℕ → ℕ → List CsvRecord → RowsOf → RunStop → Type 0
 EndsInRows contents old new log log' layout files most first row_records rows (stop.Row row kind) = StopsAtRow contents old new log log' first rows row kind
 EndsInRows contents old new log log' layout files most first row_records rows stop.WriteFailed = FailsInRows contents old new log log' layout files most first row_records rows
 EndsInRows contents old new log log' layout files most first row_records rows _ = ⊥
 
 -- the rows of these records before one that ends the run were written, or the writer failed, or memory ran out
-abbrev pub EndsInRecords : {W : Type 0} → Layout → List File → ℕ → ℕ → List CsvRecord → (W → Option (List ℕ)) → Counts W → Counts W → Option (List RowFault) → Option (List RowFault) → RunStop → Type 0
+abbrev pub EndsInRecords : {W : Type 0} → Layout → List File → ℕ → ℕ → List CsvRecord → (W → Option (List ℕ)) → Counts W → Counts W → Option (List RowNote) → Option (List RowNote) → RunStop → Type 0
 EndsInRecords layout files most first row_records contents old new log log' why =
     ((why ≡ stop.Memory) × (new ≡ old) × (log' ≡ log))
     ⊎ ((rows : RowsOf) × AreRowsOf layout files most first row_records rows × EndsInRows contents old new log log' layout files most first row_records rows why)
 
 -- those of a round
-abbrev pub EndsInRound : {W : Type 0} → Pieces → (W → Option (List ℕ)) → Counts W → Counts W → Option (List RowFault) → Option (List RowFault) → RunStop → Type 0
-EndsInRound p contents old new log log' why = EndsInRecords p.layout p.files p.most p.first (wholes_of_all p.layout.delimiter p.pieces) contents old new log log' why
+abbrev pub EndsInRound : {W : Type 0} → Pieces → (W → Option (List ℕ)) → Counts W → Counts W → Option (List RowNote) → Option (List RowNote) → RunStop → Type 0
+EndsInRound p contents old new log log' why = EndsInRecords p.layout p.files p.most p.first (records_of_all p.layout.delimiter p.pieces) contents old new log log' why
 
 -- the pieces of a round by a layout, files and a plan; the first record is the row of this number
 abbrev pub pieces_by : Layout → List File → Limits → List (List ℕ) → ℕ → Pieces

@@ -1,4 +1,4 @@
--- Dates and times of day that lines have, and what stands behind them.
+-- Dates and times of day that lines have, and what follows them.
 use Rattle.std.specs.Prelude.{◌<◌, ℕ, List, [], ◌∷◌, ◌++◌, bytes_eq, if◌then◌else◌}
 use Rattle.zic_base.specs.State.{Shown}
 use Rattle.zic_dump.specs.Text.{name_text}

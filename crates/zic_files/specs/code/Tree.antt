@@ -11,9 +11,9 @@ abbrev pub IsImageOf : Reply → Option FileImage → Type 0
 IsImageOf reply None = IfSome reply.octets (λ octets. AreFit octets → ⊥)
 IsImageOf reply (Some image) = (reply.octets ≡ Some image.octets) × IsFile image.octets image.content × IsFit image.content
 
--- the tree was asked for the name of each file
+-- the name of each file was requested of the tree
 abbrev pub AreOfNames : List (List ℕ) → List File → Type 0
-AreOfNames asked files = All (λ file. Contains asked file.name) files
+AreOfNames requested files = All (λ file. Contains requested file.name) files
 
 -- the tree gave a reply for this name, or none
 abbrev pub IsAtMostOne : Option (List Reply) → Option (List Reply) → List ℕ → Type 0

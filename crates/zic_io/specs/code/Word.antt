@@ -7,7 +7,7 @@ use Rattle.zic_io.specs.declared.input.TheConstants.{MAX_SOURCE}
 use Rattle.zic_io.specs.Failing.{IsFailureOfReading}
 
 -- Why the text that a word names isn't read. Of standard input the reason is known; of a file none
--- is told, nor of its bytes.
+-- is known, nor of its bytes.
 abbrev pub IsFailureOfWord : {R : Type 0} → List ℕ → Counts R → Counts R → Failure → Type 0
 IsFailureOfWord word old new =
     IsFailureOfReading word (word ≡ STANDARD_INPUT.now

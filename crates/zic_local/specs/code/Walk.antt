@@ -29,12 +29,12 @@ pub record IsFoldUpTo (content : Content) (local end : ℤ) (fold : Fold) : Type
   pub are : AreUpTo content local end (fold.first ∷ (between ++ fold.last ∷ []))
   pub count : fold.count ≡ length between + 2
 
--- what is told of a local time by the instants up to one, and the changes up to another
-abbrev pub TellsUpTo : Content → ℤ → ℤ → ℤ → LocalInstants → Type 0
-TellsUpTo content local end last_change (instants.Gap gap) = AreUpTo content local end [] × IsGapOf content local gap
-TellsUpTo content local end last_change (instants.One t) = AreUpTo content local end (t ∷ [])
-TellsUpTo content local end last_change (instants.Fold fold) = IsFoldUpTo content local end fold
-TellsUpTo content local end last_change instants.Unspecified =
+-- the answer for a local time by the instants up to one, and the changes up to another
+abbrev pub AnswersLocalUpTo : Content → ℤ → ℤ → ℤ → LocalInstants → Type 0
+AnswersLocalUpTo content local end last_change (instants.Gap gap) = AreUpTo content local end [] × IsGapOf content local gap
+AnswersLocalUpTo content local end last_change (instants.One t) = AreUpTo content local end (t ∷ [])
+AnswersLocalUpTo content local end last_change (instants.Fold fold) = IsFoldUpTo content local end fold
+AnswersLocalUpTo content local end last_change instants.Unspecified =
     AreUpTo content local end [] × ((gap : Gap) → PassesOver content local gap → gap.change ≤ℤ last_change → ⊥)
 
 -- more instants than the 52 hours round a local time have
@@ -50,7 +50,7 @@ found_count instants.Unspecified = 0
 
 -- one instant more, after the others
 abbrev pub with_instant : LocalInstants → Option ℤ → LocalInstants
-with_instant told None = told
+with_instant given None = given
 with_instant (instants.Gap gap) (Some t) = instants.One t
 with_instant (instants.One first) (Some t) = instants.Fold (record { first = first; last = t; count = 2 })
 with_instant (instants.Fold fold) (Some t) = instants.Fold (record { first = fold.first; last = t; count = fold.count + 1 })
@@ -58,7 +58,7 @@ with_instant instants.Unspecified (Some t) = instants.One t
 
 -- a gap, which only counts where nothing was found
 abbrev pub with_gap : LocalInstants → Option Gap → LocalInstants
-with_gap told None = told
+with_gap given None = given
 with_gap (instants.Gap other) (Some gap) = instants.Gap other
 with_gap (instants.One t) (Some gap) = instants.One t
 with_gap (instants.Fold fold) (Some gap) = instants.Fold fold
@@ -87,12 +87,12 @@ pub record IsPassedAt (before after : Option Shown) (local : ℤ) (gap : Gap) : 
 abbrev pub HasNearOffset : Option Shown → Type 0
 HasNearOffset answer = (offset : ℤ) → HasOffset answer offset → unsigned_abs offset ≤ FARTHEST_FILE_OFFSET
 
--- All is told of a local time up to the last instant of a span that a file answers.
-pub record IsWalked (content : Content) (local : ℤ) (span : Instants) (answer : Option Shown) (told : LocalInstants) : Type 0 where
-  pub tells : TellsUpTo content local span.last span.last told
+-- The answer for a local time is complete up to the last instant of a span that a file answers.
+pub record IsWalked (content : Content) (local : ℤ) (span : Instants) (answer : Option Shown) (given : LocalInstants) : Type 0 where
+  pub tells : AnswersLocalUpTo content local span.last span.last given
   pub answers : AnswersThroughout content span answer
   pub changes : AreBetween (MayChangeAt content) span
   pub some : span.first ≤ℤ span.last
   pub from : (local -ℤ pos FARTHEST_FILE_OFFSET) ≤ℤ span.last
   pub fits : FitsSigned w64 span.last
-  pub counted : pos (found_count told) ≤ℤ ((span.last +ℤ pos (FARTHEST_FILE_OFFSET + 1)) -ℤ local)
+  pub counted : pos (found_count given) ≤ℤ ((span.last +ℤ pos (FARTHEST_FILE_OFFSET + 1)) -ℤ local)

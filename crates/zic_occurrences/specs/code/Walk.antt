@@ -2,7 +2,7 @@
 use Rattle.std.specs.Prelude.{◌≡◌, ℕ, ℤ, ◌<ℤ◌, List, length, slice_get, Some, All, Any, AllPairs}
 use Rattle.zic_occurrences.specs.declared.occurrence.TimedOccurrence.{TimedOccurrence}
 use Rattle.zic_occurrences.specs.Occurrence.{RuleSet, Occurrence, IsOccurrence, AreSame, nominal}
-use Rattle.zic_occurrences.specs.Listing.{StandsFor}
+use Rattle.zic_occurrences.specs.Listing.{IsTimedOf}
 
 -- an occurrence whose nominal second lies before the bound
 pub record IsBefore (set : RuleSet) (bound : ℤ) (o : Occurrence) : Type 0 where
@@ -19,5 +19,5 @@ pub record AreInOrderBefore (set : RuleSet) (bound : ℤ) (os : List Occurrence)
 pub record AreWalked (set : RuleSet) (offset bound : ℤ) (os : List Occurrence) (xs : List TimedOccurrence) : Type 0 where
   pub in_order : AreInOrderBefore set bound os
   pub count : length xs ≡ length os
-  pub each : (k : ℕ) (x : TimedOccurrence) (o : Occurrence) → slice_get xs k ≡ Some x → slice_get os k ≡ Some o → StandsFor set offset x o
+  pub each : (k : ℕ) (x : TimedOccurrence) (o : Occurrence) → slice_get xs k ≡ Some x → slice_get os k ≡ Some o → IsTimedOf set offset x o
   pub rising : AllPairs (λ a b. a.instant <ℤ b.instant) xs

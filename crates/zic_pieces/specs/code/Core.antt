@@ -28,12 +28,12 @@ SomeHas passes e = (id : ℕ) × (v : Known) × (get_elem? passes id ≡ some v)
 -- A pass that is part of another has no events. Any other is one of n pieces, and FAULT is at most
 -- what it has seen, which is at most n and each number that it reported or found. No pass drew NEXT
 -- or more, and where one has ended every piece was drawn
-pub record Stands (n next fault : ℕ) (v : Known) : Type 0 where
+pub record IsPassOf (n next fault : ℕ) (v : Known) : Type 0 where
   pub idle : v.parts ≡ 0 → v.events ≡ []
   pub pieces : 0 < v.parts → v.pieces ≡ n
   pub seen : 0 < v.parts → fault ≤ v.seen
   pub within : 0 < v.parts → v.seen ≤ n
-  pub told : (i : ℕ) → Has v.events (Reported i) → v.seen ≤ i
+  pub notified : (i : ℕ) → Has v.events (Reported i) → v.seen ≤ i
   pub found : (g b : ℕ) → Has v.events (Glanced g b) → v.seen ≤ g
   pub drawn : past v.events ≤ next
   pub over : v.ended ≡ true → n ≤ next
@@ -49,15 +49,15 @@ pub record IsCore (n next fault : ℕ) (passes : List Known) : Type 0 where
   -- FAULT is n, or a reported number
   pub least : (fault ≡ n) ⊎ SomeHas passes (Reported fault)
   pub within : fault ≤ n
-  pub stands : (id : ℕ) (v : Known) → get_elem? passes id ≡ some v → Stands n next fault v
-  -- FAULT is at most what any draw kept
-  pub kept : (i s : ℕ) → SomeHas passes (Drew i s) → fault ≤ s
+  pub located : (id : ℕ) (v : Known) → get_elem? passes id ≡ some v → IsPassOf n next fault v
+  -- FAULT is at most what any draw had seen
+  pub least_seen : (i s : ℕ) → SomeHas passes (Drew i s) → fault ≤ s
   -- a reported number is below n, and FAULT is at most that
-  pub told : (i : ℕ) → SomeHas passes (Reported i) → (fault ≤ i) × (i < n)
-  -- every draw that a glance kept is below NEXT, and what it found is FAULT or more, and n or a
+  pub notified : (i : ℕ) → SomeHas passes (Reported i) → (fault ≤ i) × (i < n)
+  -- every draw before a glance is below NEXT, and what it found is FAULT or more, and n or a
   -- reported number
   pub glances : (g b : ℕ) → SomeHas passes (Glanced g b) → (b ≤ next) × (fault ≤ g)
       × ((g ≡ n) ⊎ SomeHas passes (Reported g))
-  -- where a draw of i kept s, a glance that kept a draw of i or more found at most s
+  -- where a draw of i had seen s, a glance after a draw of i or more found at most s
   pub heard : (i s g b : ℕ) → SomeHas passes (Drew i s) → SomeHas passes (Glanced g b) → i < b
       → g ≤ s

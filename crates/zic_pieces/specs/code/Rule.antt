@@ -1,4 +1,4 @@
--- The rule of the two shared words, and what each atomic step tells the pass that takes it.
+-- The rule of the two shared words, and what the pass that takes an atomic step learns by it.
 use Rattle.std.specs.Prelude.{◌≡◌, ℕ, ◌+◌, ◌≤◌, Bool, true, [], ◌∷◌, length}
 use Rattle.atomic_table.specs.Table.{State, Me, Step}
 use Rattle.zic_pieces.specs.declared.event.Known.{Known}
@@ -22,8 +22,8 @@ abbrev pub Drawn : Step (Unit {0}) → Sat → ℕ → Sat → Type 0
 Drawn st m i m' = (m'.0 ≡ drew i m.0) × (past m.0.events ≤ i) × IsSound m'.0 × (m'.1 ≡ m.1)
 
 -- the operand was reported
-abbrev pub Told : Step (Unit {0}) → Sat → ℕ → Sat → Type 0
-Told st m found m' = (m'.0 ≡ reported st.first m.0) × IsSound m'.0 × (m'.1 ≡ m.1)
+abbrev pub Notified : Step (Unit {0}) → Sat → ℕ → Sat → Type 0
+Notified st m found m' = (m'.0 ≡ reported st.first m.0) × IsSound m'.0 × (m'.1 ≡ m.1)
 
 -- the number found is at most what the pass had seen
 abbrev pub Looked : Step (Unit {0}) → Sat → ℕ → Sat → Type 0
@@ -36,8 +36,8 @@ Learned st m found m' = (m' ≡ m) × IsSound m.0
 
 -- a pass is so between calls: no slots, its room, whether it has ended, and how many numbers
 -- were given; each draw of a piece has its glance
-abbrev pub IsKept : Sat → ℕ → Bool → ℕ → Type 0
-IsKept m room ended count =
+abbrev pub IsBetweenCalls : Sat → ℕ → Bool → ℕ → Type 0
+IsBetweenCalls m room ended count =
     (m.1 ≡ []) × (m.0.parts ≡ room + 1) × (m.0.ended ≡ ended)
     × (count ≡ length (given m.0.pieces m.0.events)) × (is_whole m.0.pieces m.0.events ≡ true)
     × IsSound m.0

@@ -3,7 +3,7 @@ use Rattle.std.specs.Prelude.{ℕ, Bool, true, false, not, ◌&&◌, ◌||◌, n
 use Rattle.zic_pieces.specs.declared.event.Event.{Event}
 use Rattle.zic_pieces.specs.declared.event.Event.TheVariants.{Drew, Reported, Glanced}
 
--- a draw below n asks for a glance
+-- a draw below n requires a glance
 abbrev pub asks : ℕ → Event → Bool
 asks n (Drew i seen) = nat_lt i n
 asks n (Reported i) = false

@@ -10,7 +10,8 @@ use Rattle.zic_posix.specs.declared.footer.Dst.{Dst}
 use Rattle.zic_posix.specs.declared.footer.Edge.{Edge}
 use Rattle.zic_posix.specs.declared.limit.TheConstants.{SHORTEST_NAME, MAX_HOURS, MAX_WIDE_HOURS, MAX_MINUTES_OR_SECONDS, LAST_DAY, USUAL_TIME, USUAL_SAVING}
 use Rattle.zic_posix.specs.Footer.{TzString}
-use Rattle.zic_posix.specs.Grammar.{is_letter, is_digit}
+use Rattle.std.specs.Char.{is_ascii_digit}
+use Rattle.zic_posix.specs.Grammar.{is_letter}
 
 -- a function returned what is read, apart from where it lies in memory
 abbrev pub Reads : {X Y : Type 0} → (X → Y) → Option X → Option Y → Type 0
@@ -44,7 +45,7 @@ name_at (b ∷ rest) = if b == 60 then quoted_name_at rest else plain_name_at (b
 -- a number of all the digits that stand there, but no more than the longest, if it is from the least to the most
 unfoldable pub number_at : ℕ → ℕ → ℕ → List ℕ → Option (ℕ × List ℕ)
 number_at longest least most text =
-    let n = min (prefix_len is_digit text) longest in
+    let n = min (prefix_len is_ascii_digit text) longest in
     let number = decimal_value (take n text) in
     if nat_lt 0 n && nat_le least number && nat_le number most then Some (number, drop n text) else None
 

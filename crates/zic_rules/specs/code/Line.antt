@@ -9,9 +9,9 @@ use Rattle.zic_occurrences.specs.declared.occurrence.TimedOccurrence.{TimedOccur
 use Rattle.zic_occurrences.specs.Order.{IsInOrder, IsOutOfOrder}
 use Rattle.zic_occurrences.specs.Listing.{AreOccurrencesTo}
 use Rattle.zic_states.specs.ByList.{AreRising, rule_at}
-use Rattle.zic_states.specs.Kept.{Kept, IsKeptBy, IsRuleOf}
+use Rattle.zic_states.specs.InForce.{InForce, IsInForceBy, IsRuleOf}
 use Rattle.zic_states.specs.Until.{set_of}
-use Rattle.zic_states.specs.Zone.{Zone, line_at, Governs, KeepsBy, Keeps, IsWindowEnd}
+use Rattle.zic_states.specs.Zone.{Zone, line_at, Governs, HasInForceBy, HasInForce, IsWindowEnd}
 use Rattle.zic_words.specs.Time.{IsWithin}
 use Rattle.zic_rules.specs.declared.period.Period.{Period}
 use Rattle.zic_rules.specs.code.Held.{IsFrom}
@@ -34,36 +34,36 @@ AreOccurrencesOn rules offset year Standard xs = xs ≡ []
 AreOccurrencesOn rules offset year (Amount saving) xs = xs ≡ []
 AreOccurrencesOn rules offset year (Set name) xs = AreOccurrencesTo (set_of rules name) offset year xs
 
--- The last of these occurrences that isn't after an instant says what the line keeps by itself then, at instants before the bound.
-pub record TellsKept (zone : Zone) (bound : ℤ) (line : ZoneLine) (xs : List TimedOccurrence) : Type 0 where
+-- The last of these occurrences that isn't after an instant says what the line has in force by itself then, at instants before the bound.
+pub record GivesInForce (zone : Zone) (bound : ℤ) (line : ZoneLine) (xs : List TimedOccurrence) : Type 0 where
   pub rising : AreRising xs
   pub is_rule : (t : ℤ) → IsRuleOf zone.source.rules line.rules (rule_at xs t)
-  pub keeps : (t : ℤ) (kept : Kept) → t <ℤ bound → IsKeptBy zone.source.rules line.rules (rule_at xs t) kept → KeepsBy zone line t kept
+  pub keeps : (t : ℤ) (in_force : InForce) → t <ℤ bound → IsInForceBy zone.source.rules line.rules (rule_at xs t) in_force → HasInForceBy zone line t in_force
 
 -- the end of the window of the line of this number; the Zone line has none
 abbrev pub IsEndOfWindow : Zone → ℕ → ZoneLine → ℤ → Type 0
 IsEndOfWindow zone zero line end = ⊥
-IsEndOfWindow zone (suc i) line end = IsWindowEnd zone i (Keeps zone i) line end
+IsEndOfWindow zone (suc i) line end = IsWindowEnd zone i (HasInForce zone i) line end
 
 -- five days after a start, when each window is over, or a later end
 abbrev pub bound_of : Option ℤ → ℤ → ℤ
 bound_of None end = end
 bound_of (Some start) end = int_max end (start +ℤ pos (5 * 86_400))
 
--- The line of this number governs from its start to its end, and the occurrences before the end say what it keeps.
+-- The line of this number governs from its start to its end, and the occurrences before the end say what is in force.
 pub record IsLineTo (zone : Zone) (number : ℕ) (start : Option ℤ) (end : ℤ) (mine : List TimedOccurrence) : Type 0 where
   pub governs : (line : ZoneLine) → line_at zone number ≡ Some line
       → (t : ℤ) → IsFrom start t → t <ℤ end → Governs zone number line t
-  pub tells : (line : ZoneLine) → line_at zone number ≡ Some line → TellsKept zone (bound_of start end) line mine
+  pub gives : (line : ZoneLine) → line_at zone number ≡ Some line → GivesInForce zone (bound_of start end) line mine
   pub before_end : All (λ x. x.instant <ℤ end) mine
 
 -- the period of this line from an occurrence on
 abbrev pub period_at : ℕ → TimedOccurrence → Period
 period_at line x = record { from = x.instant; line = line; rule = Some x.rule }
 
--- the line's standard offset and what it keeps by this rule, together; at most 48 hours either way
+-- the line's standard offset and what is in force by this rule, together; at most 48 hours either way
 pub record IsTotalOffset (rules : List Rule) (line : ZoneLine) (rule : Option ℕ) (total : ℤ) : Type 0 where
-  pub kept : Kept
-  pub is_kept : IsKeptBy rules line.rules rule kept
-  pub is : total ≡ line.offset +ℤ kept.saving
+  pub in_force : InForce
+  pub is_in_force : IsInForceBy rules line.rules rule in_force
+  pub is : total ≡ line.offset +ℤ in_force.saving
   pub within : IsWithin 172_800 total

@@ -6,8 +6,8 @@ use Rattle.zic_base.specs.declared.fault.Kind.TheVariants as kind
 use Rattle.zic_lines.specs.declared.zone_line.ZoneLine.{ZoneLine}
 use Rattle.zic_source.specs.Source.{lines_of_zone}
 use Rattle.zic_states.specs.Fault.{HasRulesOutOfOrder, HasUntilNotRising}
-use Rattle.zic_states.specs.Kept.{Kept, IsKeptBy, IsRuleOf}
-use Rattle.zic_states.specs.Zone.{Zone, lines_of, Governs, Keeps}
+use Rattle.zic_states.specs.InForce.{InForce, IsInForceBy, IsRuleOf}
+use Rattle.zic_states.specs.Zone.{Zone, lines_of, Governs, HasInForce}
 use Rattle.zic_rules.specs.declared.period.Period.{Period}
 use Rattle.zic_rules.specs.declared.zone.Zone as zones
 use Rattle.zic_rules.specs.Timeline.{zone_of}
@@ -20,12 +20,12 @@ the_zone zone = zone_of zone.source.now zone.number
 abbrev pub HasLine : Zone → ℕ → Type 0
 HasLine zone number = ForSome (lines_of zone) (λ lines. number < length (lines_of_zone lines))
 
--- The line of this number governs at t, and keeps what its RULES keep by this rule, or before all occurrences.
+-- The line of this number governs at t, and has in force what is in force by this rule, or before all occurrences.
 pub record Holds (zone : Zone) (t : ℤ) (number : ℕ) (rule : Option ℕ) : Type 0 where
   pub line : ZoneLine
   pub governs : Governs zone number line t
   pub of_line : IsRuleOf zone.source.rules line.rules rule
-  pub keeps : (kept : Kept) → IsKeptBy zone.source.rules line.rules rule kept → Keeps zone number line t kept
+  pub keeps : (in_force : InForce) → IsInForceBy zone.source.rules line.rules rule in_force → HasInForce zone number line t in_force
 
 -- all periods of a zone before an instant, in order; before the first the Zone line governs, before all its occurrences
 pub record ArePeriods (zone : Zone) (end : ℤ) (periods : List Period) : Type 0 where

@@ -10,7 +10,7 @@ use Rattle.zic_words.specs.Limits.{is_abbreviation}
 use Rattle.zic_states.specs.Change.{Change}
 use Rattle.zic_states.specs.End.{IsEnd}
 use Rattle.zic_states.specs.Fault.{HasOffsetOutOfRange, HasNoLetter, HasBadAbbreviation, IsSavingOf, IsSound}
-use Rattle.zic_states.specs.Kept.{Kept, IsKeptBy}
+use Rattle.zic_states.specs.InForce.{InForce, IsInForceBy}
 use Rattle.zic_states.specs.Laws.{IsOrderly}
 use Rattle.zic_states.specs.Refusal.{IsRefusal}
 use Rattle.zic_base.specs.State.{Shown}
@@ -32,19 +32,19 @@ dated d = record { instant = d.instant; state = shown_by d.state }
 
 -- The line shows this state by this rule, or before all occurrences.
 pub record IsShownBy (rules : List Rule) (line : ZoneLine) (rule : Option ℕ) (state : Shown) : Type 0 where
-  pub kept : Kept
-  pub is_kept : IsKeptBy rules line.rules rule kept
-  pub offset : state.offset ≡ line.offset +ℤ kept.saving
-  pub daylight : state.daylight ≡ kept.daylight
-  pub name : abbreviation line.format state.offset kept.daylight kept.letter ≡ Some state.name
+  pub in_force : InForce
+  pub is_in_force : IsInForceBy rules line.rules rule in_force
+  pub offset : state.offset ≡ line.offset +ℤ in_force.saving
+  pub daylight : state.daylight ≡ in_force.daylight
+  pub name : abbreviation line.format state.offset in_force.daylight in_force.letter ≡ Some state.name
 
 -- By this rule the line's FORMAT gives no abbreviation, for this reason.
 pub record IsRefusedBy (rules : List Rule) (line : ZoneLine) (rule : Option ℕ) (reason : Kind) : Type 0 where
-  pub kept : Kept
-  pub is_kept : IsKeptBy rules line.rules rule kept
+  pub in_force : InForce
+  pub is_in_force : IsInForceBy rules line.rules rule in_force
   pub offset : ℤ
-  pub total : offset ≡ line.offset +ℤ kept.saving
-  pub refused : IsRefusal (abbreviation line.format offset kept.daylight kept.letter) reason
+  pub total : offset ≡ line.offset +ℤ in_force.saving
+  pub refused : IsRefusal (abbreviation line.format offset in_force.daylight in_force.letter) reason
 
 -- The line's standard offset is within 24 hours together with each saving of its RULES.
 abbrev pub IsInRangeOn : List Rule → ZoneLine → Type 0
@@ -119,7 +119,7 @@ abbrev pub IsSoTo : (ℤ → Shown → Type 0) → Periods → ℕ → Shown →
 IsSoTo IsSo all i state = (t : ℤ) → IsFrom (from_of all.list.items i) t → IsUpTo all i t → IsSo t state
 
 -- the changes so far, up to the period at this place, where the state `last` is shown before it: they go on with any later ones
-pub record AreKeptTo (zone : Zone) (all : Periods) (first : Shown) (i : ℕ) (last : Shown) (cs : List Change) : Type 0 where
+pub record AreChangesSoFar (zone : Zone) (all : Periods) (first : Shown) (i : ℕ) (last : Shown) (cs : List Change) : Type 0 where
   pub so : IsSoTo (ShowsNamed zone) all i last
   pub later : (rest : List Change) → AreSoFrom (ShowsNamed zone) all.end (from_of all.list.items i) last rest
       → AreSoFrom (ShowsNamed zone) all.end None first (cs ++ rest)
@@ -132,7 +132,7 @@ ShowsSomeTo zone all i = (t : ℤ) → IsUpTo all i t → (state : Shown) × Sho
 abbrev pub ShowsSomeBefore : Zone → ℤ → Type 0
 ShowsSomeBefore zone end = (t : ℤ) → t <ℤ end → (state : Shown) × Shows zone t state
 
--- the states and changes that a timeline keeps
+-- the states and changes of a timeline
 pub record IsTimeline (zone : Zone) (end : ℤ) (first : Shown) (cs : List Change) : Type 0 where
   pub is_zone : zone.number < length zone.source.zones
   pub sound : IsSound zone

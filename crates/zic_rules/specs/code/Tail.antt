@@ -48,7 +48,7 @@ pub record HasTailRules (zone : Zone) (tails : List TailRule) : Type 0 where
   pub is_last : IsLastLine zone number line
   pub rules : AreTailRules zone.source.rules line (continuing zone.source.rules (numbers_of zone.source.rules line.rules)) tails
 
--- all that a timeline keeps
-pub record IsKept (zone : Zone) (end : ℤ) (first : Shown) (cs : List Change) (tails : List TailRule) : Type 0 where
+-- all fields of a timeline
+pub record IsTimelineAndTail (zone : Zone) (end : ℤ) (first : Shown) (cs : List Change) (tails : List TailRule) : Type 0 where
   pub before_end : IsTimeline zone end first cs
   pub tail : HasTailRules zone tails

@@ -5,6 +5,6 @@ use Rattle.zic_slots.specs.Slots.{Says}
 use Rattle.zic_slots.specs.declared.table.Known.{Known}
 use Rattle.zic_tzif.specs.Content.{Content}
 
--- The number is right at each of the instants, or says nothing.
+-- The number is right at each of the instants, or unknown.
 pub record IsKnown (content : Content) (numbers : List ℕ) (known : Known) : Type 0 where
   pub says : (t : ℤ) → Includes known.instants t → Says content numbers t known.number

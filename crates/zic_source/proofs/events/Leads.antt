@@ -43,20 +43,20 @@ end_leads source closed before is = end_read before source is closed
 -- These are the events that are left, and those before them lead to the new source.
 pub record IsSoFar (old : SourceLines) (events rest : List Event) (now : SourceLines) : Type 0 where
   pub done : List Event
-  pub stands : events ≡ done ++ rest
+  pub located : events ≡ done ++ rest
   pub leads : Leads old done now
 
 pub so_far_begins : (old : SourceLines) (events : List Event) → IsSoFar old events events old
-so_far_begins old events = record { done = []; stands = refl; leads = leads_none old }
+so_far_begins old events = record { done = []; located = refl; leads = leads_none old }
 
 pub so_far_ends : (old : SourceLines) (events rest : List Event) (now : SourceLines) → rest ≡ [] → IsSoFar old events rest now → Leads old events now
-so_far_ends old events rest now none is = subst (λ (es : List Event). Leads old es now) (sym (is.stands ∙ ap (λ (es : List Event). is.done ++ es) none ∙ append-nil is.done)) is.leads
+so_far_ends old events rest now none is = subst (λ (es : List Event). Leads old es now) (sym (is.located ∙ ap (λ (es : List Event). is.done ++ es) none ∙ append-nil is.done)) is.leads
 
 module _ (old : SourceLines) (events first then : List Event) (now : SourceLines) (is : IsSoFar old events (first ++ then) now) where
   pub so_far_on : (next : SourceLines) → Leads now first next → IsSoFar old events then next
   so_far_on next leads = record {
     done = is.done ++ first;
-    stands = is.stands ∙ sym (append_assoc is.done first then);
+    located = is.located ∙ sym (append_assoc is.done first then);
     leads = leads_on old now next is.done first is.leads leads;
   }
 
@@ -64,7 +64,7 @@ module _ (old : SourceLines) (events first then : List Event) (now : SourceLines
   met_in source event met = record {
     before = is.done ++ met.before;
     after = met.after ++ then;
-    stands = is.stands ∙ ap (λ (es : List Event). is.done ++ (es ++ then)) met.stands ∙ ap (λ (es : List Event). is.done ++ es) (append_assoc met.before (event ∷ met.after) then)
+    located = is.located ∙ ap (λ (es : List Event). is.done ++ (es ++ then)) met.located ∙ ap (λ (es : List Event). is.done ++ es) (append_assoc met.before (event ∷ met.after) then)
         ∙ sym (append_assoc is.done met.before (event ∷ (met.after ++ then)));
     leads = leads_on old now source is.done met.before is.leads met.leads;
   }
@@ -76,7 +76,7 @@ module _ (old : SourceLines) (events first then : List Event) (now : SourceLines
   wants_in (source, line, met, short) = (source, line, met_in source (Line line) met, short)
 
 met_now : (source : SourceLines) (event : Event) → IsMet source (event ∷ []) source event
-met_now source event = record { before = []; after = []; stands = refl; leads = leads_none source }
+met_now source event = record { before = []; after = []; located = refl; leads = leads_none source }
 
 pub fails_now : (source : SourceLines) (event : Event) (fault : Fault) → Fails source event fault → FailsIn source (event ∷ []) fault
 fails_now source event fault fails = (source, event, met_now source event, fails)

@@ -96,7 +96,7 @@ module _ (old now : SourceLines) (events : List Event) (texts : List (List ℕ))
 
 module _ (texts : List (List ℕ)) where
   reached : (source : SourceLines) (event : Event) → IsMet no_lines (events_of texts) source event → IsReached texts source event
-  reached source event met = record { before = met.before; after = met.after; stands = met.stands; read = met.leads [] none_read }
+  reached source event met = record { before = met.before; after = met.after; located = met.located; read = met.leads [] none_read }
 
   pub all_read : (source : SourceLines) → Leads no_lines (events_of texts) source → IsReadable texts source
   all_read source leads = leads [] none_read

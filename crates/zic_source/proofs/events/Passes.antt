@@ -41,9 +41,9 @@ line_passes bytes is = rw (le-leb (length bytes) LONGEST_LINE is.short, is.ascii
 -- a line whose fields fail fails
 pub fields_fail : (bytes : List ℕ) (taken : List (List ℕ)) (awaited follows : Bool) (kind : Kind) → IsLine bytes → taken ≡ fields bytes → awaited ≡ follows
     → first_failed (field_checks awaited taken) ≡ Some kind → first_failed (line_checks follows bytes) ≡ Some kind
-fields_fail bytes taken awaited follows kind is same asked e =
+fields_fail bytes taken awaited follows kind is same requested e =
     passes_before (byte_checks bytes) (field_checks follows (fields bytes)) (line_passes bytes is)
-    ∙ sym (ap (λ (fs : List (List ℕ)). first_failed (field_checks awaited fs)) same ∙ ap (λ (b : Bool). first_failed (field_checks b (fields bytes))) asked) ∙ e
+    ∙ sym (ap (λ (fs : List (List ℕ)). first_failed (field_checks awaited fs)) same ∙ ap (λ (b : Bool). first_failed (field_checks b (fields bytes))) requested) ∙ e
 
 -- ---- the checks of an entry
 

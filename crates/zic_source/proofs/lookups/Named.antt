@@ -91,38 +91,38 @@ nobody_found None b tells off = refl
 nobody_found (Some one) b tells off = absurd cc
 
 -- what was told of names is told after a new name
-module _ (f g : List ℕ → Option Owner) (name : List ℕ) (one : Owner) (fresh : is_some (f name) ≡ false) (told : (other : List ℕ) → g other ≡ cond (bytes_eq name other) (Some one) (f other)) where
-  told_new : g name ≡ Some one
-  told_new = told name ∙ ap (λ (b : Bool). cond b (Some one) (f name)) (bytes_eq_itself name)
+module _ (f g : List ℕ → Option Owner) (name : List ℕ) (one : Owner) (fresh : is_some (f name) ≡ false) (facts : (other : List ℕ) → g other ≡ cond (bytes_eq name other) (Some one) (f other)) where
+  named_new : g name ≡ Some one
+  named_new = facts name ∙ ap (λ (b : Bool). cond b (Some one) (f name)) (bytes_eq_itself name)
 
-  told_by : (other : List ℕ) (who : Owner) → f other ≡ Some who → (b : Bool) → bytes_eq name other ≡ b → cond b (Some one) (f other) ≡ Some who
-  told_by other who e true same = absurd (
+  named_by : (other : List ℕ) (who : Owner) → f other ≡ Some who → (b : Bool) → bytes_eq name other ≡ b → cond b (Some one) (f other) ≡ Some who
+  named_by other who e true same = absurd (
       let some : is_some (f name) ≡ true = ap (λ (l : List ℕ). is_some (f l)) (bytes_eq_means name other same) ∙ ap (λ (o : Option Owner). is_some o) e in cc)
-  told_by other who e false same = e
+  named_by other who e false same = e
 
-  told_still : (other : List ℕ) (who : Owner) → f other ≡ Some who → g other ≡ Some who
-  told_still other who e = told other ∙ told_by other who e (bytes_eq name other) refl
+  named_still : (other : List ℕ) (who : Owner) → f other ≡ Some who → g other ≡ Some who
+  named_still other who e = facts other ∙ named_by other who e (bytes_eq name other) refl
 
-  told_from : (other : List ℕ) (who : Owner) (b : Bool) → bytes_eq name other ≡ b → cond b (Some one) (f other) ≡ Some who → ((name ≡ other) × (one ≡ who)) ⊎ (f other ≡ Some who)
-  told_from other who true same e = inl (bytes_eq_means name other same, cc)
-  told_from other who false same e = inr e
+  named_from : (other : List ℕ) (who : Owner) (b : Bool) → bytes_eq name other ≡ b → cond b (Some one) (f other) ≡ Some who → ((name ≡ other) × (one ≡ who)) ⊎ (f other ≡ Some who)
+  named_from other who true same e = inl (bytes_eq_means name other same, cc)
+  named_from other who false same e = inr e
 
-  told_cases : (other : List ℕ) (who : Owner) → g other ≡ Some who → ((name ≡ other) × (one ≡ who)) ⊎ (f other ≡ Some who)
-  told_cases other who e = told_from other who (bytes_eq name other) refl (sym (told other) ∙ e)
+  named_cases : (other : List ℕ) (who : Owner) → g other ≡ Some who → ((name ≡ other) × (one ≡ who)) ⊎ (f other ≡ Some who)
+  named_cases other who e = named_from other who (bytes_eq name other) refl (sym (facts other) ∙ e)
 
 -- a zone's name is new
-pub zone_kept : (names names' : Owners) (source : SourceLines) (zone : ZoneLines) → IndexesNames names source → is_named source zone.name ≡ false
+pub zone_unchanged : (names names' : Owners) (source : SourceLines) (zone : ZoneLines) → IndexesNames names source → is_named source zone.name ≡ false
     → ((other : List ℕ) → who names' other ≡ cond (bytes_eq zone.name other) (Some (named.Zone (length source.zones))) (who names other))
     → IndexesNames names' (record source { zones = source.zones ++ zone ∷ [] })
-zone_kept names names' source zone is new told =
+zone_unchanged names names' source zone is new facts =
     let one : Owner = named.Zone (length source.zones) in
     let fresh : is_some (who names zone.name) ≡ false = nobody names source zone.name is ∙ new in
-    let still : (other : List ℕ) (by : Owner) → who names other ≡ Some by → who names' other ≡ Some by = told_still (who names) (who names') zone.name one fresh told in
-    let cases : (other : List ℕ) (by : Owner) → who names' other ≡ Some by → ((zone.name ≡ other) × (one ≡ by)) ⊎ (who names other ≡ Some by) = told_cases (who names) (who names') zone.name one fresh told in
+    let still : (other : List ℕ) (by : Owner) → who names other ≡ Some by → who names' other ≡ Some by = named_still (who names) (who names') zone.name one fresh facts in
+    let cases : (other : List ℕ) (by : Owner) → who names' other ≡ Some by → ((zone.name ≡ other) × (one ≡ by)) ⊎ (who names other ≡ Some by) = named_cases (who names) (who names') zone.name one fresh facts in
     record {
       zones = λ i z e. ⊎_elim
           (λ before. still z.name (named.Zone i) (is.zones i z before))
-          (λ last. ap (λ (l : ZoneLines). who names' l.name) (sym last.1) ∙ told_new (who names) (who names') zone.name one fresh told ∙ ap (λ (n : ℕ). Some (named.Zone n)) last.0)
+          (λ last. ap (λ (l : ZoneLines). who names' l.name) (sym last.1) ∙ named_new (who names) (who names') zone.name one fresh facts ∙ ap (λ (n : ℕ). Some (named.Zone n)) last.0)
           (get_push_cases source.zones zone i z e);
       links = λ i link e. still link.name (named.Link i) (is.links i link e);
       zone_has = λ i name e. ⊎_elim
@@ -136,19 +136,19 @@ zone_kept names names' source zone is new told =
     }
 
 -- a link's name is new
-pub link_kept : (names names' : Owners) (source : SourceLines) (link : Link) → IndexesNames names source → is_named source link.name ≡ false
+pub link_unchanged : (names names' : Owners) (source : SourceLines) (link : Link) → IndexesNames names source → is_named source link.name ≡ false
     → ((other : List ℕ) → who names' other ≡ cond (bytes_eq link.name other) (Some (named.Link (length source.links))) (who names other))
     → IndexesNames names' (record source { links = source.links ++ link ∷ [] })
-link_kept names names' source link is new told =
+link_unchanged names names' source link is new facts =
     let one : Owner = named.Link (length source.links) in
     let fresh : is_some (who names link.name) ≡ false = nobody names source link.name is ∙ new in
-    let still : (other : List ℕ) (by : Owner) → who names other ≡ Some by → who names' other ≡ Some by = told_still (who names) (who names') link.name one fresh told in
-    let cases : (other : List ℕ) (by : Owner) → who names' other ≡ Some by → ((link.name ≡ other) × (one ≡ by)) ⊎ (who names other ≡ Some by) = told_cases (who names) (who names') link.name one fresh told in
+    let still : (other : List ℕ) (by : Owner) → who names other ≡ Some by → who names' other ≡ Some by = named_still (who names) (who names') link.name one fresh facts in
+    let cases : (other : List ℕ) (by : Owner) → who names' other ≡ Some by → ((link.name ≡ other) × (one ≡ by)) ⊎ (who names other ≡ Some by) = named_cases (who names) (who names') link.name one fresh facts in
     record {
       zones = λ i zone e. still zone.name (named.Zone i) (is.zones i zone e);
       links = λ i l e. ⊎_elim
           (λ before. still l.name (named.Link i) (is.links i l before))
-          (λ last. ap (λ (k : Link). who names' k.name) (sym last.1) ∙ told_new (who names) (who names') link.name one fresh told ∙ ap (λ (n : ℕ). Some (named.Link n)) last.0)
+          (λ last. ap (λ (k : Link). who names' k.name) (sym last.1) ∙ named_new (who names) (who names') link.name one fresh facts ∙ ap (λ (n : ℕ). Some (named.Link n)) last.0)
           (get_push_cases source.links link i l e);
       zone_has = λ i name e. ⊎_elim
           (λ now. absurd cc)
@@ -173,8 +173,8 @@ named_there (Some x) None zone same e = absurd cc
 named_there (Some x) (Some y) zone same e = let first : x ≡ zone = cc in let names : x.name ≡ y.name = cc in (y, refl, sym names ∙ ap (λ (z : ZoneLines). z.name) first)
 
 -- a continuation line changes no name
-pub continuation_kept : (names : Owners) (source : SourceLines) (line : ZoneLine) → IndexesNames names source → IndexesNames names (record source { zones = continued source.zones line })
-continuation_kept names source line is = record {
+pub continuation_unchanged : (names : Owners) (source : SourceLines) (line : ZoneLine) → IndexesNames names source → IndexesNames names (record source { zones = continued source.zones line })
+continuation_unchanged names source line is = record {
   zones = λ i zone e. let was = named_there _ _ zone (continued_names source.zones line i) e in ap (who names) (sym was.2) ∙ is.zones i was.0 was.1;
   links = is.links;
   zone_has = λ i name e. let was = some_there _ _ (is.zone_has i name e) in let now = named_there _ _ was.0 (sym (continued_names source.zones line i)) was.1 in there_some _ _ now.0 now.1 (now.2 ∙ was.2);

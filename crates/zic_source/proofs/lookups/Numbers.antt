@@ -61,9 +61,9 @@ pub set_rules_none : (name : List ℕ) (rules : List Rule) → eqb (length (set_
 set_rules_none name rules = none_passes (is_of_set name) 0 rules
 
 -- the number of one rule more is the last of its set
-pub sets_kept : (old new : Sets) (rules : List Rule) (rule : Rule) (number : ℕ) → IndexesSets old rules → number ≡ length rules
+pub sets_unchanged : (old new : Sets) (rules : List Rule) (rule : Rule) (number : ℕ) → IndexesSets old rules → number ≡ length rules
     → ((other : List ℕ) → numbers_of new other ≡ cond (bytes_eq rule.name other) (numbers_of old other ++ number ∷ []) (numbers_of old other)) → IndexesSets new (rules ++ rule ∷ [])
-sets_kept old new rules rule number is last added = λ name.
+sets_unchanged old new rules rule number is last added = λ name.
     let at : number ≡ 0 + length rules = omega arith in
     added name
     ∙ ap (λ (b : Bool). cond b (numbers_of old name ++ number ∷ []) (numbers_of old name)) (nat_list_eq_equiv.symm rule.name name)

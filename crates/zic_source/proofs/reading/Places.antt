@@ -24,40 +24,40 @@ use Rattle.zic_source.proofs.reading.Said.{link_is_said, line_is_said}
 
 -- the first stands after this place, and each other after the one before it
 abbrev pub Rising : {X : Type 0} → (X → Place) → Place → List X → Type 0
-Rising stands place [] = Unit {0}
-Rising stands place (x ∷ xs) = IsBefore place (stands x) × Rising stands (stands x) xs
+Rising located place [] = Unit {0}
+Rising located place (x ∷ xs) = IsBefore place (located x) × Rising located (located x) xs
 
-module _ {X : Type 0} (stands : X → Place) where
-  pub rising_from : (place other : Place) (xs : List X) → IsBefore place other → Rising stands other xs → Rising stands place xs
+module _ {X : Type 0} (located : X → Place) where
+  pub rising_from : (place other : Place) (xs : List X) → IsBefore place other → Rising located other xs → Rising located place xs
   rising_from place other [] before rising = tt
-  rising_from place other (x ∷ xs) before rising = (before_before place other (stands x) before rising.0, rising.1)
+  rising_from place other (x ∷ xs) before rising = (before_before place other (located x) before rising.0, rising.1)
 
-  pub last_rising : (place : Place) (xs ys : List X) → Rising stands place (xs ++ ys) → Rising stands place ys
+  pub last_rising : (place : Place) (xs ys : List X) → Rising located place (xs ++ ys) → Rising located place ys
   last_rising place [] ys rising = rising
-  last_rising place (x ∷ xs) ys rising = rising_from place (stands x) ys rising.0 (last_rising (stands x) xs ys rising.1)
+  last_rising place (x ∷ xs) ys rising = rising_from place (located x) ys rising.0 (last_rising (located x) xs ys rising.1)
 
-  comes_after : (place : Place) (xs : List X) (x : X) → Rising stands place xs → Contains xs x → IsBefore place (stands x)
+  comes_after : (place : Place) (xs : List X) (x : X) → Rising located place xs → Contains xs x → IsBefore place (located x)
   comes_after place [] x rising has = absurd (omega (arith, has.1))
   comes_after place (own ∷ xs) x rising has = ⊎_elim
-      (λ same. subst (λ (y : X). IsBefore place (stands y)) same rising.0)
-      (λ rest. before_before place (stands own) (stands x) rising.0 (comes_after (stands own) xs x rising.1 rest))
+      (λ same. subst (λ (y : X). IsBefore place (located y)) same rising.0)
+      (λ rest. before_before place (located own) (located x) rising.0 (comes_after (located own) xs x rising.1 rest))
       (cons_cases own xs x has)
 
-  pub each_before : (place : Place) (xs : List X) → Rising stands place xs → AllPairs (λ a b. IsBefore (stands a) (stands b)) xs
+  pub each_before : (place : Place) (xs : List X) → Rising located place xs → AllPairs (λ a b. IsBefore (located a) (located b)) xs
   each_before place [] rising = λ i j d lt within. absurd (omega (arith, within))
   each_before place (x ∷ xs) rising =
-      AllPairs-cons (λ a b. IsBefore (stands a) (stands b)) x xs (all_if_each (λ y. IsBefore (stands x) (stands y)) xs (λ y has. comes_after (stands x) xs y rising.1 has)) (each_before (stands x) xs rising.1)
+      AllPairs-cons (λ a b. IsBefore (located a) (located b)) x xs (all_if_each (λ y. IsBefore (located x) (located y)) xs (λ y has. comes_after (located x) xs y rising.1 has)) (each_before (located x) xs rising.1)
 
   -- none after the first stands at its place
-  apart : (own : X) (xs : List X) (a b : X) → Rising stands (stands own) xs → own ≡ a → Contains xs b → stands a ≡ stands b → ⊥
+  apart : (own : X) (xs : List X) (a b : X) → Rising located (located own) xs → own ≡ a → Contains xs b → located a ≡ located b → ⊥
   apart own xs a b rising same has place =
-      not_before_itself (stands own) (subst (IsBefore (stands own)) (sym place ∙ ap stands (sym same)) (comes_after (stands own) xs b rising has))
+      not_before_itself (located own) (subst (IsBefore (located own)) (sym place ∙ ap located (sym same)) (comes_after (located own) xs b rising has))
 
-  one_place : (place : Place) (xs : List X) (a b : X) → Rising stands place xs → Contains xs a → Contains xs b → stands a ≡ stands b → a ≡ b
+  one_place : (place : Place) (xs : List X) (a b : X) → Rising located place xs → Contains xs a → Contains xs b → located a ≡ located b → a ≡ b
   one_place place [] a b rising has_a has_b same = absurd (omega (arith, has_a.1))
   one_place place (own ∷ xs) a b rising has_a has_b same = ⊎_elim
       (λ first. ⊎_elim (λ also. sym first ∙ also) (λ rest. absurd (apart own xs a b rising.1 first rest same)) (cons_cases own xs b has_b))
-      (λ later. ⊎_elim (λ first. absurd (apart own xs b a rising.1 first later (sym same))) (λ rest. one_place (stands own) xs a b rising.1 later rest same) (cons_cases own xs b has_b))
+      (λ later. ⊎_elim (λ first. absurd (apart own xs b a rising.1 first later (sym same))) (λ rest. one_place (located own) xs a b rising.1 later rest same) (cons_cases own xs b has_b))
       (cons_cases own xs a has_a)
 
 -- ---- entries
@@ -76,10 +76,10 @@ Rise place (Line line ∷ events) = IsBefore place line.place × Rise line.place
 Rise place (End ∷ events) = Rise place events
 
 at_line : (line : PlacedLine) (entry : Entry) → Says line (Some entry) → place_of entry ≡ line.place
-at_line line (entries.Rule rule) says = says.1.stands
-at_line line (entries.Zone name first) says = says.1.says.stands
-at_line line (entries.Continuation more) says = says.1.stands
-at_line line (entries.Link link) says = says.1.stands
+at_line line (entries.Rule rule) says = says.1.located
+at_line line (entries.Zone name first) says = says.1.says.located
+at_line line (entries.Continuation more) says = says.1.located
+at_line line (entries.Link link) says = says.1.located
 
 rise_from : (place other : Place) (events : List Event) → IsBefore place other → Rise other events → Rise place events
 rise_from place other [] before rise = tt

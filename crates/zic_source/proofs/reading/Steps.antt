@@ -34,29 +34,29 @@ pushed : {X A : Type 0} (f : X → List A) (xs : List X) (x : X) → flat_map f 
 pushed f xs x = flat_map-append f xs (x ∷ []) ∙ ap (λ (rest : List _). flat_map f xs ++ rest) (append-nil (f x))
 
 -- an entry of another kind adds nothing
-kept : {A : Type 0} (f : Entry → List A) (said : List Entry) (entry : Entry) → f entry ≡ [] → flat_map f said ≡ flat_map f (said ++ entry ∷ [])
-kept f said entry none = sym (pushed f said entry ∙ ap (λ (rest : List _). flat_map f said ++ rest) none ∙ append-nil (flat_map f said))
+unchanged : {A : Type 0} (f : Entry → List A) (said : List Entry) (entry : Entry) → f entry ≡ [] → flat_map f said ≡ flat_map f (said ++ entry ∷ [])
+unchanged f said entry none = sym (pushed f said entry ∙ ap (λ (rest : List _). flat_map f said ++ rest) none ∙ append-nil (flat_map f said))
 
 module _ (source : SourceLines) (said : List Entry) (is : IsOf source said) where
   added : (entry : Entry) → is_continuation entry ≡ is_open source → IsOf (with_entry source entry) (said ++ entry ∷ [])
   added (entries.Rule rule) next = let entry : Entry = entries.Rule rule in record {
     rules = ap (λ (rules : List Rule). rules ++ rule ∷ []) is.rules ∙ sym (pushed rules_in said entry);
-    zones = is.zones ∙ kept zone_entries_in said entry refl;
-    links = is.links ∙ kept links_in said entry refl;
+    zones = is.zones ∙ unchanged zone_entries_in said entry refl;
+    links = is.links ∙ unchanged links_in said entry refl;
   }
   added (entries.Zone name line) next = let entry : Entry = entries.Zone name line in record {
-    rules = is.rules ∙ kept rules_in said entry refl;
+    rules = is.rules ∙ unchanged rules_in said entry refl;
     zones = pushed entries_of_zone source.zones (record { name = name; first = line; continuations = [] }) ∙ ap (λ (es : List Entry). es ++ entry ∷ []) is.zones ∙ sym (pushed zone_entries_in said entry);
-    links = is.links ∙ kept links_in said entry refl;
+    links = is.links ∙ unchanged links_in said entry refl;
   }
   added (entries.Continuation line) next = let entry : Entry = entries.Continuation line in record {
-    rules = is.rules ∙ kept rules_in said entry refl;
+    rules = is.rules ∙ unchanged rules_in said entry refl;
     zones = open_continued source.zones line next ∙ ap (λ (es : List Entry). es ++ entry ∷ []) is.zones ∙ sym (pushed zone_entries_in said entry);
-    links = is.links ∙ kept links_in said entry refl;
+    links = is.links ∙ unchanged links_in said entry refl;
   }
   added (entries.Link link) next = let entry : Entry = entries.Link link in record {
-    rules = is.rules ∙ kept rules_in said entry refl;
-    zones = is.zones ∙ kept zone_entries_in said entry refl;
+    rules = is.rules ∙ unchanged rules_in said entry refl;
+    zones = is.zones ∙ unchanged zone_entries_in said entry refl;
     links = ap (λ (links : List Link). links ++ link ∷ []) is.links ∙ sym (pushed links_in said entry);
   }
 

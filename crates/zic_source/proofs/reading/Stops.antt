@@ -106,7 +106,7 @@ module _ (texts : List (List ℕ)) where
   from_event before [] source are is = inl (source, subst (λ (es : List Event). IsRead es source) (sym (are ∙ append-nil before)) is)
   from_event before (event ∷ after) source are is = ⊎_elim
       (λ goes. from_event (before ++ event ∷ []) after goes.0 (are ∙ sym (append_assoc before (event ∷ []) after)) goes.1)
-      (λ fails. inr (fails.0, record { source = source; event = event; reached = record { before = before; after = after; stands = are; read = is }; fails = fails.1 }))
+      (λ fails. inr (fails.0, record { source = source; event = event; reached = record { before = before; after = after; located = are; read = is }; fails = fails.1 }))
       (event_goes before source is event)
 
   pub read_or_stops : ((total : SourceLines) × IsReadable texts total) ⊎ ((fault : Fault) × IsReadingFault texts fault)
@@ -117,7 +117,7 @@ module _ (texts : List (List ℕ)) where
 pub read_never_stops : (texts : List (List ℕ)) (total : SourceLines) (fault : Fault) → IsReadable texts total → IsReadingFault texts fault → ⊥
 read_never_stops texts total fault is stops =
     let at = stops.reached in
-    read_passes at.before stops.event at.after stops.source total fault at.read (subst (λ (es : List Event). IsRead es total) at.stands is) stops.fails
+    read_passes at.before stops.event at.after stops.source total fault at.read (subst (λ (es : List Event). IsRead es total) at.located is) stops.fails
 
 -- one list, cut at two places
 abbrev AtOne : List Event → Event → List Event → Event → Type 0
@@ -154,4 +154,4 @@ stops_once texts one other a b =
     (λ (between, is). read_passes at.before a.event between a.source b.source one at.read (subst (λ (es : List Event). IsRead es b.source) is at'.read) a.fails)
     (λ (between, is). read_passes at'.before b.event between b.source a.source other at'.read (subst (λ (es : List Event). IsRead es a.source) is at.read) b.fails)
     apart))
-    (two_cuts at.before a.event at.after at'.before b.event at'.after (sym at.stands ∙ at'.stands))
+    (two_cuts at.before a.event at.after at'.before b.event at'.after (sym at.located ∙ at'.located))

@@ -8,7 +8,7 @@ use Rattle.zic_lines.specs.declared.entry.Entry.TheVariants as entries
 use Rattle.zic_lines.specs.Entry.{links_in, zone_entries_in}
 use Rattle.zic_source.specs.Event.{events_of}
 use Rattle.zic_source.specs.Source.{SourceLines, ZoneLines, lines_of_zone, zone_lines_of, entries_of_zone}
-use Rattle.zic_source.specs.Sound.{StandInOrder}
+use Rattle.zic_source.specs.Sound.{AreInOrder}
 use Rattle.zic_base.proofs.Elements.{all_if_each, first_contained, into_flat_map}
 use Rattle.zic_source.proofs.reading.Places.{Rising, rising_from, last_rising, each_before, place_of, before_all, said_rises, no_link}
 use Rattle.zic_source.proofs.reading.Read.{entries_of, Read}
@@ -50,8 +50,8 @@ module _ (texts : List (List ℕ)) (source : SourceLines) (read : Read (events_o
       let at : Contains (zone_lines_of source) zone.first = into_flat_map lines_of_zone source.zones zone zone.first has (first_contained zone.first zone.continuations) in
       all_if_each (λ link. zone.first.place ≢ link.place) source.links (λ link has_link. no_link texts source read zone.first link at has_link)
 
-  pub stand_in_order : StandInOrder source
-  stand_in_order = record {
+  pub are_in_order : AreInOrder source
+  are_in_order = record {
     zones = each_before zone_place before_all source.zones zones_in_order;
     links = each_before link_place before_all source.links links_in_order;
     apart = all_if_each (λ zone. All (λ link. zone.first.place ≢ link.place) source.links) source.zones apart_from_links;

@@ -20,7 +20,7 @@ use Rattle.zic_source.proofs.reading.Limits.{OfSet, Rules, Lines, Names, OfName,
 use Rattle.zic_source.proofs.reading.Read.{entries_of, Read, is_read}
 use Rattle.zic_source.proofs.reading.Said.{IsSaid, is_said, rule_is_said, link_is_said, line_is_said, zone_is_said}
 use Rattle.zic_source.proofs.sound.Lines.{rule_sound, line_sound}
-use Rattle.zic_source.proofs.sound.InOrder.{stand_in_order}
+use Rattle.zic_source.proofs.sound.InOrder.{are_in_order}
 use Rattle.zic_source.proofs.sound.Untils.{Follow, texts_closed, zones_follow, have_untils}
 
 -- ---- names
@@ -90,5 +90,5 @@ module _ (texts : List (List ℕ)) (source : SourceLines) (is : IsSource texts s
     few_rules = read.within Rules;
     few_zone_lines = read.within Lines;
     few_names = read.within Names;
-    in_order = stand_in_order texts source read;
+    in_order = are_in_order texts source read;
   }

@@ -25,7 +25,7 @@ Leads old events new = (before : List Event) → IsRead before old → IsRead (b
 pub record IsMet (old : SourceLines) (events : List Event) (source : SourceLines) (event : Event) : Type 0 where
   pub before : List Event
   pub after : List Event
-  pub stands : events ≡ before ++ event ∷ after
+  pub located : events ≡ before ++ event ∷ after
   pub leads : Leads old before source
 
 -- one of these events has this fault

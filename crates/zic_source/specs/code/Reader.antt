@@ -1,4 +1,4 @@
--- The state that the code keeps beside the lines that it has read.
+-- The state of the reader beside the lines that it has read.
 use Rattle.std.specs.Prelude.{◌≡◌, length}
 use Rattle.zic_source.specs.declared.reader.Reader.{Reader}
 use Rattle.zic_source.specs.Source.{zone_lines_of}

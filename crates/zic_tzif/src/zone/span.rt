@@ -22,7 +22,7 @@ impl Zone {
     /// last transition of all on they end at edges of the footer too; where there is none, they
     /// have no end. Takes a binary search.
     pub fn span(&self, t: i64) -> AnswerSpan<'_>
-        ensures asked { Includes result.instants t }
+        ensures requested { Includes result.instants t }
         ensures answers { AnswersThroughout self.now result.instants (answered result.answer) }
         ensures changes { AreBetween (MayChangeAt self.now) result.instants }
         ensures number { IsAnswerOfNumber self.now result.number (answered result.answer) }

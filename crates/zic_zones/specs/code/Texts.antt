@@ -14,6 +14,6 @@ pub record Keeps {X : Type 0} (old new : List X) : Type 0 where
 abbrev pub IsText : List Shown → ℕ → Shown → Type 0
 IsText texts n text = (n ≢ UNKNOWN) × (slice_get texts n ≡ Some text)
 
--- Numbers of the texts of a zone's states, or that say nothing.
+-- Numbers of the texts of a zone's states, or unknown.
 pub record AreNumbersOf (content : Content) (texts : List Shown) (numbers : List ℕ) : Type 0 where
   pub each : (number n : ℕ) → slice_get numbers number ≡ Some n → HasState texts n (IsStateOfNumber content number)

@@ -9,6 +9,6 @@ loop-i-preserved c =
     let next = c.next-last in
     let fits : FitsSigned w32 next.result.offset = search rules in
     let timely : FitsSigned w64 (get_or c.args.instants.now l.i (pos 0)) = search rules in
-    let asked = simp to_z-of_z at next.ensures.asked in
-    let told = next.ensures.kept _ asked in
-    (next.ensures.all, next.ensures.kept, rw (to_z-of_z fits) (written-next (IsOffsetAt c.args.zone.now) (AreFlagsAt c.args.zone.now) _ _ _ l.i (pos 0) next.result.offset next.result.flags (search rules) told.offset told.flags l.invariant.2))
+    let requested = simp to_z-of_z at next.ensures.requested in
+    let reported = next.ensures.cached _ requested in
+    (next.ensures.all, next.ensures.cached, rw (to_z-of_z fits) (written-next (IsOffsetAt c.args.zone.now) (AreFlagsAt c.args.zone.now) _ _ _ l.i (pos 0) next.result.offset next.result.flags (search rules) reported.offset reported.flags l.invariant.2))

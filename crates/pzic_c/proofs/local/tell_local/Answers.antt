@@ -6,4 +6,4 @@ pub returns : goal.returns
 returns c =
     let inside : IsInRange c.args.local = search rules in
     let fits : FitsSigned w32 c.status_of.result = search rules in
-    rw (to_z-of_z fits) (inl (inside, (c.instants-told.result, simp (to_z-of_z, c.ranges.local) at c.instants-told.ensures, c.status_of.ensures, c.new.ensures)))
+    rw (to_z-of_z fits) (inl (inside, (c.instants-reported.result, simp (to_z-of_z, c.ranges.local) at c.instants-reported.ensures, c.status_of.ensures, c.new.ensures)))

@@ -11,14 +11,14 @@ pub loop-span-init : goal.loop-span-init
 loop-span-init c =
     let f = to_z-of_z c.ranges.first in
     let span = c.span-span.result.instants in
-    let asked = subst (λ (z : ℤ). Includes span z) f c.span-span.ensures.asked in
-    let from = asked.from in
-    let to = asked.to in
+    let requested = subst (λ (z : ℤ). Includes span z) f c.span-span.ensures.requested in
+    let from = requested.from in
+    let to = requested.to in
     rw f (record {
       reached = to;
       some = omega (arith, ints, from, to);
       answers = c.span-span.ensures.answers;
-      same = first_span c.args.zone.now span (answered c.span-span.result.answer) c.args.first c.span-span.ensures.answers asked;
+      same = first_span c.args.zone.now span (answered c.span-span.result.answer) c.args.first c.span-span.ensures.answers requested;
       fits = search rules;
     })
 
@@ -33,7 +33,7 @@ returns-then-not-are_same c =
     let next = next_second old c.args.last inv.fits c.ranges.last (omega (arith, ints, test)) in
     let reached = inv.reached in
     let some = inv.some in
-    let here = subst (λ (z : ℤ). Includes c.span-next.result.instants z) next c.span-next.ensures.asked in
+    let here = subst (λ (z : ℤ). Includes c.span-next.result.instants z) next c.span-next.ensures.requested in
     let before : Includes c.loop-span.span.instants ((old +ℤ pos 1) -ℤ pos 1) = record { from = omega (arith, ints, some); to = omega (arith, ints) } in
     let differ : (answered c.loop-span.span.answer ≡ answered c.span-next.result.answer) → ⊥ = search rules in
     let end : old ≡ (old +ℤ pos 1) -ℤ pos 1 = omega (arith, ints) in
@@ -54,7 +54,7 @@ loop-span-smaller c =
     let l = to_z-of_z c.ranges.last in
     let test = c.loop-span-test.true in
     let next = next_second old c.args.last inv.fits c.ranges.last (omega (arith, ints, test)) in
-    let to = c.span-next.ensures.asked.to in
+    let to = c.span-next.ensures.requested.to in
     smaller (to_z w64 (of_z w64 c.args.last)) old c.span-next.result.instants.last (omega (arith, ints, test, l, e)) (omega (arith, ints, to, next))
 
 pub loop-span-preserved : goal.loop-span-preserved
@@ -63,7 +63,7 @@ loop-span-preserved c =
     let old = c.loop-span.span.instants.last in
     let test = c.loop-span-test.true in
     let next = next_second old c.args.last inv.fits c.ranges.last (omega (arith, ints, test)) in
-    let here = subst (λ (z : ℤ). Includes c.span-next.result.instants z) next c.span-next.ensures.asked in
+    let here = subst (λ (z : ℤ). Includes c.span-next.result.instants z) next c.span-next.ensures.requested in
     let from = here.from in
     let to = here.to in
     let reached = inv.reached in

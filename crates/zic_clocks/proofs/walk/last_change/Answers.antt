@@ -10,14 +10,14 @@ pub loop-span-init : goal.loop-span-init
 loop-span-init c =
     let l = to_z-of_z c.ranges.last in
     let span = c.span-span.result.instants in
-    let asked = subst (λ (z : ℤ). Includes span z) l c.span-span.ensures.asked in
-    let from = asked.from in
-    let to = asked.to in
+    let requested = subst (λ (z : ℤ). Includes span z) l c.span-span.ensures.requested in
+    let from = requested.from in
+    let to = requested.to in
     rw l (record {
       reached = from;
       some = omega (arith, ints, from, to);
       answers = c.span-span.ensures.answers;
-      same = last_span c.args.zone.now span (answered c.span-span.result.answer) c.args.last c.span-span.ensures.answers asked;
+      same = last_span c.args.zone.now span (answered c.span-span.result.answer) c.args.last c.span-span.ensures.answers requested;
       fits = search rules;
     })
 
@@ -32,7 +32,7 @@ returns-then-not-are_same c =
     let previous = second_before old c.args.first inv.fits c.ranges.first (omega (arith, ints, test)) in
     let reached = inv.reached in
     let some = inv.some in
-    let before = subst (λ (z : ℤ). Includes c.span-before.result.instants z) previous c.span-before.ensures.asked in
+    let before = subst (λ (z : ℤ). Includes c.span-before.result.instants z) previous c.span-before.ensures.requested in
     let here : Includes c.loop-span.span.instants old = record { from = omega (arith, ints); to = some } in
     let differ : (answered c.span-before.result.answer ≡ answered c.loop-span.span.answer) → ⊥ = search rules in
     let same = subst (λ (z : ℤ). StaysSame c.args.zone.now old z) l inv.same in
@@ -52,7 +52,7 @@ loop-span-smaller c =
     let f = to_z-of_z c.ranges.first in
     let test = c.loop-span-test.true in
     let previous = second_before old c.args.first inv.fits c.ranges.first (omega (arith, ints, test)) in
-    let from = c.span-before.ensures.asked.from in
+    let from = c.span-before.ensures.requested.from in
     nearer (to_z w64 (of_z w64 c.args.first)) old c.span-before.result.instants.first (omega (arith, ints, test, f, e)) (omega (arith, ints, from, previous))
 
 pub loop-span-preserved : goal.loop-span-preserved
@@ -61,7 +61,7 @@ loop-span-preserved c =
     let old = c.loop-span.span.instants.first in
     let test = c.loop-span-test.true in
     let previous = second_before old c.args.first inv.fits c.ranges.first (omega (arith, ints, test)) in
-    let before = subst (λ (z : ℤ). Includes c.span-before.result.instants z) previous c.span-before.ensures.asked in
+    let before = subst (λ (z : ℤ). Includes c.span-before.result.instants z) previous c.span-before.ensures.requested in
     let from = before.from in
     let to = before.to in
     let reached = inv.reached in

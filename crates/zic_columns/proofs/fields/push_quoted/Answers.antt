@@ -11,7 +11,7 @@ returns-in_default c =
     let loop = c.loop-byte.invariant in
     let after = c.after_line_ends-rest in
     let text = text_after c.args.bytes.now after.result.now loop.0 c.loop-byte.byte-index after.ensures
-    (record { within = omega arith; stands = c.loop-byte.stands; spells = loop.2; ends = inr c.in_default.ensures }) in
+    (record { within = omega arith; place_now = c.loop-byte.place_now; spells = loop.2; ends = inr c.in_default.ensures }) in
     loop.1 ∙ ap (λ (t : List ℕ). c.args.text.now.items ++ t) (sym text)
 
 pub loop-byte-preserved : goal.loop-byte-preserved
@@ -26,15 +26,15 @@ loop-byte-preserved c =
       | then-read+in_ok-push w ↦ rw (w.text-is, w.if-read.true) w.in_ok-push.ensures.items
       | else-read w ↦ rw (w.text-is, w.if-read.false) (sym (append-nil c.loop-byte.text.items))
     ] in
-    let stands : read.next ≡ c.if-read.stands = elim c.if-read.branch [
-      | then-read+in_ok-push w ↦ sym w.stands-is
-      | else-read w ↦ sym w.stands-is
+    let place_now : read.next ≡ c.if-read.place_now = elim c.if-read.branch [
+      | then-read+in_ok-push w ↦ sym w.place_now-is
+      | else-read w ↦ sym w.place_now-is
     ] in (
       loop.0 ++ more,
       items ∙ ap (λ (t : List ℕ). t ++ more) loop.1 ∙ append_assoc c.args.text.now.items loop.0 more,
-      subst (λ (p : Place). Spells (take (index + 1) rest) (loop.0 ++ more) p) stands
+      subst (λ (p : Place). Spells (take (index + 1) rest) (loop.0 ++ more) p) place_now
           (subst (λ (b : List ℕ). Spells b (loop.0 ++ more) read.next) (sym (take_more rest index 0 c.loop-byte-test.true))
-          (spells_byte (take index rest) loop.0 c.loop-byte.stands byte read loop.2 c.in-Some.ensures)),
+          (spells_byte (take index rest) loop.0 c.loop-byte.place_now byte read loop.2 c.in-Some.ensures)),
     )
 
 pub returns : goal.returns
@@ -43,5 +43,5 @@ returns c =
     let after = c.after_line_ends-rest in
     let all : c.loop-byte.byte-index ≡ length after.result.now = omega arith in
     let text = text_after c.args.bytes.now after.result.now loop.0 c.loop-byte.byte-index after.ensures
-    (record { within = omega arith; stands = c.loop-byte.stands; spells = loop.2; ends = inl all }) in
+    (record { within = omega arith; place_now = c.loop-byte.place_now; spells = loop.2; ends = inl all }) in
     loop.1 ∙ ap (λ (t : List ℕ). c.args.text.now.items ++ t) (sym text)

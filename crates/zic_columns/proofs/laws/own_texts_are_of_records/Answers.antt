@@ -1,4 +1,4 @@
-use Rattle.zic_columns.proofs.Wholes.{wholes_fields, wholes_owns}
+use Rattle.zic_columns.proofs.PieceRecords.{wholes_fields, wholes_owns}
 use Rattle.zic_columns.proofs.laws.own_texts_are_of_records.Goals as goal
 
 pub returns : goal.returns

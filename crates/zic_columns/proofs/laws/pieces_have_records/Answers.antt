@@ -1,4 +1,4 @@
-use Rattle.zic_columns.proofs.Wholes.{pieces_fields}
+use Rattle.zic_columns.proofs.PieceRecords.{pieces_fields}
 use Rattle.zic_columns.proofs.laws.pieces_have_records.Goals as goal
 
 pub returns : goal.returns

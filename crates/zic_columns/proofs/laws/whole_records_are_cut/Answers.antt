@@ -1,4 +1,4 @@
-use Rattle.zic_columns.proofs.Wholes.{wholes_cut}
+use Rattle.zic_columns.proofs.PieceRecords.{wholes_cut}
 use Rattle.zic_columns.proofs.laws.whole_records_are_cut.Goals as goal
 
 pub returns : goal.returns

@@ -10,7 +10,7 @@ loop-index-init c = ([], spells_none)
 pub returns-in-None : goal.returns-in-None
 returns-in-None c =
     let loop = c.loop-index.invariant in
-    (loop.0, record { within = omega arith; stands = c.loop-index.stands; spells = loop.1; ends = inr c.in-None.ensures })
+    (loop.0, record { within = omega arith; place_now = c.loop-index.place_now; spells = loop.1; ends = inr c.in-None.ensures })
 
 pub loop-index-preserved : goal.loop-index-preserved
 loop-index-preserved c =
@@ -21,7 +21,7 @@ loop-index-preserved c =
     let read = c.in-Some.read in (
       loop.0 ++ text_of byte read.is_text,
       subst (λ (b : List ℕ). Spells b (loop.0 ++ text_of byte read.is_text) read.next) (sym (take_more bytes index 0 c.loop-index-test.true))
-          (spells_byte (take index bytes) loop.0 c.loop-index.stands byte read loop.1 c.in-Some.ensures),
+          (spells_byte (take index bytes) loop.0 c.loop-index.place_now byte read loop.1 c.in-Some.ensures),
     )
 
 pub returns : goal.returns
@@ -29,4 +29,4 @@ returns c =
     let bytes = c.args.bytes.now in
     let loop = c.loop-index.invariant in
     let all : c.loop-index.index ≡ length bytes = omega arith in
-    (loop.0, record { within = omega arith; stands = c.loop-index.stands; spells = subst (λ (n : ℕ). Spells (take n bytes) loop.0 c.loop-index.stands) all loop.1; ends = inl refl })
+    (loop.0, record { within = omega arith; place_now = c.loop-index.place_now; spells = subst (λ (n : ℕ). Spells (take n bytes) loop.0 c.loop-index.place_now) all loop.1; ends = inl refl })

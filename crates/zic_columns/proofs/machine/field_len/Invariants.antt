@@ -4,4 +4,4 @@ use Rattle.zic_columns.proofs.machine.field_len.Given as goal
 
 -- the bytes before the index spell a text
 abbrev pub invariant-loop-index : goal.invariant-loop-index
-invariant-loop-index l = (text : List ℕ) × Spells (take l.index l.bytes) text l.stands
+invariant-loop-index l = (text : List ℕ) × Spells (take l.index l.bytes) text l.place_now

@@ -13,7 +13,7 @@ returns-in-None c =
     let index = c.loop-index.index in
     let byte = get_or bytes index 0 in
     let s = state_at c.args.place in
-    let t = state_at c.loop-index.stands in
+    let t = state_at c.loop-index.place_now in
     record {
       some = omega arith;
       within = omega (arith, c.loop-index-test.true);
@@ -26,11 +26,11 @@ loop-index-preserved c =
     let index = c.loop-index.index in
     let byte = get_or bytes index 0 in
     let s = state_at c.args.place in
-    let t = state_at c.loop-index.stands in
+    let t = state_at c.loop-index.place_now in
     let u = state_at c.in-Some.next in
     subst (λ (b : List ℕ). ReadsTo s b u) (sym (take_more bytes index 0 c.loop-index-test.true)) (reads_both s t u (take index bytes) (byte ∷ []) c.loop-index.invariant (reads_byte t u byte c.in-Some.ensures))
 
 pub returns : goal.returns
 returns c =
     let bytes = c.args.bytes.now in
-    subst (λ (b : List ℕ). ReadsTo (state_at c.args.place) b (state_at c.loop-index.stands)) (take_all c.loop-index.index bytes c.loop-index-test.false) c.loop-index.invariant
+    subst (λ (b : List ℕ). ReadsTo (state_at c.args.place) b (state_at c.loop-index.place_now)) (take_all c.loop-index.index bytes c.loop-index-test.false) c.loop-index.invariant

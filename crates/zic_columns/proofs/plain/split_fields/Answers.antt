@@ -30,7 +30,7 @@ returns-then-piece-end-ne44 c =
     subst (IsPlainFrom piece start c.args.wanted c.next_end.new.self) (sym c.record_of.ensures) (record {
       from = record_out piece start c.args.wanted (record_of start start c.loop-end.fields) at walked (field_to at stop) found c.requires.begins
           (record_of start stop more.result) refl
-          (record { count = has.count; zone_stands = has.zone_stands; zone = has.zone; time_stands = has.time_stands; time = has.time })
+          (record { count = has.count; zone_within = has.zone_within; zone = has.zone; time_within = has.time_within; time = has.time })
           (inr (next.within, other));
       ended = record {
         within = next.within;

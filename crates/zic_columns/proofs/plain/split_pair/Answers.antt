@@ -30,7 +30,7 @@ returns-clause-some c =
     record {
       from = record_out piece start wanted (record_of start start c.with_span-zone.result) (comma + 1) walked (field_to (comma + 1) stop) found c.requires.begins
           (record_of start stop c.with_span.result) refl
-          (record { count = both.count; zone_stands = both.zone_stands; zone = both.zone; time_stands = both.time_stands; time = both.time })
+          (record { count = both.count; zone_within = both.zone_within; zone = both.zone; time_within = both.time_within; time = both.time })
           (inr (last.within, other));
       ended = record {
         within = last.within;

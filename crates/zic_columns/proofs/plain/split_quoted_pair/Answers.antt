@@ -28,7 +28,7 @@ returns-clause-from c =
     let other : (get_or piece time.stop 0 == 44) ≡ false = ne_eqb (get_or piece time.stop 0) 44 c.if-piece-time-eq44.false in
     record_out piece start wanted (record_of start start c.with_span-first.result) (zone.stop + 1) walked (quoted_field time) found c.requires.begins
     (record_of start time.stop c.with_span.result) refl
-    (record { count = both.count; zone_stands = both.zone_stands; zone = both.zone; time_stands = both.time_stands; time = both.time })
+    (record { count = both.count; zone_within = both.zone_within; zone = both.zone; time_within = both.time_within; time = both.time })
     (inr (omega (arith, found.high, c.if-time-piece.false), other))
 
 pub returns-clause-ended : goal.returns-clause-ended

@@ -23,7 +23,7 @@ returns-then-found-piece c =
     ] in
     record_out piece start c.args.wanted c.loop-wanted.given c.loop-wanted.at walked found.result found.ensures c.requires.begins _
     (ap (span_to stop) (ap (λ (o : Span). o.start) more.ensures.own ∙ walked.own))
-    (record { count = has.count; zone_stands = has.zone_stands; zone = has.zone; time_stands = has.time_stands; time = has.time })
+    (record { count = has.count; zone_within = has.zone_within; zone = has.zone; time_within = has.time_within; time = has.time })
     out
 
 pub loop-wanted-preserved : goal.loop-wanted-preserved

@@ -1,4 +1,4 @@
-use Rattle.std.proofs.Common.{◌≡◌, ◌≢◌, ℤ, pos, ◌+ℤ◌, ◌<ℤ◌, ◌≤ℤ◌, List, [], to_z, of_z, to_z-of_z, w64, FitsSigned, sym, subst, ◌∙◌, refl, arith, rules}
+use Rattle.std.proofs.Common.{◌≡◌, ℤ, pos, ◌+ℤ◌, ◌<ℤ◌, ◌≤ℤ◌, List, to_z, of_z, to_z-of_z, w64, FitsSigned, sym, subst, ◌∙◌, arith, rules}
 use Rattle.std.proofs.lemmas.Int.{ints}
 use Rattle.zic_compare.specs.Answers.{pair}
 use Rattle.zic_compare.specs.code.Run.{AreBefore, Closes, HasAnswersOf, IsRun, up_to}

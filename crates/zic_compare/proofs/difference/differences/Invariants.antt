@@ -1,4 +1,4 @@
-use Rattle.std.proofs.Common.{ℤ, pos, ◌-ℤ◌, unsigned_abs, FitsSigned, w64}
+use Rattle.std.proofs.Common.{pos, ◌-ℤ◌, unsigned_abs, FitsSigned, w64}
 use Rattle.std.specs.Int.{int_max}
 use Rattle.zic_compare.specs.Answers.{pair}
 use Rattle.zic_compare.specs.code.Run.{AreBefore, IsRun}

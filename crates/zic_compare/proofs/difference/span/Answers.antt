@@ -1,4 +1,4 @@
-use Rattle.std.proofs.Common.{◌≡◌, ℤ, ◌≤ℤ◌, to_z, of_z, to_z-of_z, w64, FitsSigned, arith, rules}
+use Rattle.std.proofs.Common.{to_z-of_z, w64, FitsSigned, arith, rules}
 use Rattle.std.proofs.lemmas.Int.{ints, clamps}
 use Rattle.zic_posix.specs.Instants.{Includes}
 use Rattle.zic_tzif.specs.Answer.{answered}
@@ -14,8 +14,8 @@ returns-clause-last c =
     let l = to_z-of_z one_fits in
     let m = to_z-of_z other_fits in
     let n = to_z-of_z min_fits in
-    let one = c.span-one.ensures.asked.to in
-    let other = c.span-other.ensures.asked.to in
+    let one = c.span-one.ensures.requested.to in
+    let other = c.span-other.ensures.requested.to in
     let value = c.min.ensures.value in
     omega (arith, ints, clamps, value, one, other, at, l, m, n)
 
@@ -34,11 +34,11 @@ returns-clause-throughout c = λ t inside.
     let self_bound = c.min.ensures.self_bound in
     let other_bound = c.min.ensures.other_bound in
     let one : Includes c.span-one.result.instants t = record {
-      from = let low = c.span-one.ensures.asked.from in omega (arith, ints, low, from, at);
+      from = let low = c.span-one.ensures.requested.from in omega (arith, ints, low, from, at);
       to = omega (arith, ints, to, self_bound, other_bound, l, m, n);
     } in
     let other : Includes c.span-other.result.instants t = record {
-      from = let low = c.span-other.ensures.asked.from in omega (arith, ints, low, from, at);
+      from = let low = c.span-other.ensures.requested.from in omega (arith, ints, low, from, at);
       to = omega (arith, ints, to, self_bound, other_bound, l, m, n);
     } in
     record {

@@ -1,9 +1,8 @@
-use Rattle.std.proofs.Common.{◌≡◌, ◌++◌, ℕ, List, [], sym, ◌∙◌, rules}
+use Rattle.std.proofs.Common.{◌≡◌, sym, ◌∙◌, rules}
 use Rattle.std.proofs.lemmas.Result.{on_ok_weaker}
 use Rattle.std.proofs.lemmas.Slice.Eq.{bytes_eq-Decides}
-use Rattle.std.specs.Prelude.{All, IsSomeAnd, slice_get}
+use Rattle.std.specs.Prelude.{All}
 use Rattle.zic_files.specs.File.{File}
-use Rattle.zic_tzif.specs.Answer.{answered}
 use Rattle.zic_compare.proofs.FilesLemmas.{both_files, lone_old, same_files}
 use Rattle.zic_compare.proofs.files.push_old.Goals as goal
 
@@ -15,16 +14,15 @@ returns-then-eq c =
 
 pub returns-else-eq : goal.returns-else-eq
 returns-else-eq c =
-    on_ok_weaker c.push_differences.result (λ pushed.
-    both_files c.args.how.now c.args.old.now c.args.new.now c.args.file c.in-Some.other c.name-name.result.now c.args.lines.now.items c.push_differences.new.lines.items pushed.0
+    on_ok_weaker c.push_both.result (λ pushed.
+    both_files c.args.how.now c.args.old.now c.args.new.now c.args.file c.in-Some.other c.name-name.result.now c.args.lines.now.items c.push_both.new.lines.items pushed.0
     c.zone-zone.result.now c.zone-new_zone.result.now c.name-name.ensures.name c.zone-zone.ensures.zone c.in-Some.ensures.found c.zone-new_zone.ensures.zone pushed.1 pushed.2)
-    c.push_differences.ensures
+    c.push_both.ensures
 
 pub returns-in-None : goal.returns-in-None
 returns-in-None c =
     let none : All (λ (file : File). file.name ≡ c.name-name.result.now → ⊥) c.args.new.now = search rules in
-    on_ok_weaker c.push_removed.result (λ pushed.
-    lone_old c.args.how.now c.args.old.now c.args.new.now c.args.file c.name-name.result.now c.args.lines.now.items c.push_removed.new.lines.items c.zone-zone.result.now
-    (answered c.at.result) (answered c.seen-answer.result)
-    c.name-name.ensures.name c.zone-zone.ensures.zone none (search rules) c.seen-answer.ensures pushed)
-    c.push_removed.ensures
+    on_ok_weaker c.push_old_alone.result
+    (lone_old c.args.how.now c.args.old.now c.args.new.now c.args.file c.name-name.result.now c.args.lines.now.items c.push_old_alone.new.lines.items
+    c.zone-zone.result.now c.name-name.ensures.name c.zone-zone.ensures.zone none)
+    c.push_old_alone.ensures

@@ -3,7 +3,7 @@ use Rattle.zic_compare.proofs.VerifyLemmas.{finding_more, gains_none, has_files,
 use Rattle.zic_compare.proofs.verifying.verify.Goals as goal
 
 pub loop-file-init : goal.loop-file-init
-loop-file-init g c = record { replies = []; asked = record { names = refl; gained = gains_none (g.Z.ZoneTree.replied c.args.tree.now) }; are_lines = search rules }
+loop-file-init g c = record { replies = []; requested = record { names = refl; gained = gains_none (g.Z.ZoneTree.replied c.args.tree.now) }; are_lines = search rules }
 
 pub loop-file-preserved : goal.loop-file-preserved
 loop-file-preserved g c =

@@ -17,5 +17,5 @@ pub returns-clause-head : goal.returns-clause-head
 returns-clause-head g c =
     let layout = c.args.layout.now in
     if_some (g.R.Read.remaining c.args.reader) _ (λ column e.
-    subst (λ (l : List ℕ). Appends (g.W.Write.contents c.args.writer.now.inner) (g.W.Write.contents c.write_header.new.writer.inner) (header_of layout.start layout.from layout.delimiter (exchanged layout.delimiter l)))
+    subst (λ (l : List ℕ). Appends (g.W.Write.contents c.args.writer.now.inner) (g.W.Write.contents c.write_header.new.writer.inner) (header_of layout.start layout.style layout.from layout.delimiter (exchanged layout.delimiter l)))
     (for_some (g.R.Read.remaining c.args.reader) _ column c.in_ok-column.ensures.header e) c.in_ok-write_header.ensures.ok.0)

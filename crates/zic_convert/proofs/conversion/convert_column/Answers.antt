@@ -12,7 +12,7 @@ pub returns-in_err-write_names-clause-err : goal.returns-in_err-write_names-clau
 returns-in_err-write_names-clause-err g c =
     let p = err_from_is_err_and c.from_residual.result c.from_residual.ensures.1 in
     let failed = c.in_err-write_names.ensures.err in
-    rw (p.1, p.2, failed.0) (inl (record { is = refl; unread = refl; unasked = refl; unnoted = refl; part = failed.1.part; starts = failed.1.starts; wrote = failed.1.wrote }))
+    rw (p.1, p.2, failed.0) (inl (record { is = refl; unread = refl; unnoted = refl; part = failed.1.part; starts = failed.1.starts; wrote = failed.1.wrote }, refl))
 
 pub returns-in_err-write_names-clause-cause : goal.returns-in_err-write_names-clause-cause
 returns-in_err-write_names-clause-cause g c =
@@ -27,7 +27,7 @@ pub returns-clause-ok : goal.returns-clause-ok
 returns-clause-ok g c =
     λ files may. on_ok c.ended.result _ _
     (λ n w. column_after_names c.args.conversion.now.layout.now c.args.conversion.now.plan.now.max_rows (g.R.Read.remaining c.args.reader.now.inner) files (g.W.Write.contents c.args.writer.now.inner)
-    (g.W.Write.contents c.write_names.new.writer.inner) (g.W.Write.contents c.convert_rows-outcome.new.writer.inner) (g.L.FaultLog.noted c.args.log.now) (g.L.FaultLog.noted c.convert_rows-outcome.new.log)
+    (g.W.Write.contents c.write_names.new.writer.inner) (g.W.Write.contents c.convert_rows-outcome.new.writer.inner) (g.L.RowLog.noted c.args.log.now) (g.L.RowLog.noted c.convert_rows-outcome.new.log)
     c.in_ok-write_names.ensures.ok.0 n w)
     (ok_end _ _ _ _ c.convert_rows-outcome.result c.ended.result _ c.ended.ensures (c.convert_rows-outcome.ensures.all files may))
 
@@ -49,8 +49,8 @@ returns-clause-err g c =
     let held = g.W.Write.contents c.args.writer.now.inner in
     let mid = g.W.Write.contents c.write_names.new.writer.inner in
     let now = g.W.Write.contents c.convert_rows-outcome.new.writer.inner in
-    let log = g.L.FaultLog.noted c.args.log.now in
-    let last = g.L.FaultLog.noted c.convert_rows-outcome.new.log in
+    let log = g.L.RowLog.noted c.args.log.now in
+    let last = g.L.RowLog.noted c.convert_rows-outcome.new.log in
     let zones = c.args.zones.now in
     let then = c.convert_rows-outcome.new.zones in
     on_err c.ended.result (λ why. EndsByZones g.Z.Zones.grown g.Z.Zones.broken g.Z.Zones.may_be zones then why (EndsInColumn layout most known why (output mid now log last))) _

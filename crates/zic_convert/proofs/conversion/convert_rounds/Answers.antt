@@ -5,7 +5,7 @@ use Rattle.zic_convert.specs.code.Row.{taken_rows}
 use Rattle.zic_convert.proofs.Halts.{as_many, no_more}
 use Rattle.zic_convert.proofs.Joining.{taken_some}
 use Rattle.zic_convert.proofs.Progress.{rows_taken}
-use Rattle.zic_convert.proofs.Rounds.{far_at_start, far_on, flush_fails, no_round, round_ends, rounds_done}
+use Rattle.zic_convert.proofs.Rounds.{far_at_start, far_on, flush_fails, long_ends, no_round, round_ends, rounds_done}
 use Rattle.zic_convert.proofs.Staying.{taken_known}
 use Rattle.zic_convert.proofs.conversion.convert_rounds.Goals as goal
 
@@ -17,7 +17,7 @@ rounds-init g c = record {
   grown = g.met.Z.Zones.same c.args.zones.now;
   far = λ files may.
       far_at_start c.args.conversion.now.layout.now c.args.conversion.now.plan.now.max_rows (unread g.R.Read.remaining c.args.column.now) (g.W.Write.contents c.args.writer.now.inner)
-      (g.L.FaultLog.noted c.args.log.now) files;
+      (g.L.RowLog.noted c.args.log.now) files;
 }
 
 pub returns-in_err-taken-clause-halt : goal.returns-in_err-taken-clause-halt
@@ -29,8 +29,8 @@ returns-in_err-taken-clause-halt g c =
     let known = unread g.R.Read.remaining c.args.column.now in
     let left = unread g.R.Read.remaining l.column in
     let held = contents c.args.writer.now.inner in
-    let log = g.L.FaultLog.noted c.args.log.now in
-    let now = g.L.FaultLog.noted l.log in
+    let log = g.L.RowLog.noted c.args.log.now in
+    let now = g.L.RowLog.noted l.log in
     let p = err_from_is_err_and c.from_residual.result c.from_residual.ensures.1 in
     rw (p.1, p.2) (no_round g.Z.Zones.known g.Z.Zones.settled g.Z.Zones.may_be g.Z.Zones.grown g.Z.Zones.broken g.met.Z.Zones.same g.met.Z.Zones.then g.met.Z.Zones.narrows g.met.Z.Zones.agrees contents
     c.files_answer_once.ensures layout plan known left l.count held l.writer log now c.args.zones.now l.zones l.invariant.grown l.invariant.far
@@ -45,8 +45,8 @@ returns-in_err-count-clause-halt g c =
     let known = unread g.R.Read.remaining c.args.column.now in
     let left = unread g.R.Read.remaining l.column in
     let held = contents c.args.writer.now.inner in
-    let log = g.L.FaultLog.noted c.args.log.now in
-    let now = g.L.FaultLog.noted l.log in
+    let log = g.L.RowLog.noted c.args.log.now in
+    let now = g.L.RowLog.noted l.log in
     let pieces = c.next_round.new.column.round in
     let next = unread g.R.Read.remaining c.next_round.new.column in
     let then = c.next_round.new.zones in
@@ -59,10 +59,10 @@ returns-in_err-count-clause-halt g c =
     let p = err_from_is_err_and c.from_residual-in_err-count.result c.from_residual-in_err-count.ensures.1 in
     rw (p.1, p.2) (round_ends g.Z.Zones.known g.Z.Zones.settled g.Z.Zones.may_be g.Z.Zones.grown g.Z.Zones.broken g.met.Z.Zones.same g.met.Z.Zones.then g.met.Z.Zones.narrows g.met.Z.Zones.agrees contents
     c.files_answer_once.ensures layout plan known left l.count held l.writer log now c.args.zones.now l.zones l.invariant.grown l.invariant.far
-    then grows rs next rows_next (λ files may. taken_known layout.delimiter c.byte.ensures.sound (g.Z.Zones.settled then) (g.Z.Zones.known then) files (g.met.Z.Zones.agrees then files may) layout.zone taken pieces c.in_ok-taken.ensures.settled) c.convert_ready.new.writer (g.L.FaultLog.noted c.convert_ready.new.log) c.in_err-count.field-0.0 ends)
+    then grows rs next rows_next (λ files may. taken_known layout.delimiter c.byte.ensures.sound (g.Z.Zones.settled then) (g.Z.Zones.known then) files (g.met.Z.Zones.agrees then files may) layout.zone taken pieces c.in_ok-taken.ensures.settled) c.convert_ready.new.writer (g.L.RowLog.noted c.convert_ready.new.log) c.in_err-count.field-0.0 ends)
 
-pub overflow_add-count : goal.overflow_add-count
-overflow_add-count g c =
+pub overflow_add-count-in-rounds : goal.overflow_add-count-in-rounds
+overflow_add-count-in-rounds g c =
     let l = c.rounds in
     let layout = c.args.conversion.now.layout.now in
     let plan = c.args.conversion.now.plan.now in
@@ -70,8 +70,8 @@ overflow_add-count g c =
     let known = unread g.R.Read.remaining c.args.column.now in
     let left = unread g.R.Read.remaining l.column in
     let held = contents c.args.writer.now.inner in
-    let log = g.L.FaultLog.noted c.args.log.now in
-    let now = g.L.FaultLog.noted l.log in
+    let log = g.L.RowLog.noted c.args.log.now in
+    let now = g.L.RowLog.noted l.log in
     let pieces = c.next_round.new.column.round in
     let next = unread g.R.Read.remaining c.next_round.new.column in
     let then = c.next_round.new.zones in
@@ -94,8 +94,8 @@ rounds-smaller g c =
     let known = unread g.R.Read.remaining c.args.column.now in
     let left = unread g.R.Read.remaining l.column in
     let held = contents c.args.writer.now.inner in
-    let log = g.L.FaultLog.noted c.args.log.now in
-    let now = g.L.FaultLog.noted l.log in
+    let log = g.L.RowLog.noted c.args.log.now in
+    let now = g.L.RowLog.noted l.log in
     let pieces = c.next_round.new.column.round in
     let next = unread g.R.Read.remaining c.next_round.new.column in
     let then = c.next_round.new.zones in
@@ -106,7 +106,7 @@ rounds-smaller g c =
     let grows = c.in_ok-taken.ensures.grown in
     let (rows, are, wrote) = rw c.round-round.ensures at c.in_ok-count.ensures.ok in
     let many = as_many layout (g.Z.Zones.known then) plan.max_rows (l.count + 1) rs rows are wrote.0 in
-    let filled = taken_some layout.delimiter plan.row_piece taken pieces c.in_default.not-End takes.some.0 (omega (arith, c.max_rows.ensures.plan.row_piece.0)) takes.cut in
+    let filled = taken_some layout.delimiter plan.row_piece taken pieces c.in_default.not-End c.in_default-taken.not-TooLong takes.some.0 (omega (arith, c.max_rows.ensures.plan.row_piece.0)) takes.cut in
     omega (arith, wrote.1, many, filled, l.invariant.within)
 
 pub rounds-preserved : goal.rounds-preserved
@@ -118,8 +118,8 @@ rounds-preserved g c =
     let known = unread g.R.Read.remaining c.args.column.now in
     let left = unread g.R.Read.remaining l.column in
     let held = contents c.args.writer.now.inner in
-    let log = g.L.FaultLog.noted c.args.log.now in
-    let now = g.L.FaultLog.noted l.log in
+    let log = g.L.RowLog.noted c.args.log.now in
+    let now = g.L.RowLog.noted l.log in
     let pieces = c.next_round.new.column.round in
     let next = unread g.R.Read.remaining c.next_round.new.column in
     let then = c.next_round.new.zones in
@@ -138,7 +138,7 @@ rounds-preserved g c =
       grown = g.met.Z.Zones.then c.args.zones.now l.zones then l.invariant.grown grows;
       far = far_on g.Z.Zones.known g.Z.Zones.settled g.Z.Zones.may_be g.Z.Zones.grown g.Z.Zones.broken g.met.Z.Zones.same g.met.Z.Zones.then g.met.Z.Zones.narrows g.met.Z.Zones.agrees contents
           c.files_answer_once.ensures layout plan known left l.count held l.writer log now c.args.zones.now l.zones l.invariant.grown l.invariant.far
-          then grows rs next rows_next (λ files may. taken_known layout.delimiter c.byte.ensures.sound (g.Z.Zones.settled then) (g.Z.Zones.known then) files (g.met.Z.Zones.agrees then files may) layout.zone taken pieces c.in_ok-taken.ensures.settled) c.convert_ready.new.writer (g.L.FaultLog.noted c.convert_ready.new.log) c.in_ok-count.field-0 ok;
+          then grows rs next rows_next (λ files may. taken_known layout.delimiter c.byte.ensures.sound (g.Z.Zones.settled then) (g.Z.Zones.known then) files (g.met.Z.Zones.agrees then files may) layout.zone taken pieces c.in_ok-taken.ensures.settled) c.convert_ready.new.writer (g.L.RowLog.noted c.convert_ready.new.log) c.in_ok-count.field-0 ok;
     }
 
 pub rounds-preserved-in_ok-count : goal.rounds-preserved-in_ok-count
@@ -150,8 +150,8 @@ rounds-preserved-in_ok-count g c =
     let known = unread g.R.Read.remaining c.args.column.now in
     let left = unread g.R.Read.remaining l.column in
     let held = contents c.args.writer.now.inner in
-    let log = g.L.FaultLog.noted c.args.log.now in
-    let now = g.L.FaultLog.noted l.log in
+    let log = g.L.RowLog.noted c.args.log.now in
+    let now = g.L.RowLog.noted l.log in
     let pieces = c.next_round.new.column.round in
     let next = unread g.R.Read.remaining c.next_round.new.column in
     let then = c.next_round.new.zones in
@@ -170,7 +170,7 @@ rounds-preserved-in_ok-count g c =
       grown = g.met.Z.Zones.then c.args.zones.now l.zones then l.invariant.grown grows;
       far = far_on g.Z.Zones.known g.Z.Zones.settled g.Z.Zones.may_be g.Z.Zones.grown g.Z.Zones.broken g.met.Z.Zones.same g.met.Z.Zones.then g.met.Z.Zones.narrows g.met.Z.Zones.agrees contents
           c.files_answer_once.ensures layout plan known left l.count held l.writer log now c.args.zones.now l.zones l.invariant.grown l.invariant.far
-          then grows rs next rows_next (λ files may. taken_known layout.delimiter c.byte.ensures.sound (g.Z.Zones.settled then) (g.Z.Zones.known then) files (g.met.Z.Zones.agrees then files may) layout.zone taken pieces c.in_ok-taken.ensures.settled) c.convert_ready.new.writer (g.L.FaultLog.noted c.convert_ready.new.log) c.in_ok-count.field-0 ok;
+          then grows rs next rows_next (λ files may. taken_known layout.delimiter c.byte.ensures.sound (g.Z.Zones.settled then) (g.Z.Zones.known then) files (g.met.Z.Zones.agrees then files may) layout.zone taken pieces c.in_ok-taken.ensures.settled) c.convert_ready.new.writer (g.L.RowLog.noted c.convert_ready.new.log) c.in_ok-count.field-0 ok;
     }
 
 pub returns-in_err-flush-clause-halt : goal.returns-in_err-flush-clause-halt
@@ -182,8 +182,8 @@ returns-in_err-flush-clause-halt g c =
     let known = unread g.R.Read.remaining c.args.column.now in
     let left = unread g.R.Read.remaining l.column in
     let held = contents c.args.writer.now.inner in
-    let log = g.L.FaultLog.noted c.args.log.now in
-    let now = g.L.FaultLog.noted l.log in
+    let log = g.L.RowLog.noted c.args.log.now in
+    let now = g.L.RowLog.noted l.log in
     let pieces = c.next_round.new.column.round in
     let next = unread g.R.Read.remaining c.next_round.new.column in
     let then = c.next_round.new.zones in
@@ -209,8 +209,8 @@ returns-clause-all g c =
     let known = unread g.R.Read.remaining c.args.column.now in
     let left = unread g.R.Read.remaining l.column in
     let held = contents c.args.writer.now.inner in
-    let log = g.L.FaultLog.noted c.args.log.now in
-    let now = g.L.FaultLog.noted l.log in
+    let log = g.L.RowLog.noted c.args.log.now in
+    let now = g.L.RowLog.noted l.log in
     let pieces = c.next_round.new.column.round in
     let next = unread g.R.Read.remaining c.next_round.new.column in
     let then = c.next_round.new.zones in
@@ -224,3 +224,29 @@ returns-clause-all g c =
     rounds_done g.Z.Zones.known g.Z.Zones.settled g.Z.Zones.may_be g.Z.Zones.grown g.Z.Zones.broken g.met.Z.Zones.same g.met.Z.Zones.then g.met.Z.Zones.narrows g.met.Z.Zones.agrees contents
     c.files_answer_once.ensures layout plan known left l.count held l.writer log now c.args.zones.now l.zones l.invariant.grown l.invariant.far
     then grows rs next rows_next nothing end c.flush.new.writer c.in_ok-flush.ensures.ok
+
+pub returns-in-TooLong-clause-halt : goal.returns-in-TooLong-clause-halt
+returns-in-TooLong-clause-halt g c =
+    let l = c.rounds in
+    let layout = c.args.conversion.now.layout.now in
+    let plan = c.args.conversion.now.plan.now in
+    let contents = g.W.Write.contents in
+    let known = unread g.R.Read.remaining c.args.column.now in
+    let left = unread g.R.Read.remaining l.column in
+    let held = contents c.args.writer.now.inner in
+    let log = g.L.RowLog.noted c.args.log.now in
+    let now = g.L.RowLog.noted l.log in
+    let pieces = c.next_round.new.column.round in
+    let next = unread g.R.Read.remaining c.next_round.new.column in
+    let then = c.next_round.new.zones in
+    let takes = c.in_ok-taken.ensures.takes in
+    let taken = c.in_ok-taken.taken in
+    let rs = taken_rows layout.delimiter taken pieces in
+    let rows_next = rows_taken layout l.column.by l.invariant.by left next taken pieces takes.takes in
+    let grows = c.in_ok-taken.ensures.grown in
+    let nothing = rw c.in-TooLong.is at rows_next in
+    let long = rw l.invariant.by at (takes.long c.in-TooLong.is) in
+    long_ends g.Z.Zones.known g.Z.Zones.settled g.Z.Zones.may_be g.Z.Zones.grown g.Z.Zones.broken g.met.Z.Zones.same g.met.Z.Zones.then g.met.Z.Zones.narrows g.met.Z.Zones.agrees contents
+    c.files_answer_once.ensures layout plan known left l.count held l.writer log now c.args.zones.now l.zones l.invariant.grown l.invariant.far
+    then grows rs next rows_next nothing long c.end_at_long.new.writer c.end_at_long.result
+    (λ files given over. rw c.max_rows-most.ensures.rows at (c.end_at_long.ensures.stop layout files given now over))

@@ -12,7 +12,7 @@ invariant-rounds g l = record {
   grown : g.Z.Zones.grown l.fn.zones l.zones;
   far : (files : List File) → g.Z.Zones.may_be l.zones files
       → IsFarBy l.fn.conversion.layout.now l.fn.conversion.plan.now.max_rows (unread g.R.Read.remaining l.fn.column) (unread g.R.Read.remaining l.column) l.count (g.W.Write.contents l.fn.writer.inner)
-      (g.W.Write.contents l.writer.inner) (g.L.FaultLog.noted l.fn.log) (g.L.FaultLog.noted l.log) files;
+      (g.W.Write.contents l.writer.inner) (g.L.RowLog.noted l.fn.log) (g.L.RowLog.noted l.log) files;
 }
 
 abbrev pub decreases-rounds : goal.decreases-rounds

@@ -3,6 +3,8 @@ use Rattle.std.specs.Prelude.{option_map}
 use Rattle.std.proofs.lemmas.Result.{err_from_is_err_and}
 use Rattle.zic_columns.specs.Exchange.{exchanged}
 use Rattle.zic_columns.specs.Round.{unread}
+use Rattle.zic_columns.specs.Truncated.{truncated_known}
+use Rattle.zic_convert.specs.Column.{read_by}
 use Rattle.zic_convert.specs.code.Halt.{stop_of}
 use Rattle.zic_convert.proofs.Heads.{cause_at_head, converts_column, ends_at_head, ends_column}
 use Rattle.zic_convert.proofs.Joining.{on_err, on_ok}
@@ -14,22 +16,25 @@ returns-in_err-column-clause-halt g c =
     let p = err_from_is_err_and c.from_residual.result c.from_residual.ensures.1 in
     let layout = c.args.conversion.now.layout.now in
     let known = g.R.Read.remaining c.args.reader in
-    let inside = option_map (exchanged c.new-exchanged.result.delimiter) (g.R.Read.remaining c.new-exchanged.result.inner) in
-    let is : inside ≡ option_map (exchanged layout.delimiter) known = rw (c.new-exchanged.ensures.delimiter, c.byte.ensures.byte, c.new-exchanged.ensures.inner) refl in
-    rw (p.1, p.2) (record {
+    let short = c.new-exchanged.result.inner in
+    let inside = option_map (exchanged c.new-exchanged.result.delimiter) (truncated_known short.most short.room (g.R.Read.remaining short.inner)) in
+    let is : inside ≡ option_map (exchanged layout.delimiter) (option_map (read_by layout) known) =
+    rw (c.new-exchanged.ensures.delimiter, c.byte.ensures.byte, c.new-exchanged.ensures.inner, c.new-short.ensures, c.read_of_lines.ensures) refl in
+    rw (p.1, p.2, c.begin_rows.ensures.noted) (record {
       then = c.args.zones.now;
       grown = g.met.Z.Zones.same c.args.zones.now;
       ends = inl refl;
       by = λ files may.
           ends_at_head layout c.args.conversion.now.plan.now.max_rows c.records_by_are_exchanged.ensures c.texts_by_are_exchanged.ensures c.byte.ensures.sound known inside is g.W.Write.contents
-          c.files_answer_once.ensures c.args.writer.now c.begin_rows.new.writer (g.L.FaultLog.noted c.args.log.now) files (g.met.Z.Zones.agrees c.args.zones.now files may).sound c.in_err-column.field-0.0
+          c.files_answer_once.ensures c.args.writer.now c.begin_rows.new.writer (g.L.RowLog.noted c.args.log.now) files (g.met.Z.Zones.agrees c.args.zones.now files may).sound c.in_err-column.field-0.0
           c.in_err-column.ensures.halt;
     })
 
 pub returns-in_err-column-clause-cause : goal.returns-in_err-column-clause-cause
 returns-in_err-column-clause-cause g c =
     let p = err_from_is_err_and c.from_residual.result c.from_residual.ensures.1 in
-    let inside = option_map (exchanged c.new-exchanged.result.delimiter) (g.R.Read.remaining c.new-exchanged.result.inner) in
+    let short = c.new-exchanged.result.inner in
+    let inside = option_map (exchanged c.new-exchanged.result.delimiter) (truncated_known short.most short.room (g.R.Read.remaining short.inner)) in
     rw (p.1, p.2) (cause_at_head g.W.Write.contents c.args.writer.now c.begin_rows.new.writer c.args.conversion.now.layout.now inside c.in_err-column.field-0.0 c.in_err-column.ensures.halt)
 
 pub returns-clause-all : goal.returns-clause-all
@@ -37,26 +42,30 @@ returns-clause-all g c =
     let layout = c.args.conversion.now.layout.now in
     let most = c.args.conversion.now.plan.now.max_rows in
     let known = g.R.Read.remaining c.args.reader in
-    let inside = option_map (exchanged c.new-exchanged.result.delimiter) (g.R.Read.remaining c.new-exchanged.result.inner) in
-    let is : inside ≡ option_map (exchanged layout.delimiter) known = rw (c.new-exchanged.ensures.delimiter, c.byte.ensures.byte, c.new-exchanged.ensures.inner) refl in
-    let left = unread (λ r. option_map (exchanged r.delimiter) (g.R.Read.remaining r.inner)) c.in_ok-column.column in
+    let short = c.new-exchanged.result.inner in
+    let inside = option_map (exchanged c.new-exchanged.result.delimiter) (truncated_known short.most short.room (g.R.Read.remaining short.inner)) in
+    let is : inside ≡ option_map (exchanged layout.delimiter) (option_map (read_by layout) known) =
+    rw (c.new-exchanged.ensures.delimiter, c.byte.ensures.byte, c.new-exchanged.ensures.inner, c.new-short.ensures, c.read_of_lines.ensures) refl in
+    let left = unread (λ r. option_map (exchanged r.delimiter) (truncated_known r.inner.most r.inner.room (g.R.Read.remaining r.inner.inner))) c.in_ok-column.column in
     λ files may. on_ok c.convert_rounds.result _ _
     (λ n w. converts_column layout most c.records_by_are_exchanged.ensures c.texts_by_are_exchanged.ensures c.byte.ensures.sound known inside is files left (g.W.Write.contents c.args.writer.now.inner)
-    (g.W.Write.contents c.begin_rows.new.writer.inner) (g.W.Write.contents c.convert_rounds.new.writer.inner) (g.L.FaultLog.noted c.args.log.now) (g.L.FaultLog.noted c.convert_rounds.new.log)
+    (g.W.Write.contents c.begin_rows.new.writer.inner) (g.W.Write.contents c.convert_rounds.new.writer.inner) (g.L.RowLog.noted c.args.log.now) (g.L.RowLog.noted c.convert_rounds.new.log)
     c.in_ok-column.ensures.begins c.in_ok-column.ensures.head n w)
-    (c.convert_rounds.ensures.all files may)
+    (rw c.begin_rows.ensures.noted at (c.convert_rounds.ensures.all files may))
 
 pub returns-clause-halt : goal.returns-clause-halt
 returns-clause-halt g c =
     let layout = c.args.conversion.now.layout.now in
     let most = c.args.conversion.now.plan.now.max_rows in
     let known = g.R.Read.remaining c.args.reader in
-    let inside = option_map (exchanged c.new-exchanged.result.delimiter) (g.R.Read.remaining c.new-exchanged.result.inner) in
-    let is : inside ≡ option_map (exchanged layout.delimiter) known = rw (c.new-exchanged.ensures.delimiter, c.byte.ensures.byte, c.new-exchanged.ensures.inner) refl in
-    let left = unread (λ r. option_map (exchanged r.delimiter) (g.R.Read.remaining r.inner)) c.in_ok-column.column in
+    let short = c.new-exchanged.result.inner in
+    let inside = option_map (exchanged c.new-exchanged.result.delimiter) (truncated_known short.most short.room (g.R.Read.remaining short.inner)) in
+    let is : inside ≡ option_map (exchanged layout.delimiter) (option_map (read_by layout) known) =
+    rw (c.new-exchanged.ensures.delimiter, c.byte.ensures.byte, c.new-exchanged.ensures.inner, c.new-short.ensures, c.read_of_lines.ensures) refl in
+    let left = unread (λ r. option_map (exchanged r.delimiter) (truncated_known r.inner.most r.inner.room (g.R.Read.remaining r.inner.inner))) c.in_ok-column.column in
     on_err c.convert_rounds.result _ _
     (λ why ends. ends_map g.Z.Zones.grown g.Z.Zones.broken g.Z.Zones.may_be c.args.zones.now c.convert_rounds.new.zones (stop_of why) (stop_of why) _ _ (λ e. e)
     (λ files w. ends_column layout most c.records_by_are_exchanged.ensures c.texts_by_are_exchanged.ensures c.byte.ensures.sound known inside is files left (g.W.Write.contents c.args.writer.now.inner)
-    (g.W.Write.contents c.begin_rows.new.writer.inner) (g.W.Write.contents c.convert_rounds.new.writer.inner) (g.L.FaultLog.noted c.args.log.now) (g.L.FaultLog.noted c.convert_rounds.new.log)
+    (g.W.Write.contents c.begin_rows.new.writer.inner) (g.W.Write.contents c.convert_rounds.new.writer.inner) (g.L.RowLog.noted c.args.log.now) (g.L.RowLog.noted c.convert_rounds.new.log)
     c.in_ok-column.ensures.begins c.in_ok-column.ensures.head (stop_of why) w) ends)
-    c.convert_rounds.ensures.halt
+    (rw c.begin_rows.ensures.noted at c.convert_rounds.ensures.halt)

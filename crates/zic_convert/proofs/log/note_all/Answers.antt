@@ -1,17 +1,17 @@
 use Rattle.std.proofs.Common.{List, subst}
 use Rattle.std.proofs.lemmas.List.{take_all}
-use Rattle.zic_base.specs.declared.row_fault.RowFault.{RowFault}
+use Rattle.zic_plan.specs.Noted.{RowNote}
 use Rattle.zic_convert.specs.Run.{Notes}
 use Rattle.zic_convert.proofs.Logs.{notes_next, notes_none}
 use Rattle.zic_convert.proofs.log.note_all.Goals as goal
 
 pub loop-fault-init : goal.loop-fault-init
-loop-fault-init g c = notes_none (g.L.FaultLog.noted c.args.log.now)
+loop-fault-init g c = notes_none (g.L.RowLog.noted c.args.log.now)
 
 pub loop-fault-preserved : goal.loop-fault-preserved
-loop-fault-preserved g c = notes_next (g.L.FaultLog.noted c.args.log.now) (g.L.FaultLog.noted c.loop-fault.log) (g.L.FaultLog.noted c.note.new.self)
-    c.args.faults.now c.loop-fault.fault-index _ c.loop-fault-test.true c.loop-fault.invariant c.note.ensures
+loop-fault-preserved g c = notes_next (g.L.RowLog.noted c.args.log.now) (g.L.RowLog.noted c.loop-fault.log) (g.L.RowLog.noted c.note.new.self)
+    c.args.faults.now c.loop-fault.fault-index c.fault-item.result c.loop-fault-test.true c.fault-item.is c.loop-fault.invariant c.note.ensures
 
 pub returns : goal.returns
-returns g c = subst (λ (l : List RowFault). Notes (g.L.FaultLog.noted c.args.log.now) (g.L.FaultLog.noted c.loop-fault.log) l)
+returns g c = subst (λ (l : List RowNote). Notes (g.L.RowLog.noted c.args.log.now) (g.L.RowLog.noted c.loop-fault.log) l)
     (take_all c.loop-fault.fault-index c.args.faults.now c.loop-fault-test.false) c.loop-fault.invariant

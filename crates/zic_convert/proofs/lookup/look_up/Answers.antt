@@ -12,3 +12,8 @@ pub times_of-times-requires-clause-file : goal.times_of-times-requires-clause-fi
 times_of-times-requires-clause-file c =
     let piece = c.args.piece.now in
     rw c.requires.file (number_within piece.zones.now (zone_in piece.layout.now.zone (record_at piece.bytes.now c.args.given.now).fields))
+
+pub look_up_only-requires-clause-file : goal.look_up_only-requires-clause-file
+look_up_only-requires-clause-file c =
+    let piece = c.args.piece.now in
+    rw c.requires.file (number_within piece.zones.now (zone_in piece.layout.now.zone (record_at piece.bytes.now c.args.given.now).fields))

@@ -13,4 +13,4 @@ returns c =
     let fields = (record_at c.args.piece.now.bytes.now c.args.given.now).fields in
     let there : c.in_ok-text.text.items ≡ field_at (map (exchanged d) fields) layout.time =
     c.in_ok-text.ensures ∙ ap (exchanged d) c.requires.split.time ∙ sym (field_same d (outside d c.byte.ensures.sound) fields layout.time) in
-    rw (c.requires.from, ← there) (c.parse_rfc3339.ensures ∙ ap (rfc3339_count_of layout.unit) c.deref.ensures.value)
+    rw (c.requires.from, ← there) (c.parse_rfc3339-2.ensures ∙ ap (rfc3339_count_of layout.unit) c.deref.ensures.value)

@@ -10,4 +10,4 @@ returns c =
     let some : own ≡ [] → ⊥ = λ none. search (rules, none) in
     c.in_ok-push.ensures.items
     ∙ ap (λ (l : List ℕ). l ++ 10 ∷ []) (c.put_back.ensures ∙ ap (λ (l : List ℕ). exchanged d l) (c.in_ok-extend_from_slice.ensures.items ∙ ap (λ (l : List ℕ). own ++ l) c.added_names.ensures))
-    ∙ header_named c.args.from d own some
+    ∙ header_named c.args.style c.args.from d own some

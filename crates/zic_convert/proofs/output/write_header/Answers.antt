@@ -3,7 +3,7 @@ use Rattle.std.proofs.lemmas.Result.{err_from_is_err_and}
 use Rattle.csv.proofs.WriteFacts.{appends-none}
 use Rattle.zic_counted.specs.Written.{FailsWithin}
 use Rattle.zic_convert.specs.code.Written.{Wrote}
-use Rattle.zic_convert.proofs.Heads.{head_kept, head_passed}
+use Rattle.zic_convert.proofs.Heads.{head_unchanged, head_passed}
 use Rattle.zic_convert.proofs.output.write_header.Goals as goal
 
 pub returns-then-is_empty-clause-ok : goal.returns-then-is_empty-clause-ok
@@ -26,5 +26,5 @@ returns-clause-ok g c =
 pub returns-clause-err : goal.returns-clause-err
 returns-clause-err g c =
     let head = c.deref.ensures.value ∙ c.in-Ok.ensures in
-    head_kept g.W.Write.contents c.args.writer.now c.write_all.new.writer c.flush.new.writer _ c.flush.result
+    head_unchanged g.W.Write.contents c.args.writer.now c.write_all.new.writer c.flush.new.writer _ c.flush.result
     (subst (λ (l : List ℕ). Wrote g.W.Write.contents c.args.writer.now c.write_all.new.writer l) head c.in_ok-write_all.ensures.ok) c.flush.ensures.err

@@ -3,7 +3,7 @@ use Rattle.std.proofs.lemmas.List.{append-nil, take_all}
 use Rattle.std.proofs.lemmas.Result.{err_from_is_err_and}
 use Rattle.csv.proofs.WriteFacts.{appends-none}
 use Rattle.zic_counted.specs.Written.{FailsWithin}
-use Rattle.zic_base.specs.declared.row_fault.RowFault.{RowFault}
+use Rattle.zic_plan.specs.Noted.{RowNote}
 use Rattle.zic_base.specs.declared.row_fault.RowKind.{RowKind}
 use Rattle.zic_convert.specs.Run.{Notes}
 use Rattle.zic_convert.specs.code.Pieces.{joined}
@@ -25,7 +25,7 @@ loop-rows-init g c = record {
   goes_on = refl;
   count = refl;
   wrote = (appends-none (g.W.Write.contents c.args.writer.now.inner), refl);
-  noted = notes_none (g.L.FaultLog.noted c.args.log.now);
+  noted = notes_none (g.L.RowLog.noted c.args.log.now);
 }
 
 pub returns-in_err-write_all-clause-err : goal.returns-in_err-write_all-clause-err
@@ -60,10 +60,10 @@ returns-in-Some-clause-err g c =
     let both = subst (λ (l : List ℕ). Wrote contents c.args.writer.now c.write_all.new.writer l) (sym (next_text pieces i rows lt c.rows-item.is inv.goes_on))
     (wrote_both contents c.args.writer.now c.loop-rows.writer c.write_all.new.writer front.text rows.text inv.wrote wrote) in
     let faults = c.deref.ensures.value ∙ ap (λ (r : RowsOf). r.faults) c.rows.view_is in
-    let log = g.L.FaultLog.noted c.args.log.now in
-    let now = g.L.FaultLog.noted c.note_all.new.log in
-    let noted = subst (λ (l : List RowFault). Notes log now l) (sym (next_faults pieces i rows lt c.rows-item.is inv.goes_on))
-    (notes_more log (g.L.FaultLog.noted c.loop-rows.log) now front.faults rows.faults inv.noted (subst (λ (l : List RowFault). Notes (g.L.FaultLog.noted c.loop-rows.log) now l) faults c.note_all.ensures)) in
+    let log = g.L.RowLog.noted c.args.log.now in
+    let now = g.L.RowLog.noted c.note_all.new.log in
+    let noted = subst (λ (l : List RowNote). Notes log now l) (sym (next_faults pieces i rows lt c.rows-item.is inv.goes_on))
+    (notes_more log (g.L.RowLog.noted c.loop-rows.log) now front.faults rows.faults inv.noted (subst (λ (l : List RowNote). Notes (g.L.RowLog.noted c.loop-rows.log) now l) faults c.note_all.ensures)) in
     let count : c.loop-rows.count + c.rows.inside.count ≡ then.count = omega (arith, inv.count, ap (λ (r : RowsOf). r.count) c.rows.view_is, next_count pieces i rows lt c.rows-item.is inv.goes_on) in
     let all = front_ends pieces (i + 1) c.in-Some.kind some in
     stops_at contents c.args.writer.now c.write_all.new.writer c.stop_at.new.writer log now pieces (i + 1) all c.args.first c.in-Some.kind some both noted c.stop_at.result
@@ -95,7 +95,7 @@ returns-clause-ok g c =
       ap (λ (r : RowsOf). r.fault) (sym same) ∙ inv.goes_on,
       inv.count ∙ ap (λ (r : RowsOf). r.count) same,
       subst (λ (l : List ℕ). Wrote contents c.args.writer.now c.flush.new.writer l) (ap (λ (r : RowsOf). r.text) same) wrote,
-      subst (λ (l : List RowFault). Notes (g.L.FaultLog.noted c.args.log.now) (g.L.FaultLog.noted c.loop-rows.log) l) (ap (λ (r : RowsOf). r.faults) same) inv.noted,
+      rw c.flush-2.ensures (subst (λ (l : List RowNote). Notes (g.L.RowLog.noted c.args.log.now) (g.L.RowLog.noted c.loop-rows.log) l) (ap (λ (r : RowsOf). r.faults) same) inv.noted),
     )
 
 pub loop-rows-preserved : goal.loop-rows-preserved
@@ -112,15 +112,15 @@ loop-rows-preserved g c =
     let wrote = subst (λ (l : List ℕ). Wrote contents c.loop-rows.writer c.write_all.new.writer l) text c.in_ok-write_all.ensures.ok in
     let count = ap (λ (r : RowsOf). r.count) c.rows.view_is in
     let faults = c.deref.ensures.value ∙ ap (λ (r : RowsOf). r.faults) c.rows.view_is in
-    let log = g.L.FaultLog.noted c.args.log.now in
-    let now = g.L.FaultLog.noted c.note_all.new.log in
+    let log = g.L.RowLog.noted c.args.log.now in
+    let now = g.L.RowLog.noted c.note_all.new.log in
     record {
       goes_on = next_fault pieces i rows lt c.rows-item.is inv.goes_on ∙ none;
       count = omega (arith, inv.count, count, next_count pieces i rows lt c.rows-item.is inv.goes_on);
       wrote = subst (λ (l : List ℕ). Wrote contents c.args.writer.now c.write_all.new.writer l) (sym (next_text pieces i rows lt c.rows-item.is inv.goes_on))
           (wrote_both contents c.args.writer.now c.loop-rows.writer c.write_all.new.writer front.text rows.text inv.wrote wrote);
-      noted = subst (λ (l : List RowFault). Notes log now l) (sym (next_faults pieces i rows lt c.rows-item.is inv.goes_on))
-          (notes_more log (g.L.FaultLog.noted c.loop-rows.log) now front.faults rows.faults inv.noted (subst (λ (l : List RowFault). Notes (g.L.FaultLog.noted c.loop-rows.log) now l) faults c.note_all.ensures));
+      noted = subst (λ (l : List RowNote). Notes log now l) (sym (next_faults pieces i rows lt c.rows-item.is inv.goes_on))
+          (notes_more log (g.L.RowLog.noted c.loop-rows.log) now front.faults rows.faults inv.noted (subst (λ (l : List RowNote). Notes (g.L.RowLog.noted c.loop-rows.log) now l) faults c.note_all.ensures));
     }
 
 -- all rows are few enough to count

@@ -10,5 +10,5 @@ invariant-loop-rows g l = record {
   goes_on : (joined (take l.rows-index l.pieces)).fault ≡ None;
   count : l.count ≡ (joined (take l.rows-index l.pieces)).count;
   wrote : Wrote g.W.Write.contents l.fn.writer l.writer (joined (take l.rows-index l.pieces)).text;
-  noted : Notes (g.L.FaultLog.noted l.fn.log) (g.L.FaultLog.noted l.log) (joined (take l.rows-index l.pieces)).faults;
+  noted : Notes (g.L.RowLog.noted l.fn.log) (g.L.RowLog.noted l.log) (joined (take l.rows-index l.pieces)).faults;
 }

@@ -3,7 +3,7 @@ use Rattle.zic_columns.specs.Record.{record_at}
 use Rattle.zic_zones.specs.Zones.{zone_in}
 use Rattle.zic_convert.proofs.Columns.{number_within}
 use Rattle.zic_convert.proofs.QuickRows.{comma_pushed}
-use Rattle.zic_convert.proofs.RowFaults.{name_told}
+use Rattle.zic_convert.proofs.RowFaults.{name_is}
 use Rattle.zic_convert.proofs.quick.push_zone.Goals as goal
 
 pub name-requires : goal.name-requires
@@ -16,5 +16,5 @@ returns c =
     let piece = c.args.piece.now in
     let name = zone_in piece.layout.now.zone (record_at piece.bytes.now c.args.given.now).fields in
     let old = c.args.text.now in
-    let called = name_told piece.zones.now name c.args.file c.name.result.now c.requires.file c.name.ensures in
+    let called = name_is piece.zones.now name c.args.file c.name.result.now c.requires.file c.name.ensures in
     comma_pushed old name c.push.new.self c.push-2.new.self (c.in_ok-push.ensures ∙ ap (λ (l : List ℕ). old ++ l) called) c.in_ok-push-2.ensures

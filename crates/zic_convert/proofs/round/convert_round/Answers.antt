@@ -12,8 +12,8 @@ pub returns-in-Err-Fault-clause-ok : goal.returns-in-Err-Fault-clause-ok
 returns-in-Err-Fault-clause-ok g c =
     let p = c.args.pieces.now in
     let contents = g.W.Write.contents in
-    let log = g.L.FaultLog.noted c.args.log.now in
-    let log' = g.L.FaultLog.noted c.convert_again.new.log in
+    let log = g.L.RowLog.noted c.args.log.now in
+    let log' = g.L.RowLog.noted c.convert_again.new.log in
     let stop = rw c.in-Err-Fault.field-0-is at c.in-Err-Fault.ensures.stop in
     let found = stop.2 in
     on_ok c.convert_again.result _ (WritesRound p contents c.args.writer.now c.convert_again.new.writer log log')
@@ -24,8 +24,8 @@ pub returns-in-Err-Fault-clause-stop : goal.returns-in-Err-Fault-clause-stop
 returns-in-Err-Fault-clause-stop g c =
     let p = c.args.pieces.now in
     let contents = g.W.Write.contents in
-    let log = g.L.FaultLog.noted c.args.log.now in
-    let log' = g.L.FaultLog.noted c.convert_again.new.log in
+    let log = g.L.RowLog.noted c.args.log.now in
+    let log' = g.L.RowLog.noted c.convert_again.new.log in
     let stop = rw c.in-Err-Fault.field-0-is at c.in-Err-Fault.ensures.stop in
     let found = stop.2 in
     on_err c.convert_again.result _ (EndsInRound p contents c.args.writer.now c.convert_again.new.writer log log')

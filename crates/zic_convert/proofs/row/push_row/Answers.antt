@@ -3,7 +3,7 @@ use Rattle.std.specs.Int.{w128}
 use Rattle.zic_columns.specs.Exchange.{exchanged}
 use Rattle.zic_columns.specs.Record.{bytes_at, record_at}
 use Rattle.zic_zones.specs.Zones.{zone_in}
-use Rattle.zic_convert.specs.LayoutRows.{asked_text, rest_by, start_text}
+use Rattle.zic_convert.specs.LayoutRows.{input_text, rest_by, start_text}
 use Rattle.zic_convert.specs.code.Row.{field_start}
 use Rattle.zic_convert.proofs.PutBack.{row_exchanged, row_put_back, text_made}
 use Rattle.zic_convert.proofs.row.push_row.Goals as goal
@@ -19,16 +19,16 @@ returns-clause-text c =
     let own = bytes_at piece.bytes.now given.own in
     let name = zone_in layout.zone (record_at piece.bytes.now given).fields in
     let row_record : FitsSigned w128 query.counts.count = search rules in
-    let asked = asked_text layout.from layout.unit query.counts.asked in
-    let rest = rest_by layout.from layout.unit query.counts.count c.args.writer.now in
-    let start = field_start layout.start own name asked in
+    let input = input_text layout.from layout.unit query.counts.input in
+    let rest = rest_by layout.style layout.from layout.unit query.counts.count c.args.writer.now in
+    let start = field_start layout.start own name input in
     let at : c.len-start.result ≡ length old = search rules in
     let begun : c.push_start.new.text.items ≡ old ++ start = c.in_ok-push_start.ensures in
     let written = rw (to_z-of_z row_record) at c.in_ok-push_rest.ensures.text in
     let all : c.push_rest.new.text.items ≡ old ++ (start ++ rest) =
     written ∙ ap (λ (l : List ℕ). l ++ rest) begun ∙ append_assoc old start rest in
     let put = row_exchanged d c.len-start.result old (start ++ rest) c.push_rest.new.text.items at all in (
-      start_text layout (exchanged d own) name query.counts.asked ++ exchanged d rest,
-      rw c.byte.ensures.byte at c.put_back.ensures ∙ put ∙ ap (λ (l : List ℕ). old ++ l) (row_put_back layout.start d own name asked rest),
+      start_text layout (exchanged d own) name query.counts.input ++ exchanged d rest,
+      rw c.byte.ensures.byte at c.put_back.ensures ∙ put ∙ ap (λ (l : List ℕ). old ++ l) (row_put_back layout.start d own name input rest),
       text_made piece given query c.args.writer.now c.byte.ensures.sound c.are_sound.ensures c.requires.query c.requires.answers,
     )

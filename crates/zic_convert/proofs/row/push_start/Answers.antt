@@ -2,9 +2,9 @@ use Rattle.std.proofs.Common.{◌∙◌, ◌++◌, ℕ, List, ap}
 use Rattle.std.proofs.lemmas.Result.{on_ok_weaker}
 use Rattle.zic_columns.specs.Record.{record_at}
 use Rattle.zic_zones.specs.Zones.{zone_in}
-use Rattle.zic_convert.specs.LayoutRows.{asked_text}
+use Rattle.zic_convert.specs.LayoutRows.{input_text}
 use Rattle.zic_convert.proofs.Columns.{number_within}
-use Rattle.zic_convert.proofs.RowFaults.{name_told, start_pushed}
+use Rattle.zic_convert.proofs.RowFaults.{name_is, start_pushed}
 use Rattle.zic_convert.proofs.row.push_start.Goals as goal
 
 pub name-requires : goal.name-requires
@@ -17,9 +17,9 @@ returns-in_ok-extend_from_slice-in-Fields c =
     let piece = c.args.piece.now in
     let name = zone_in piece.layout.now.zone (record_at piece.bytes.now c.args.given.now).fields in
     let old = c.args.text.now.items in
-    let asked = asked_text piece.layout.now.from piece.layout.now.unit c.args.query.counts.asked in
-    let called = name_told piece.zones.now name c.args.query.file c.name.result.now c.requires.query.file c.name.ensures in
-    rw c.in-Fields.is (on_ok_weaker c.push_asked.result
-    (λ is. start_pushed old name asked c.extend_from_slice-in-Fields.new.self.items c.push_asked.new.text.items
+    let input = input_text piece.layout.now.from piece.layout.now.unit c.args.query.counts.input in
+    let called = name_is piece.zones.now name c.args.query.file c.name.result.now c.requires.query.file c.name.ensures in
+    rw c.in-Fields.is (on_ok_weaker c.push_input.result
+    (λ is. start_pushed old name input c.extend_from_slice-in-Fields.new.self.items c.push_input.new.text.items
     (c.in_ok-extend_from_slice-in-Fields.ensures.items ∙ ap (λ (l : List ℕ). old ++ l) called) is)
-    c.push_asked.ensures)
+    c.push_input.ensures)

@@ -14,7 +14,7 @@ returns-in-Some c = λ says.
       record {
         file = c.in-Some.file;
         zone_is = c.in-Some.is;
-        told = λ same. c.if-time-ne-NO_TIME.true (rw same refl);
+        has_time = λ same. c.if-time-ne-NO_TIME.true (rw same refl);
         admitted = sym c.if-not-admits.ensures;
         answers = subst (λ (files : List File). AnswersAt files c.in-Some.file time.second state) c.requires.files answers;
       },

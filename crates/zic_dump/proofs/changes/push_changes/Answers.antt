@@ -22,11 +22,11 @@ loop-span-init c =
     let f = to_z-of_z c.ranges.first in
     let l = to_z-of_z c.ranges.last in
     let order = c.requires.order in
-    let asked = subst (λ (z : ℤ). Includes c.span-span.result.instants z) f c.span-span.ensures.asked in
+    let requested = subst (λ (z : ℤ). Includes c.span-span.result.instants z) f c.span-span.ensures.requested in
     rw (f, l) (
       c.args.first,
       [],
-      asked,
+      requested,
       omega (arith, ints),
       omega (arith, ints, order),
       c.span-span.ensures.answers,
@@ -52,7 +52,7 @@ push_change-requires-clause-listed c =
     subst (λ (z : ℤ). IsListed z) (sym next) (record { low = omega (arith, ints, to, from, f, low); high = omega (arith, ints, test, high, e, l) })
 
 pub push_change-requires-clause-offset : goal.push_change-requires-clause-offset
-push_change-requires-clause-offset c = c.requires.offsets _ (answered c.span-next.result.answer) (c.span-next.ensures.answers _ c.span-next.ensures.asked)
+push_change-requires-clause-offset c = c.requires.offsets _ (answered c.span-next.result.answer) (c.span-next.ensures.answers _ c.span-next.ensures.requested)
 
 pub loop-span-smaller : goal.loop-span-smaller
 loop-span-smaller c =
@@ -62,7 +62,7 @@ loop-span-smaller c =
     let next = next_is old c.args.last fits c.ranges.last (let test = c.loop-span-test.true in omega (arith, ints, test)) in
     let l = to_z-of_z c.ranges.last in
     let test = c.loop-span-test.true in
-    let to = c.span-next.ensures.asked.to in
+    let to = c.span-next.ensures.requested.to in
     smaller (to_z w64 (of_z w64 c.args.last)) old c.span-next.result.instants.last (omega (arith, ints, test, l, e)) (omega (arith, ints, to, next))
 
 pub loop-span-smaller-in_ok-push_change : goal.loop-span-smaller-in_ok-push_change
@@ -73,7 +73,7 @@ loop-span-smaller-in_ok-push_change c =
     let next = next_is old c.args.last fits c.ranges.last (let test = c.loop-span-test.true in omega (arith, ints, test)) in
     let l = to_z-of_z c.ranges.last in
     let test = c.loop-span-test.true in
-    let to = c.span-next.ensures.asked.to in
+    let to = c.span-next.ensures.requested.to in
     smaller (to_z w64 (of_z w64 c.args.last)) old c.span-next.result.instants.last (omega (arith, ints, test, l, e)) (omega (arith, ints, to, next))
 
 pub loop-span-preserved : goal.loop-span-preserved
@@ -88,17 +88,17 @@ loop-span-preserved c =
     let from = inv.3 in
     let to = inv.2.to in
     let test = c.loop-span-test.true in
-    let asked = subst (λ (z : ℤ). Includes c.span-next.result.instants z) next c.span-next.ensures.asked in
+    let requested = subst (λ (z : ℤ). Includes c.span-next.result.instants z) next c.span-next.ensures.requested in
     let same : answered c.loop-span.span.answer ≡ answered c.span-next.result.answer = search rules in
     let first = to_z w64 (of_z w64 c.args.first) in (
       at,
       inv.1,
-      asked,
+      requested,
       omega (arith, ints, from, to),
       omega (arith, ints, test, l, e),
       c.span-next.ensures.answers,
       step_same c.args.zone.now first inv.0 c.loop-span.span.instants c.span-next.result.instants (answered c.loop-span.span.answer) (answered c.span-next.result.answer)
-          inv.1 inv.3 inv.2 inv.5 c.span-next.ensures.answers inv.6 at (omega (arith, ints)) asked same,
+          inv.1 inv.3 inv.2 inv.5 c.span-next.ensures.answers inv.6 at (omega (arith, ints)) requested same,
       inv.7,
       search rules,
     )
@@ -117,17 +117,17 @@ loop-span-preserved-in_ok-push_change c =
     let pushed = c.in_ok-push_change.ensures in
     let change = pushed.0 in
     let is : change.instant ≡ old +ℤ pos 1 = pushed.1 ∙ next in
-    let asked = subst (λ (z : ℤ). Includes c.span-next.result.instants z) (sym pushed.1) c.span-next.ensures.asked in
+    let requested = subst (λ (z : ℤ). Includes c.span-next.result.instants z) (sym pushed.1) c.span-next.ensures.requested in
     let differ : (answered c.loop-span.span.answer ≡ answered c.span-next.result.answer) → ⊥ = search rules in
     let first = to_z w64 (of_z w64 c.args.first) in (
       change.instant,
       inv.1 ++ change ∷ [],
-      asked,
+      requested,
       omega (arith, ints, from, to, is),
       omega (arith, ints, test, l, e, is),
       c.span-next.ensures.answers,
       step_change c.args.zone.now first inv.0 c.loop-span.span.instants c.span-next.result.instants (answered c.loop-span.span.answer) (answered c.span-next.result.answer)
-          inv.1 inv.3 inv.2 inv.5 c.span-next.ensures.answers inv.6 change is asked differ pushed.2 pushed.3,
+          inv.1 inv.3 inv.2 inv.5 c.span-next.ensures.answers inv.6 change is requested differ pushed.2 pushed.3,
       text_more c.args.text.now.items c.loop-span.text.items c.push_change.new.text.items inv.1 change inv.7 pushed.4,
       search rules,
     )

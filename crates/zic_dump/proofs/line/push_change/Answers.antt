@@ -12,7 +12,7 @@ returns c =
     let fits : FitsSigned w64 c.args.t = c.ranges.t in
     let local = c.local_time-local.result in
     let local_is = simp to_z-of_z at c.local_time-local.ensures.local in
-    let is = c.told-state.ensures in
+    let is = c.shown_for-state.ensures in
     let old = c.args.text.now.items in
     let new = c.push_line.new.text.items in
     on_ok_weaker c.push_line.result

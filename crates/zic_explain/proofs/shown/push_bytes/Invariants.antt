@@ -1,5 +1,5 @@
 use Rattle.std.proofs.Common.{string_bytes}
-use Rattle.zic_explain.specs.code.Shown.{StaysShown}
+use Rattle.zic_explain.specs.Shown.{StaysShown}
 use Rattle.zic_explain.proofs.shown.push_bytes.Given as goal
 
 -- a text that was shown before still is

@@ -9,7 +9,7 @@ returns-in_err-find_zone-clause-err g c =
     let p = err_from_is_err_and c.from_residual.result c.from_residual.ensures.1 in
     rw (p.1, p.2) (inl (record {
       untouched = record { unread = refl; unwritten = refl; unnoted = refl };
-      alone = c.in_err-find_zone.ensures.asked;
+      alone = c.in_err-find_zone.ensures.requested;
       of_zones = c.in_err-find_zone.ensures.err;
     }))
 
@@ -28,11 +28,11 @@ returns-in-Err-clause-err g c =
     let zones = c.args.zones.now in
     let mid = c.find_zone.new.zones in
     let new = c.convert_column.new.zones in
-    let run = run_of g.R.Read.remaining g.W.Write.contents g.L.FaultLog.noted c.args.reader.now c.convert_column.new.reader c.args.writer.now c.convert_column.new.writer c.args.log.now
+    let run = run_of g.R.Read.remaining g.W.Write.contents g.L.RowLog.noted c.args.reader.now c.convert_column.new.reader c.args.writer.now c.convert_column.new.writer c.args.log.now
     c.convert_column.new.log in
     elim c.in-Err.ensures.err [
-      | inl names ↦ inr (inl (names_fail g.Z.Zones.grown g.Z.Zones.broken g.Z.Zones.asked_for g.Z.Zones.may_be g.met.Z.Zones.then g.met.Z.Zones.narrows zones mid new c.in_ok-find_zone.ensures.grown layout c.in_ok-find_zone.ensures.asked
+      | inl names ↦ inr (inl (names_fail g.Z.Zones.grown g.Z.Zones.broken g.Z.Zones.requests g.Z.Zones.may_be g.met.Z.Zones.then g.met.Z.Zones.narrows zones mid new c.in_ok-find_zone.ensures.grown layout c.in_ok-find_zone.ensures.requested
           c.in_ok-find_zone.ensures.ok run c.in-Err.stop c.run_failure.result c.run_failure.ensures c.args.conversion.now.plan.now.max_bytes c.in-Err.ensures.cause names))
-      | inr rows ↦ inr (inr (rows_fail g.Z.Zones.grown g.Z.Zones.broken g.Z.Zones.asked_for g.Z.Zones.may_be g.met.Z.Zones.then g.met.Z.Zones.narrows zones mid new c.in_ok-find_zone.ensures.grown layout c.in_ok-find_zone.ensures.asked
+      | inr rows ↦ inr (inr (rows_fail g.Z.Zones.grown g.Z.Zones.broken g.Z.Zones.requests g.Z.Zones.may_be g.met.Z.Zones.then g.met.Z.Zones.narrows zones mid new c.in_ok-find_zone.ensures.grown layout c.in_ok-find_zone.ensures.requested
           c.in_ok-find_zone.ensures.ok run c.in-Err.stop c.run_failure.result c.run_failure.ensures c.args.conversion.now.plan.now c.in-Err.ensures.cause rows))
     ]

@@ -4,8 +4,8 @@ use Rattle.std.proofs.lemmas.Result.{err_from_is_err_and}
 use Rattle.zic_file_commands.proofs.ReadingLemmas.{read_stop}
 use Rattle.zic_file_commands.proofs.show_local_command.lines_of.Goals as goal
 
-pub instants-told-requires-clause-offsets : goal.instants-told-requires-clause-offsets
-instants-told-requires-clause-offsets c = c.instants_are_near.ensures.offsets c.args.bytes.now c.in_ok-zone.zone c.in_ok-zone.ensures.ok
+pub instants-found-requires-clause-offsets : goal.instants-found-requires-clause-offsets
+instants-found-requires-clause-offsets c = c.instants_are_near.ensures.offsets c.args.bytes.now c.in_ok-zone.zone c.in_ok-zone.ensures.ok
 
 pub lines_for-requires-clause-offsets : goal.lines_for-requires-clause-offsets
 lines_for-requires-clause-offsets c = c.instants_are_near.ensures.offsets c.args.bytes.now c.in_ok-zone.zone c.in_ok-zone.ensures.ok
@@ -21,7 +21,7 @@ returns-clause-ok c =
     record {
       content = c.in_ok-zone.zone;
       is_file = c.in_ok-zone.ensures.ok;
-      told = c.instants-told.result;
-      tells = rw c.seconds.ensures.value at (simp to_z-of_z at c.instants-told.ensures);
+      found = c.instants-found.result;
+      is_found = rw c.seconds.ensures.value at (simp to_z-of_z at c.instants-found.ensures);
       are_lines = c.in_ok-lines.ensures;
     }

@@ -21,27 +21,27 @@ returns-in_err-source_text-clause-err g c =
     (g.I.Read.remaining c.args.input.now.inner) (texts_of l.texts.items) c.args.input.now l.input c.source_text.new.input
     c.in_err-source_text.field-0.0 whole l.invariant.0 l.invariant.2 unread)
 
-pub returns-in_err-source_text-clause-unasked : goal.returns-in_err-source_text-clause-unasked
-returns-in_err-source_text-clause-unasked g c =
+pub returns-in_err-source_text-clause-unrequested : goal.returns-in_err-source_text-clause-unrequested
+returns-in_err-source_text-clause-unrequested g c =
     let l = c.loop-word in
     let word = c.word-item.result in
     let words = c.args.words.now in
     let whole = ap (map string_bytes) (parts words l.word-index word c.loop-word-test.true (sym c.word-item.is)) ∙ map-append string_bytes (take l.word-index words) (word ∷ drop (l.word-index + 1) words) in
-    let unasked = rw c.as_str.ensures.value at c.source_text.ensures.unasked in
+    let unrequested = rw c.as_str.ensures.value at c.source_text.ensures.unrequested in
     λ files.
     let split = files_parts (map string_bytes (take l.word-index words)) (string_bytes word) (map string_bytes (drop (l.word-index + 1) words)) (rw whole at files) in
-    unasked split.1 ∙ l.invariant.2 split.0
+    unrequested split.1 ∙ l.invariant.2 split.0
 
-pub returns-in_err-push-clause-unasked : goal.returns-in_err-push-clause-unasked
-returns-in_err-push-clause-unasked g c =
+pub returns-in_err-push-clause-unrequested : goal.returns-in_err-push-clause-unrequested
+returns-in_err-push-clause-unrequested g c =
     let l = c.loop-word in
     let word = c.word-item.result in
     let words = c.args.words.now in
     let whole = ap (map string_bytes) (parts words l.word-index word c.loop-word-test.true (sym c.word-item.is)) ∙ map-append string_bytes (take l.word-index words) (word ∷ drop (l.word-index + 1) words) in
-    let unasked = rw c.as_str.ensures.value at c.source_text.ensures.unasked in
+    let unrequested = rw c.as_str.ensures.value at c.source_text.ensures.unrequested in
     λ files.
     let split = files_parts (map string_bytes (take l.word-index words)) (string_bytes word) (map string_bytes (drop (l.word-index + 1) words)) (rw whole at files) in
-    unasked split.1 ∙ l.invariant.2 split.0
+    unrequested split.1 ∙ l.invariant.2 split.0
 
 pub loop-word-preserved : goal.loop-word-preserved
 loop-word-preserved g c =
@@ -57,13 +57,13 @@ loop-word-preserved g c =
     ap (map string_bytes) (taken c.args.words.now l.word-index word c.loop-word-test.true (sym c.word-item.is)) ∙ map-append string_bytes before (word ∷ []) in
     let pushed : texts_of c.push.new.self.items ≡ texts_of l.texts.items ++ text.items ∷ [] = ap texts_of c.in_ok-push.ensures.items ∙ map-append (λ t. t.items) l.texts.items (text ∷ []) in
     let whole = rw c.as_str.ensures.value at c.in_ok-source_text.ensures.whole in
-    let unasked = rw c.as_str.ensures.value at c.in_ok-source_text.ensures.unasked in
+    let unrequested = rw c.as_str.ensures.value at c.in_ok-source_text.ensures.unrequested in
     let known = known_afters names input in (
       rw (one_more, pushed) (text_more names input (texts_of l.texts.items) name text.items l.invariant.0 (text_of name known left text.items l.invariant.1 c.in_ok-source_text.ensures.size whole)),
-      rw (one_more, known_more names name input) (known_on name known left (g.I.Read.remaining c.source_text.new.input.inner) l.invariant.1 (λ other. ap (λ r. g.I.Read.remaining r.inner) (unasked other))),
+      rw (one_more, known_more names name input) (known_on name known left (g.I.Read.remaining c.source_text.new.input.inner) l.invariant.1 (λ other. ap (λ r. g.I.Read.remaining r.inner) (unrequested other))),
       λ files.
           let none = All-pop (λ (w : List ℕ). w ≢ STANDARD_INPUT.now) (names ++ name ∷ []) names (Some name) refl (rw one_more at files) in
-          unasked none.1 ∙ l.invariant.2 none.0,
+          unrequested none.1 ∙ l.invariant.2 none.0,
     )
 
 pub returns-clause-err : goal.returns-clause-err
@@ -74,7 +74,7 @@ returns-clause-ok g c =
     let all = ap (map string_bytes) (take_all c.loop-word.word-index c.args.words.now c.loop-word-test.false) in
     subst (λ (names : List (List ℕ)). AreTextsOf names (g.I.Read.remaining c.args.input.now.inner) (texts_of c.loop-word.texts.items)) all c.loop-word.invariant.0
 
-pub returns-clause-unasked : goal.returns-clause-unasked
-returns-clause-unasked g c =
+pub returns-clause-unrequested : goal.returns-clause-unrequested
+returns-clause-unrequested g c =
     let all = ap (map string_bytes) (take_all c.loop-word.word-index c.args.words.now c.loop-word-test.false) in
     λ files. c.loop-word.invariant.2 (subst AreFiles (sym all) files)

@@ -6,9 +6,9 @@ use Rattle.zic_lines.specs.code.Taken.{without_quotes}
 use Rattle.zic_lines.proofs.field.text_without_quotes.Goals as goal
 use Rattle.zic_lines.proofs.field.text_without_quotes.Goals.{then-byte-ne34+in_ok-push, else-byte-ne34}
 
-kept_more : (xs : List ℕ) (i : ℕ) (text : List ℕ) → i < length xs → text ≡ without_quotes (take i xs) → get_or xs i 0 ≢ 34
+same_more : (xs : List ℕ) (i : ℕ) (text : List ℕ) → i < length xs → text ≡ without_quotes (take i xs) → get_or xs i 0 ≢ 34
     → text ++ get_or xs i 0 ∷ [] ≡ without_quotes (take (i + 1) xs)
-kept_more xs i text lt so_far other =
+same_more xs i text lt so_far other =
     let more = filter_more (λ (byte : ℕ). not (is_quote byte)) xs i 0 lt in
     grind (arith, nat_tests)
 
@@ -28,6 +28,6 @@ loop-byte-preserved c =
     let i = c.loop-byte.byte-index in
     elim c.if-byte-ne34.branch [
       | then-byte-ne34+in_ok-push w ↦
-          rw (w.text-is, w.in_ok-push.ensures.items) (kept_more xs i c.loop-byte.text.items c.loop-byte-test.true c.loop-byte.invariant w.if-byte-ne34.true)
+          rw (w.text-is, w.in_ok-push.ensures.items) (same_more xs i c.loop-byte.text.items c.loop-byte-test.true c.loop-byte.invariant w.if-byte-ne34.true)
       | else-byte-ne34 w ↦ rw w.text-is (left_out xs i c.loop-byte.text.items c.loop-byte-test.true c.loop-byte.invariant w.if-byte-ne34.false)
     ]

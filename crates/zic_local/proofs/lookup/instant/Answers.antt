@@ -1,7 +1,7 @@
 use Rattle.std.proofs.Common.{◌≡◌, ℤ, inl, inr, ◌+ℤ◌, ◌∷◌, [], ◌++◌, to_z-of_z, w64, FitsSigned, sym, subst, rules}
 use Rattle.zic_plan.specs.declared.disambiguation.Disambiguation.{Disambiguation}
 use Rattle.zic_local.specs.declared.local_instants.LocalInstants.TheVariants as instants
-use Rattle.zic_local.specs.LocalTime.{AreInstantsOf, IsFoldOf, Tells}
+use Rattle.zic_local.specs.LocalTime.{AreInstantsOf, IsFoldOf, AnswersLocal}
 use Rattle.zic_local.specs.Choice.{Means}
 use Rattle.zic_local.proofs.Choices.{means_only, first_of, last_of}
 use Rattle.zic_local.proofs.lookup.instant.Goals as goal
@@ -16,8 +16,8 @@ pub returns-in-Earlier : goal.returns-in-Earlier
 returns-in-Earlier c =
     let fold = c.in-Fold.fold in
     let fits : FitsSigned w64 fold.first = search rules in
-    let told = subst (λ (local : ℤ). IsFoldOf c.args.zone.now local fold) (to_z-of_z c.ranges.local) c.in-Fold.ensures in
-    let first = first_of c.args.zone.now c.args.local fold.first (told.between ++ fold.last ∷ []) told.are in
+    let given = subst (λ (local : ℤ). IsFoldOf c.args.zone.now local fold) (to_z-of_z c.ranges.local) c.in-Fold.ensures in
+    let first = first_of c.args.zone.now c.args.local fold.first (given.between ++ fold.last ∷ []) given.are in
     let Meant = λ (choice : Disambiguation). Means c.args.zone.now c.args.local choice fold.first in
     rw (to_z-of_z fits) (elim c.in-Earlier.is [
       | inl earlier ↦ subst Meant (sym earlier) (inl first)
@@ -28,8 +28,8 @@ pub returns-in-Later : goal.returns-in-Later
 returns-in-Later c =
     let fold = c.in-Fold.fold in
     let fits : FitsSigned w64 fold.last = search rules in
-    let told = subst (λ (local : ℤ). IsFoldOf c.args.zone.now local fold) (to_z-of_z c.ranges.local) c.in-Fold.ensures in
-    let last = last_of c.args.zone.now c.args.local (fold.first ∷ told.between) fold.last told.are in
+    let given = subst (λ (local : ℤ). IsFoldOf c.args.zone.now local fold) (to_z-of_z c.ranges.local) c.in-Fold.ensures in
+    let last = last_of c.args.zone.now c.args.local (fold.first ∷ given.between) fold.last given.are in
     rw (to_z-of_z fits) (subst (λ (choice : Disambiguation). Means c.args.zone.now c.args.local choice fold.last) (sym c.in-Later.is) (inl last))
 
 pub returns-in-Reject-disambiguation : goal.returns-in-Reject-disambiguation
@@ -39,7 +39,7 @@ pub returns-in-Earlier-disambiguation : goal.returns-in-Earlier-disambiguation
 returns-in-Earlier-disambiguation c =
     let t = c.read_by.result in
     let fits : FitsSigned w64 t = search rules in
-    let in_gap = subst (λ (local : ℤ). Tells c.args.zone.now local (instants.Gap c.in-Gap.gap)) (to_z-of_z c.ranges.local) c.in-Gap.ensures in
+    let in_gap = subst (λ (local : ℤ). AnswersLocal c.args.zone.now local (instants.Gap c.in-Gap.gap)) (to_z-of_z c.ranges.local) c.in-Gap.ensures in
     let is : t +ℤ c.in-Gap.gap.after ≡ c.args.local = search rules in
     rw (to_z-of_z fits) (subst (λ (choice : Disambiguation). Means c.args.zone.now c.args.local choice t) (sym c.in-Earlier-disambiguation.is)
     (inr (record { gap = c.in-Gap.gap; in_gap = in_gap; is = is })))
@@ -48,7 +48,7 @@ pub returns-in-Later-disambiguation : goal.returns-in-Later-disambiguation
 returns-in-Later-disambiguation c =
     let t = c.read_by-in-Later-disambiguation.result in
     let fits : FitsSigned w64 t = search rules in
-    let in_gap = subst (λ (local : ℤ). Tells c.args.zone.now local (instants.Gap c.in-Gap.gap)) (to_z-of_z c.ranges.local) c.in-Gap.ensures in
+    let in_gap = subst (λ (local : ℤ). AnswersLocal c.args.zone.now local (instants.Gap c.in-Gap.gap)) (to_z-of_z c.ranges.local) c.in-Gap.ensures in
     let is : t +ℤ c.in-Gap.gap.before ≡ c.args.local = search rules in
     let Meant = λ (choice : Disambiguation). Means c.args.zone.now c.args.local choice t in
     rw (to_z-of_z fits) (elim c.in-Later-disambiguation.is [

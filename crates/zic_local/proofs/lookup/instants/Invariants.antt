@@ -5,7 +5,7 @@ use Rattle.zic_local.specs.code.Walk.{IsWalked}
 use Rattle.zic_local.proofs.lookup.instants.Given as goal
 
 abbrev pub invariant-loop-span : goal.invariant-loop-span
-invariant-loop-span l = IsWalked l.zone l.local l.span.instants (answered l.span.answer) l.told
+invariant-loop-span l = IsWalked l.zone l.local l.span.instants (answered l.span.answer) l.given
 
 -- the seconds after the span
 abbrev pub decreases-loop-span : goal.decreases-loop-span

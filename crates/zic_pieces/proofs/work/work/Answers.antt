@@ -13,12 +13,12 @@ loop-i-smaller-in-Err g c =
 pub loop-i-preserved-in-Err : goal.loop-i-preserved-in-Err
 loop-i-preserved-in-Err g c =
     let a = c.in-Do.ensures.answer in
-    let told = c.report.ensures.reported in
-    let same : c.report.new.pass.known.pieces ≡ c.loop-i.pass.known.pieces = ap (λ (k : Known). k.pieces) told.1 ∙ ap (λ (k : Known). k.pieces) a.1.3 in
-    let parts : c.report.new.pass.known.parts ≡ c.loop-i.pass.known.parts = ap (λ (k : Known). k.parts) told.1 ∙ ap (λ (k : Known). k.parts) a.1.3 in (
-      (told.0 ∙ (c.claim.ensures.whose ∙ c.loop-i.invariant.0.0), same ∙ c.loop-i.invariant.0.1),
+    let notified = c.report.ensures.reported in
+    let same : c.report.new.pass.known.pieces ≡ c.loop-i.pass.known.pieces = ap (λ (k : Known). k.pieces) notified.1 ∙ ap (λ (k : Known). k.pieces) a.1.3 in
+    let parts : c.report.new.pass.known.parts ≡ c.loop-i.pass.known.parts = ap (λ (k : Known). k.parts) notified.1 ∙ ap (λ (k : Known). k.parts) a.1.3 in (
+      (notified.0 ∙ (c.claim.ensures.whose ∙ c.loop-i.invariant.0.0), same ∙ c.loop-i.invariant.0.1),
       parts ∙ c.loop-i.invariant.1,
-      step_halt _ _ _ _ c.loop-i.invariant.2 _ _ _ _ _ _ a told.1 c.in-Err.ensures.err.0 c.in-Err.ensures.err.1 c.lesser-halt.ensures,
+      step_halt _ _ _ _ c.loop-i.invariant.2 _ _ _ _ _ _ a notified.1 c.in-Err.ensures.err.0 c.in-Err.ensures.err.1 c.lesser-halt.ensures,
     )
 
 pub loop-i-smaller-in_default : goal.loop-i-smaller-in_default

@@ -15,8 +15,8 @@ year_fits year from to = omega (arith, ints)
 difference_fits : (instant second : ℤ) → IsNear instant → unsigned_abs second ≤ 260_000_000_000 → FitsSigned w64 (to_z w64 (of_z w64 instant) -ℤ to_z w64 (of_z w64 second))
 difference_fits instant second near start = omega (arith, ints)
 
-kept : (instant second : ℤ) → IsNear instant → unsigned_abs second ≤ 260_000_000_000 → to_z w64 (of_z w64 (to_z w64 (of_z w64 instant) -ℤ to_z w64 (of_z w64 second))) ≡ instant -ℤ second
-kept instant second near start = omega (arith, ints)
+fits_64 : (instant second : ℤ) → IsNear instant → unsigned_abs second ≤ 260_000_000_000 → to_z w64 (of_z w64 (to_z w64 (of_z w64 instant) -ℤ to_z w64 (of_z w64 second))) ≡ instant -ℤ second
+fits_64 instant second near start = omega (arith, ints)
 
 -- the table has one place more
 one_more : (seconds : List ℤ) (kind : ℕ) (second : ℤ) (value : ℕ → ℤ) → length seconds ≡ 14 → kind < 14 → second ≡ value kind → ((k : ℕ) → k < kind → get_or seconds k (pos 0) ≡ value k)
@@ -53,7 +53,7 @@ loop-kind-preserved c =
     let instant = rw (to_z-of_z c.ranges.offset, to_z-of_z fits) at c.instant_in.ensures in
     let start = rw (to_z-of_z fits) at c.new.ensures.second in
     let there = near_instant edge offset year c.requires.edge c.requires.offset (omega (arith, ints, near.0)) (omega (arith, ints, near.1)) in
-    let second = kept c.instant_in.result c.new.result.second (rw instant there) c.new.ensures.near in
+    let second = fits_64 c.instant_in.result c.new.result.second (rw instant there) c.new.ensures.near in
     let is : c.instant_in.result -ℤ c.new.result.second ≡ edge_second edge offset kind = omega (arith, ints, instant, start) in
     let before = rw (to_z-of_z c.ranges.offset) at c.loop-kind.invariant.1 in
     rw (to_z-of_z c.ranges.offset) (one_more c.loop-kind.seconds kind _ (edge_second edge offset) c.loop-kind.invariant.0 within (second ∙ is) before)

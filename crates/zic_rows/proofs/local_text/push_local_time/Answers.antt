@@ -4,7 +4,7 @@ use Rattle.std.specs.Int.{w128}
 use Rattle.std.proofs.lemmas.Result.{on_ok_weaker}
 use Rattle.zic_base.specs.Digits.{clock_text}
 use Rattle.zic_rows.specs.Count.{fraction_of, fraction_text, local_count_text, second_of}
-use Rattle.zic_rows.specs.code.Kept.{kept_date}
+use Rattle.zic_rows.specs.code.Cached.{cached_date}
 use Rattle.zic_rows.proofs.LocalTimes.{local_appended, local_parts, local_second_fits}
 use Rattle.zic_rows.proofs.local_text.push_local_time.Goals as goal
 
@@ -25,7 +25,7 @@ returns c =
     let date = c.date_text-date.result in
     let parts : (take 5 date.year ++ take 7 date.day) ++ (c.time_text.result ++ fraction_text u moment.result.fraction) ≡ 44 ∷ local_count_text u count =
     ap₂ (λ (a b : List ℕ). a ++ (b ++ fraction_text u moment.result.fraction)) c.date_text-date.ensures c.time_text.ensures
-    ∙ ap (λ (n : ℕ). kept_date (seconds / 86_400) ++ (clock_text (seconds % 86_400) ++ fraction_text u n)) fraction
+    ∙ ap (λ (n : ℕ). cached_date (seconds / 86_400) ++ (clock_text (seconds % 86_400) ++ fraction_text u n)) fraction
     ∙ local_parts u count seconds counted in
     on_ok_weaker c.push_fraction.result
     (λ pushed. local_appended c.args.text.now.items c.extend_from_slice.new.self.items c.extend_from_slice-2.new.self.items c.extend_from_slice-3.new.self.items c.push_fraction.new.text.items

@@ -8,10 +8,10 @@ use Rattle.zic_rules.specs.declared.period.Period.{Period}
 use Rattle.zic_rules.specs.code.Period.{the_zone}
 use Rattle.zic_rules.specs.code.End.{IsInYears}
 use Rattle.zic_rules.specs.code.Held.{AreSoFar}
-use Rattle.zic_rules.specs.code.Line.{IsLineTo, TellsKept, period_at}
+use Rattle.zic_rules.specs.code.Line.{IsLineTo, GivesInForce, period_at}
 use Rattle.zic_rules.proofs.Years.{cast}
-use Rattle.zic_rules.proofs.Added.{few_lines, has_line, tells_to_window, window_of_line, added_first, added_later, before_cast, window_cast}
-use Rattle.zic_rules.proofs.Tells.{rising_before}
+use Rattle.zic_rules.proofs.Added.{few_lines, has_line, gives_to_window, window_of_line, added_first, added_later, before_cast, window_cast}
+use Rattle.zic_rules.proofs.OccurrencesOfLines.{rising_before}
 use Rattle.zic_rules.proofs.Outcomes.{if_ok_map}
 use Rattle.zic_rules.proofs.line.add_periods.Goals as goal
 
@@ -35,8 +35,8 @@ returns-in_default-clause-held c =
     (e ∙ ap (λ (xs : List TimedOccurrence). c.args.periods.now.items ++ map (period_at number) xs) mine))
     c.add_occurrences.ensures.items
 
-pub window_end-window-requires-clause-tells : goal.window_end-window-requires-clause-tells
-window_end-window-requires-clause-tells c =
+pub window_end-window-requires-clause-gives : goal.window_end-window-requires-clause-gives
+window_end-window-requires-clause-gives c =
     let zone = the_zone c.args.zone in
     let number = c.args.number in
     let s = c.in-Some.start in
@@ -45,9 +45,9 @@ window_end-window-requires-clause-tells c =
     let same = cast 9002 s (omega arith) in_years.0 in
     let mine = before_cast c.args.occurrences.now c.before-mine.result.now c.args.end c.ranges.end c.before-mine.ensures in
     let is = subst (λ (o : Option ℤ). IsLineTo zone number o c.args.end (before c.args.occurrences.now c.args.end)) c.in-Some.is c.requires.line in
-    subst (λ (t : ℤ). IfSome (line_at zone number) (λ line. TellsKept zone (t +ℤ pos 432_000) line c.before-mine.result.now)) (sym same)
-    (subst (λ (xs : List TimedOccurrence). IfSome (line_at zone number) (λ line. TellsKept zone (s +ℤ pos 432_000) line xs)) (sym mine)
-    (tells_to_window zone number s c.args.end _ has is))
+    subst (λ (t : ℤ). IfSome (line_at zone number) (λ line. GivesInForce zone (t +ℤ pos 432_000) line c.before-mine.result.now)) (sym same)
+    (subst (λ (xs : List TimedOccurrence). IfSome (line_at zone number) (λ line. GivesInForce zone (s +ℤ pos 432_000) line xs)) (sym mine)
+    (gives_to_window zone number s c.args.end _ has is))
 
 pub rule_at-requires : goal.rule_at-requires
 rule_at-requires c =

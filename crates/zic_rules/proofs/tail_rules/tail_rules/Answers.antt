@@ -8,7 +8,7 @@ use Rattle.zic_rules.specs.code.Period.{the_zone}
 use Rattle.zic_rules.specs.Tail.{AreTailRules}
 use Rattle.zic_rules.specs.code.Tail.{continuing}
 use Rattle.zic_rules.proofs.TailHeld.{offset_within, unnamed_for_ever}
-use Rattle.zic_rules.proofs.TailRules.{fixed_line, number_within, of_set, never_ends, none_is, kept_more, kept_same, of_none}
+use Rattle.zic_rules.proofs.TailRules.{fixed_line, number_within, of_set, never_ends, none_is, so_far_more, so_far_same, of_none}
 use Rattle.zic_rules.proofs.tail_rules.tail_rules.Goals as goal
 use Rattle.zic_rules.proofs.tail_rules.tail_rules.Goals.{then-is_none+in-Ok+in_ok-push-in-Ok, else-is_none}
 
@@ -82,10 +82,10 @@ loop-number-preserved c =
     elim c.if-is_none.branch [
       | then-is_none+in-Ok+in_ok-push-in-Ok w ↦
           rw (w.rules-is, w.in_ok-push-in-Ok.ensures.items)
-          (kept_more rules_of line numbers i c.loop-number-test.true rule c.rule-rule.ensures.rule old w.in-Ok.tail
+          (so_far_more rules_of line numbers i c.loop-number-test.true rule c.rule-rule.ensures.rule old w.in-Ok.tail
           (none ∙ w.if-is_none.true) w.in-Ok.ensures.ok c.loop-number.invariant)
       | else-is_none w ↦
           rw w.rules-is
-          (kept_same rules_of line numbers i c.loop-number-test.true rule c.rule-rule.ensures.rule old
+          (so_far_same rules_of line numbers i c.loop-number-test.true rule c.rule-rule.ensures.rule old
           (none ∙ w.if-is_none.false) c.loop-number.invariant)
     ]

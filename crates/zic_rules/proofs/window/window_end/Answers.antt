@@ -1,5 +1,5 @@
 use Rattle.std.proofs.Common.{◌≡◌, ◌∙◌, Option, ℕ, arith, ap, subst, sym, ℤ, to_z, of_z, w64}
-use Rattle.zic_states.specs.Kept.{IsRuleOf}
+use Rattle.zic_states.specs.InForce.{IsRuleOf}
 use Rattle.zic_rules.specs.code.Period.{the_zone}
 use Rattle.std.specs.Prelude.{IfSome}
 use Rattle.zic_states.specs.ByList.{rule_at}
@@ -36,7 +36,7 @@ returns-clause-window c =
     let rule : c.rule_at.result ≡ rule_at c.args.mine.now start = c.rule_at.ensures ∙ ap (rule_at c.args.mine.now) same in
     let other = subst (λ (r : Option ℕ). IsTotalOffset c.args.zone.source.now.rules c.line-2.result.now r at_start) rule c.total_offset-later.ensures in
     subst (λ (end : ℤ). IfSome (line_at zone c.args.number) (λ line. IsEndOfWindow zone c.args.number line end)) (sym sum.is)
-    (window zone start c.args.periods.now c.args.mine.now c.line.result.now c.line-2.result.now before at_start c.args.number c.requires.so_far at at_later c.requires.tells one other)
+    (window zone start c.args.periods.now c.args.mine.now c.line.result.now c.line-2.result.now before at_start c.args.number c.requires.so_far at at_later c.requires.gives one other)
 
 pub returns-clause-from : goal.returns-clause-from
 returns-clause-from c =

@@ -7,13 +7,13 @@ pub returns-then-last-before-clause-right : goal.returns-then-last-before-clause
 returns-then-last-before-clause-right c =
     let before = c.known_from-before in
     let f = to_z-of_z c.ranges.start in
-    let asked = subst (λ (t : ℤ). Includes before.result.instants t) f before.ensures.asked in
-    right_throughout c.args.zone.now c.args.numbers.now c.args.start before.result before.ensures.known asked (search rules)
+    let requested = subst (λ (t : ℤ). Includes before.result.instants t) f before.ensures.requested in
+    right_throughout c.args.zone.now c.args.numbers.now c.args.start before.result before.ensures.known requested (search rules)
 
 pub returns-then-last-after-clause-right : goal.returns-then-last-after-clause-right
 returns-then-last-after-clause-right c =
     let before = c.known_from-before in
     let after = c.known_at-after in
     let f = to_z-of_z c.ranges.start in
-    let asked = subst (λ (t : ℤ). Includes before.result.instants t) f before.ensures.asked in
-    right_by_change c.args.zone.now c.args.numbers.now c.args.start before.result after.result c.seconds_from.result before.ensures.known after.ensures.known asked (search rules) (search rules) (search rules)
+    let requested = subst (λ (t : ℤ). Includes before.result.instants t) f before.ensures.requested in
+    right_by_change c.args.zone.now c.args.numbers.now c.args.start before.result after.result c.seconds_from.result before.ensures.known after.ensures.known requested (search rules) (search rules) (search rules)

@@ -15,7 +15,7 @@ loop-link-preserved c =
     let as_long : length c.settle.new.ends ≡ c.loop-link.ends.len = omega (arith, c.settle.auto.ends, ap length c.deref_mut.ensures.value, c.loop-link.ends.ok.0) in
     let same : (with_items c.loop-link.ends c.settle.new.ends).items ≡ c.settle.new.ends = with_items_is c.loop-link.ends c.settle.new.ends as_long in
     let later : (i : ℕ) → i < c.loop-link.link + 1 → HasEnd c.settle.new.ends i = below_more _ _
-    (λ i lt. c.in_ok-settle.ensures.kept i (subst (λ (xs : List (Option End)). HasEnd xs i) (sym c.deref_mut.ensures.value) (c.loop-link.invariant.found i lt)))
+    (λ i lt. c.in_ok-settle.ensures.unchanged i (subst (λ (xs : List (Option End)). HasEnd xs i) (sym c.deref_mut.ensures.value) (c.loop-link.invariant.found i lt)))
     c.in_ok-settle.ensures.found in
     record {
       long = ap length same ∙ as_long ∙ c.loop-link.ends.ok.0 ∙ c.loop-link.invariant.long;

@@ -19,8 +19,8 @@ module _ (source : SourceLines) (old followed given : List (Option End)) (path :
       (λ same. right i other (sym same ∙ found))
       (on_path i)
 
-  all_kept : (i : ℕ) → HasEnd old i → HasEnd given i
-  all_kept i has_end = ⊎_elim (λ has. (end, written i has)) (λ same. (has_end.0, same ∙ has_end.1)) (on_path i)
+  all_unchanged : (i : ℕ) → HasEnd old i → HasEnd given i
+  all_unchanged i has_end = ⊎_elim (λ has. (end, written i has)) (λ same. (has_end.0, same ∙ has_end.1)) (on_path i)
 
   one_found : (i : ℕ) → HasEnd followed i → HasEnd given i
   one_found i has_end = ⊎_elim (λ has. (end, written i has)) (λ same. (has_end.0, same ∙ has_end.1)) (second i)
@@ -43,7 +43,7 @@ returns-clause-found c =
     (subst (λ (xs : List ℕ). DifferOn xs c.args.ends.now c.follow.new.ends) (sym c.deref.ensures.value) c.in_ok-end.ensures.others) c.give.ensures.others c.give.ensures.given
     c.args.link c.in_ok-end.ensures.found
 
-pub returns-clause-kept : goal.returns-clause-kept
-returns-clause-kept c =
-    all_kept (source_lines c.args.lines.now) c.args.ends.now c.follow.new.ends c.give.new.ends c.deref.result.now c.in_ok-end.end
+pub returns-clause-unchanged : goal.returns-clause-unchanged
+returns-clause-unchanged c =
+    all_unchanged (source_lines c.args.lines.now) c.args.ends.now c.follow.new.ends c.give.new.ends c.deref.result.now c.in_ok-end.end
     (subst (λ (xs : List ℕ). DifferOn xs c.args.ends.now c.follow.new.ends) (sym c.deref.ensures.value) c.in_ok-end.ensures.others) c.give.ensures.others c.give.ensures.given

@@ -6,5 +6,6 @@ use Rattle.zic_source_commands.proofs.build_command.place_files.Given as goal
 abbrev pub invariant-loop-file : goal.invariant-loop-file
 invariant-loop-file g l = record {
   gained : Gains (g.D.Tree.placed l.fn.tree) (g.D.Tree.placed l.tree) (map (in_folder l.folder) (take l.file l.files));
+  links : Gains (g.D.Tree.linked l.fn.tree) (g.D.Tree.linked l.tree) [];
   named : 0 < l.file → l.folder ≢ [];
 }

@@ -1,7 +1,7 @@
 use Rattle.std.proofs.Common.{◌≡◌, None, sym, ap, subst}
 use Rattle.std.specs.Option.{option_copied}
 use Rattle.std.proofs.lemmas.Option.{slice_get_within}
-use Rattle.zic_states.specs.Kept.{IsLetterBefore}
+use Rattle.zic_states.specs.InForce.{IsLetterBefore}
 use Rattle.zic_states.specs.Until.{set_of}
 use Rattle.zic_states.proofs.Letters.{numbers_within, no_letter, letter_of_first}
 use Rattle.zic_states.proofs.observance.letter_before.Goals as goal

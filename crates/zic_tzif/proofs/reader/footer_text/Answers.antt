@@ -12,10 +12,10 @@ taken n xs within = let size = length-take n xs in omega (arith, within, size)
 pub slice_bounds-result-end : goal.slice_bounds-result-end
 slice_bounds-result-end c =
     let o = c.args.octets.now in
-    let behind = drop (c.args.place + 1) o in
+    let following = drop (c.args.place + 1) o in
     let same = take_rest o (c.args.place + 1) in
-    let some : position (λ b. b == 10) behind ≡ Some c.in-Some.end = ap (position (λ b. b == 10)) (sym same) ∙ sym c.place_of.ensures ∙ c.in-Some.is in
-    taken c.in-Some.end behind (is_there (λ b. b == 10) behind c.in-Some.end some).2 ∙ ap (λ (xs : List ℕ). length (take c.in-Some.end xs)) (sym same)
+    let some : position (λ b. b == 10) following ≡ Some c.in-Some.end = ap (position (λ b. b == 10)) (sym same) ∙ sym c.place_of.ensures ∙ c.in-Some.is in
+    taken c.in-Some.end following (is_there (λ b. b == 10) following c.in-Some.end some).2 ∙ ap (λ (xs : List ℕ). length (take c.in-Some.end xs)) (sym same)
 
 pub returns-then-octets-place : goal.returns-then-octets-place
 returns-then-octets-place c =
@@ -28,24 +28,24 @@ returns-then-octets-place-ne10 c =
 pub returns-in-None : goal.returns-in-None
 returns-in-None c =
     let o = c.args.octets.now in
-    let behind = drop (c.args.place + 1) o in
-    let none : position (λ b. b == 10) behind ≡ None = ap (position (λ b. b == 10)) (sym (take_rest o (c.args.place + 1))) ∙ sym c.place_of.ensures ∙ c.in-None.is in
-    footer_outcome o c.args.place true true false c.requires (lt-ltb _ _ c.if-octets-place.false) (eq-eqb _ _ c.if-octets-place-ne10.false) (not_there (λ b. b == 10) behind none)
+    let following = drop (c.args.place + 1) o in
+    let none : position (λ b. b == 10) following ≡ None = ap (position (λ b. b == 10)) (sym (take_rest o (c.args.place + 1))) ∙ sym c.place_of.ensures ∙ c.in-None.is in
+    footer_outcome o c.args.place true true false c.requires (lt-ltb _ _ c.if-octets-place.false) (eq-eqb _ _ c.if-octets-place-ne10.false) (not_there (λ b. b == 10) following none)
 
 pub returns-in-Some : goal.returns-in-Some
 returns-in-Some c =
     let o = c.args.octets.now in
-    let behind = drop (c.args.place + 1) o in
-    let some : position (λ b. b == 10) behind ≡ Some c.in-Some.end = ap (position (λ b. b == 10)) (sym (take_rest o (c.args.place + 1))) ∙ sym c.place_of.ensures ∙ c.in-Some.is in
-    let found = is_there (λ b. b == 10) behind c.in-Some.end some in
+    let following = drop (c.args.place + 1) o in
+    let some : position (λ b. b == 10) following ≡ Some c.in-Some.end = ap (position (λ b. b == 10)) (sym (take_rest o (c.args.place + 1))) ∙ sym c.place_of.ensures ∙ c.in-Some.is in
+    let found = is_there (λ b. b == 10) following c.in-Some.end some in
     let text = ap (take c.in-Some.end) (take_rest o (c.args.place + 1)) in (
       footer_outcome o c.args.place true true true c.requires (lt-ltb _ _ c.if-octets-place.false) (eq-eqb _ _ c.if-octets-place-ne10.false) found.0,
       record {
         is = text ∙ found.1 ∙ ap (λ n. before_first (λ b. b == 10) (drop (n + 1) o)) c.requires;
         inside =
             let e1 = length-drop (c.args.place + 1) o in
-            let e2 = length-take c.in-Some.end behind in
-            let here : c.args.place + length (take c.in-Some.end behind) + 2 ≤ length o = omega (arith, found.2) in
+            let e2 = length-take c.in-Some.end following in
+            let here : c.args.place + length (take c.in-Some.end following) + 2 ≤ length o = omega (arith, found.2) in
             let p-is = c.requires in
             rw text (rw (← p-is) here);
       },

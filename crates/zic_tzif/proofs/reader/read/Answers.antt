@@ -3,11 +3,11 @@ use Rattle.std.proofs.lemmas.Result.{err_from_is_err_and}
 use Rattle.zic_base.proofs.MemoryLemmas.{on_want}
 use Rattle.zic_tzif.specs.Reading.{IsFile, ReadNeedsMemory, reason_of}
 use Rattle.zic_tzif.specs.code.Parts.{content_of}
-use Rattle.zic_tzif.proofs.ReadFiles.{footer_fault, footer_memory, trails, is_file, kept, file_has_no_fault, never}
+use Rattle.zic_tzif.proofs.ReadFiles.{footer_fault, footer_memory, trails, is_file, sound_content, file_has_no_fault, never}
 use Rattle.zic_tzif.proofs.reader.read.Goals as goal
 
 pub zone_of-requires : goal.zone_of-requires
-zone_of-requires c = kept c.args.octets.now c.in_ok-parts.parts c.in_ok-footer.footer c.in_ok-parts.ensures.1 c.in_ok-footer.ensures.ok
+zone_of-requires c = sound_content c.args.octets.now c.in_ok-parts.parts c.in_ok-footer.footer c.in_ok-parts.ensures.1 c.in_ok-footer.ensures.ok
 
 pub returns-in_err-footer-clause-err : goal.returns-in_err-footer-clause-err
 returns-in_err-footer-clause-err c =

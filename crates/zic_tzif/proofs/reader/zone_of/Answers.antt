@@ -1,4 +1,4 @@
 use Rattle.zic_tzif.proofs.reader.zone_of.Goals as goal
 
-pub new-requires-clause-kept : goal.new-requires-clause-kept
-new-requires-clause-kept c = rw c.in_ok-stored.ensures.content c.requires
+pub new-requires-clause-sound_content : goal.new-requires-clause-sound_content
+new-requires-clause-sound_content c = rw c.in_ok-stored.ensures.content c.requires

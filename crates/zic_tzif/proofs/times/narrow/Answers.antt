@@ -10,8 +10,8 @@ halved rest level some below = omega (arith, some, below)
 lower : (rest level : ℕ) → rest - 1 < level → rest - 1 ≡ min (rest - 1) level
 lower rest level below = omega (arith, below)
 
-kept : (rest level : ℕ) → level ≤ rest - 1 → min rest level ≡ min (rest - 1) level
-kept rest level above = omega (arith, above)
+sound_content : (rest level : ℕ) → level ≤ rest - 1 → min rest level ≡ min (rest - 1) level
+sound_content rest level above = omega (arith, above)
 
 fewer : (rest : ℕ) → rest ≤ 7 → rest - 1 ≤ 7
 fewer rest short = omega (arith, short)
@@ -32,6 +32,6 @@ loop-rest-preserved-then-rest-level c = record {
 
 pub loop-rest-preserved : goal.loop-rest-preserved
 loop-rest-preserved c = record {
-  window = subst (λ (n : ℕ). IsWindow c.args.times.now (to_z w64 (of_z w64 c.args.t)) c.loop-rest.base n) (kept c.loop-rest.rest c.args.level c.if-rest-level.false) c.loop-rest.invariant.window;
+  window = subst (λ (n : ℕ). IsWindow c.args.times.now (to_z w64 (of_z w64 c.args.t)) c.loop-rest.base n) (sound_content c.loop-rest.rest c.args.level c.if-rest-level.false) c.loop-rest.invariant.window;
   short = fewer c.loop-rest.rest c.loop-rest.invariant.short;
 }

@@ -3,7 +3,7 @@ use Rattle.std.specs.Bool.{if◌then◌else◌}
 use Rattle.std.specs.List.{flat_map}
 use Rattle.std.specs.Result.{OnOk, is_ok}
 use Rattle.byteorder.specs.Endian.{big_bytes}
-use Rattle.zic_tzif.proofs.WriteLists.{three_behind}
+use Rattle.zic_tzif.proofs.WriteLists.{three_after}
 use Rattle.zic_tzif.proofs.writer.put_header.Goals as goal
 
 -- a list that a call extends is all that is to be written
@@ -22,4 +22,4 @@ returns c =
     (ap (λ (xs : List ℕ). xs ++ written) c.in_ok-extend_from_slice-2.ensures.items
     ∙ ap (λ (xs : List ℕ). (xs ++ reserved) ++ written) c.in_ok-extend_from_slice.ensures.items
     ∙ ap (λ (bytes : List ℕ). ((front ++ mark) ++ reserved) ++ bytes) c.write_u32_into.ensures
-    ∙ three_behind front mark reserved counts)
+    ∙ three_after front mark reserved counts)

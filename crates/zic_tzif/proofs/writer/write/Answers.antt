@@ -4,7 +4,7 @@ use Rattle.zic_tzif.specs.declared.content.Change.{Change}
 use Rattle.zic_tzif.specs.declared.limit.TheConstants.{MAX_TRANSITIONS, MAX_TYPES, MAX_CHARACTERS}
 use Rattle.zic_tzif.specs.Reading.{IsFile}
 use Rattle.zic_tzif.specs.Writing.{header, time_octets, type_octets}
-use Rattle.zic_tzif.proofs.WriteLists.{line_behind}
+use Rattle.zic_tzif.proofs.WriteLists.{line_after}
 use Rattle.zic_tzif.proofs.WriteFile.{written_is_file}
 use Rattle.zic_tzif.proofs.writer.write.Goals as goal
 
@@ -28,7 +28,7 @@ returns-clause-written c =
       c.types-types.ensures,
       c.names-names.ensures,
       c.footer_text.ensures,
-    ) (line_behind (header t.version 0 1 1 ++ replicate 7 0 ++ header t.version (length t.changes) (length t.types) (length t.names) ++ flat_map time_octets t.changes ++ map (λ (a : Change). a.number) t.changes ++ flat_map type_octets t.types ++ t.names) t.text)
+    ) (line_after (header t.version 0 1 1 ++ replicate 7 0 ++ header t.version (length t.changes) (length t.types) (length t.names) ++ flat_map time_octets t.changes ++ map (λ (a : Change). a.number) t.changes ++ flat_map type_octets t.types ++ t.names) t.text)
 
 pub returns-clause-read : goal.returns-clause-read
 returns-clause-read c =

@@ -3,8 +3,8 @@ use Rattle.std.proofs.lemmas.List.{map_more, take_all}
 use Rattle.std.proofs.lemmas.List.Elements.{All-get_or}
 use Rattle.zic_tzif.specs.declared.content.LocalType.{LocalType}
 use Rattle.zic_tzif.specs.Content.{IsLocalType}
-use Rattle.zic_tzif.specs.code.Kept.{name_length}
-use Rattle.zic_tzif.proofs.ReadKept.{place_inside}
+use Rattle.zic_tzif.specs.code.StoredContent.{name_length}
+use Rattle.zic_tzif.proofs.ReadContent.{place_inside}
 use Rattle.zic_tzif.proofs.zone.name_lengths.Goals as goal
 
 abbrev none : LocalType

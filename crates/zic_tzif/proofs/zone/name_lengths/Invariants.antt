@@ -1,5 +1,5 @@
 use Rattle.std.proofs.Common.{◌≡◌, map, take}
-use Rattle.zic_tzif.specs.code.Kept.{name_length}
+use Rattle.zic_tzif.specs.code.StoredContent.{name_length}
 use Rattle.zic_tzif.proofs.zone.name_lengths.Given as goal
 
 abbrev pub invariant-loop-local_type : goal.invariant-loop-local_type

@@ -1,6 +1,6 @@
 use Rattle.std.proofs.Common.{◌∙◌, ℕ, List, ◌+◌, ◌-◌, ◌≤◌, length, take, slice_range, ap, sym, arith, rules}
 use Rattle.std.proofs.lemmas.Result.{err_from_is_err_and}
-use Rattle.zic_columns.proofs.Ranges.{grown, kept, written}
+use Rattle.zic_columns.proofs.Ranges.{grown, unchanged, written}
 use Rattle.zic_columns.proofs.buffer.Window.read_from.Goals as goal
 
 pub returns-in_err-count-clause-err : goal.returns-in_err-count-clause-err
@@ -12,7 +12,7 @@ returns-in_err-count-clause-err g c =
     (length c.deref_mut.result.now - w.end) c.deref_mut.ensures.value (search rules) c.read.auto.buf in
     rw p.1 (
       ap (λ (xs : List ℕ). slice_range xs w.start w.end) put
-          ∙ kept w.bytes.items c.read.new.buf w.start w.end _ w.ordered within,
+          ∙ unchanged w.bytes.items c.read.new.buf w.start w.end _ w.ordered within,
       c.in_err-count.ensures.bytes,
     )
 

@@ -17,3 +17,6 @@ returns-in-Records-clause-takes g c =
     (λ taken is. takes_next old.by (unread g.R.Read.remaining old) (unread g.R.Read.remaining mid) (unread g.R.Read.remaining new) (taken_records taken new.round) c.in_ok-count.ensures.takes
     (rw c.gather.ensures.by at is))
     c.take_round.ensures.takes
+
+pub returns-in-Records-clause-long : goal.returns-in-Records-clause-long
+returns-in-Records-clause-long g c = IfOk-weaker c.take_round.result _ _ (λ taken none long. absurd (none long)) c.take_round.ensures.short

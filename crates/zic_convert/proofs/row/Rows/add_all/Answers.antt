@@ -4,7 +4,7 @@ use Rattle.std.proofs.lemmas.List.{map-append, take_more}
 use Rattle.zic_columns.specs.Own.{CsvRecord}
 use Rattle.zic_convert.specs.code.Batch.{blank, record_of, zone_at}
 use Rattle.zic_convert.specs.code.Row.{AreRowsOf, RowsOf}
-use Rattle.zic_convert.proofs.Columns.{one_told}
+use Rattle.zic_convert.proofs.Columns.{one_is}
 use Rattle.zic_convert.proofs.MoreRows.{end_added, not_some, one_counted, records_at, row_added}
 use Rattle.zic_convert.proofs.row.Rows.add_all.Goals as goal
 
@@ -60,7 +60,7 @@ add-requires-clause-known c =
     let lt = c.loop-i-test.true in
     let few : c.args.count ≤ length batch.records = omega (arith, c.requires.columns.few, c.told-batch) in
     record {
-      zone = one_told (zone_at piece) batch.records batch.zones c.args.count i blank None few lt c.requires.columns.zones;
+      zone = one_is (zone_at piece) batch.records batch.zones c.args.count i blank None few lt c.requires.columns.zones;
       time = c.requires.columns.times i lt;
       state = c.requires.states i lt;
     }

@@ -8,5 +8,5 @@ returns-clause-order c =
     let years = c.args.self.now in
     let are = subst (λ (y : Between). IsYears y) c.self.view_is c.self.invariant in
     let start = subst (λ (y : Between). c.year_instant.result ≡ year_instant y.to) c.self.view_is c.year_instant.ensures.start in
-    let kept : to_z w64 (of_z w64 c.year_instant.result) ≡ c.year_instant.result = search rules in
-    rw kept (subst (λ (z : ℤ). year_instant years.from ≤ℤ z) (sym start) (in_order years.from years.to are.order))
+    let unchanged : to_z w64 (of_z w64 c.year_instant.result) ≡ c.year_instant.result = search rules in
+    rw unchanged (subst (λ (z : ℤ). year_instant years.from ≤ℤ z) (sym start) (in_order years.from years.to are.order))

@@ -10,5 +10,5 @@ add-requires-clause-new c = subst (λ (learnt : Learnt). All (λ file. file.name
 pub invariant_of-self : goal.invariant_of-self
 invariant_of-self c =
     let i = c.self.inside in
-    of_names_either i.asked (record { name = c.args.name; image = c.in-Some.image }) i.files c.add.new.self c.add.result c.add.ensures.ok c.add.ensures.err c.self.invariant
-    (subst (λ (learnt : Learnt). Contains learnt.asked c.args.name) (sym c.self.view_is) c.requires.asked)
+    of_names_either i.requested (record { name = c.args.name; image = c.in-Some.image }) i.files c.add.new.self c.add.result c.add.ensures.ok c.add.ensures.err c.self.invariant
+    (subst (λ (learnt : Learnt). Contains learnt.requested c.args.name) (sym c.self.view_is) c.requires.requested)

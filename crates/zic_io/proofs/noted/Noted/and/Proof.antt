@@ -1,4 +1,4 @@
--- `and` makes the empty struct, with the faults that its clause names. Assumes `Logic`.
+-- `and` makes the empty struct, with the rows that its clause names. Assumes `Logic`.
 use Rattle.std.proofs.Common.{List, [], ◌∷◌, ◌++◌, refl}
 use seplogic.Ra.Ura.{Ura}
 use mir.Val.{Val, vptr}
@@ -27,7 +27,7 @@ use denote.Triple.Spec.{Meets, triple_of}
 use denote.Triple.Table.{entered}
 use denote.Triple.Walked.{says, Stays, stay_dropped, walk_of, ends_at, walk_Meets, Goes-dropped}
 use Rattle.std.specs.contracts.marker.PhantomData as Mark
-use Rattle.zic_base.specs.contracts.row_fault.RowFault as RowFault
+use Rattle.zic_plan.specs.contracts.row_log.FaultyRow as FaultyRow
 use Rattle.zic_io.proofs.Walks.{none, one, one_made}
 use Rattle.zic_io.specs.contracts.noted.Noted as Noted
 use Rattle.zic_io.specs.contracts.noted.Noted.and as F
@@ -41,7 +41,7 @@ ended = F.ended
 abbrev stayed : Stays ended.signature.params ended.kept
 stayed = (
   stay_dropped (RefOf (0 ∷ []) tt (plain (λ _. Noted.the_row)) (λ _. tt)) yes,
-  (stay_dropped (RefOf (1 ∷ []) tt (plain (λ _. RowFault.the_row)) (λ _. tt)) yes, tt),
+  (stay_dropped (RefOf (1 ∷ []) tt (plain (λ _. FaultyRow.the_row)) (λ _. tt)) yes, tt),
 )
 
 module _ {M : Type 1} {𝓤 : Ura M} (𝓛 : Logic 𝓤) (at_mem : Memory → SProp 𝓤) (run : Routine → Fun 𝓤) where
@@ -83,7 +83,7 @@ module _ {M : Type 1} {𝓤 : Ura M} (𝓛 : Logic 𝓤) (at_mem : Memory → SP
   meets 𝓣 =
       walk_Meets 𝓛 ended stayed (
         Goes-dropped 𝓛 2 (RefOf (0 ∷ []) tt (plain (λ _. Noted.the_row)) (λ _. tt)) yes (λ κs x f. refl),
-        (Goes-dropped 𝓛 2 (RefOf (1 ∷ []) tt (plain (λ _. RowFault.the_row)) (λ _. tt)) yes (λ κs x f. refl), tt),
+        (Goes-dropped 𝓛 2 (RefOf (1 ∷ []) tt (plain (λ _. FaultyRow.the_row)) (λ _. tt)) yes (λ κs x f. refl), tt),
       ) held
       (WpFn 𝓤 H 𝓣.C 𝓣.Λ code.function) (WpFn-mono 𝓤 H 𝓛.laws 𝓣 code.function) (walks 𝓣.C 𝓣.Λ)
 

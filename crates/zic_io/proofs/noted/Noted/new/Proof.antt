@@ -1,4 +1,4 @@
--- `new` makes the empty struct, with the faults that its clause names. Assumes `Logic`.
+-- `new` makes the empty struct, with the rows that its clause names. Assumes `Logic`.
 use Rattle.std.proofs.Common.{List, [], ◌∷◌, ◌++◌, refl}
 use seplogic.Ra.Ura.{Ura}
 use mir.Syntax.{Fn, Args, a_type}

@@ -1,9 +1,9 @@
 use Rattle.std.proofs.Common.{◌≡◌, ◌+◌, ◌∙◌, ◌||◌, rules, sym, ap, subst, arith}
 use Rattle.zic_pieces.specs.Core.{both}
 use Rattle.zic_pieces.specs.Passes.{Shared, Held, IsSound}
-use Rattle.zic_pieces.specs.code.Rule.{Sat, IsKept}
+use Rattle.zic_pieces.specs.code.Rule.{Sat, IsBetweenCalls}
 use Rattle.zic_pieces.proofs.Steps.{join_allowed, learn_allowed}
-use Rattle.zic_pieces.proofs.Kept.{kept_both, given_fits}
+use Rattle.zic_pieces.proofs.BetweenCalls.{between_both, given_fits}
 use Rattle.zic_pieces.proofs.claims.Claims.join.Goals as goal
 
 pub join_seat-requires : goal.join_seat-requires
@@ -17,18 +17,18 @@ load-requires c =
     let some_parts : c.join_seat.new.seat.me.0.parts ≡ c.first.inside.seat.me.0.parts + c.second.inside.seat.me.0.parts = ap (λ (m : Sat). m.0.parts) c.join_seat.ensures.2 in
     (search rules, omega arith, learn_allowed _ _ _ _ (omega arith))
 
-all_kept : (c : goal.After-struct_known-3-1) → IsKept c.load.new.seat.me (c.first.inside.room + c.second.inside.room + 1) (c.first.inside.ended || c.second.inside.ended) (c.first.inside.given + c.second.inside.given)
-all_kept c =
+all_between : (c : goal.After-struct_known-3-1) → IsBetweenCalls c.load.new.seat.me (c.first.inside.room + c.second.inside.room + 1) (c.first.inside.ended || c.second.inside.ended) (c.first.inside.given + c.second.inside.given)
+all_between c =
     let p : c.first.inside.seat.me.0.pieces ≡ c.second.inside.seat.me.0.pieces =
     ap (λ (h : Held). h.known.pieces) c.first.view_is ∙ (c.requires.first.1 ∙ (sym c.requires.second.1 ∙ sym (ap (λ (h : Held). h.known.pieces) c.second.view_is))) in
     let is : c.load.new.seat.me ≡ (both c.first.inside.seat.me.0 c.second.inside.seat.me.0, c.first.inside.seat.me.1) = c.load.ensures.2.0 ∙ c.join_seat.ensures.2 in
     let sound : IsSound (both c.first.inside.seat.me.0 c.second.inside.seat.me.0) = subst (λ (m : Sat). IsSound m.0) c.join_seat.ensures.2 c.load.ensures.2.1 in
-    subst (λ (m : Sat). IsKept m (c.first.inside.room + c.second.inside.room + 1) (c.first.inside.ended || c.second.inside.ended) (c.first.inside.given + c.second.inside.given)) (sym is)
-    (kept_both _ _ _ _ _ _ _ _ c.first.invariant c.second.invariant p sound)
+    subst (λ (m : Sat). IsBetweenCalls m (c.first.inside.room + c.second.inside.room + 1) (c.first.inside.ended || c.second.inside.ended) (c.first.inside.given + c.second.inside.given)) (sym is)
+    (between_both _ _ _ _ _ _ _ _ c.first.invariant c.second.invariant p sound)
 
 pub overflow_add-result-3 : goal.overflow_add-result-3
 overflow_add-result-3 c =
-    let k = all_kept c in
+    let k = all_between c in
     let f = given_fits c.load.new.seat.me.0 k.5 in
     let count = k.3 in
     let q : c.load.new.seat.me.0.pieces ≡ c.first.inside.seat.me.0.pieces = ap (λ (m : Sat). m.0.pieces) (c.load.ensures.2.0 ∙ c.join_seat.ensures.2) in
@@ -36,7 +36,7 @@ overflow_add-result-3 c =
     omega arith
 
 pub invariant_of-result : goal.invariant_of-result
-invariant_of-result c = all_kept c
+invariant_of-result c = all_between c
 
 pub returns-clause-joined : goal.returns-clause-joined
 returns-clause-joined c = search rules

@@ -10,7 +10,7 @@ use Rattle.zic_posix.specs.code.Span.{IsNear}
 use Rattle.zic_posix.specs.code.State.{IsInCycle}
 use Rattle.zic_posix.proofs.Cycles.{by_daylight, by_standard}
 use Rattle.zic_posix.proofs.Meanings.{means_throughout}
-use Rattle.zic_posix.proofs.Spans.{asked, between_edges}
+use Rattle.zic_posix.proofs.Spans.{requested, between_edges}
 use Rattle.zic_posix.proofs.footer.Footer.span_by.Goals as goal
 use Rattle.zic_posix.proofs.footer.Footer.span_by.Goals.{then-phase, else-phase}
 
@@ -29,15 +29,15 @@ last_fits : (in_cycle until : ℤ) → IsInCycle in_cycle → IsNear until → F
 last_fits in_cycle until here near = omega (arith, ints, here.0, here.1)
 
 -- what the code computes, in whole numbers
-first_kept : (t in_cycle from : ℤ) → FitsSigned w64 t → FitsSigned w64 in_cycle → FitsSigned w64 from → IsInCycle in_cycle → IsNear from
+first_fits_64 : (t in_cycle from : ℤ) → FitsSigned w64 t → FitsSigned w64 in_cycle → FitsSigned w64 from → IsInCycle in_cycle → IsNear from
     → saturate_signed w64 (to_z w64 (of_z w64 t) -ℤ to_z w64 (of_z w64 (to_z w64 (of_z w64 in_cycle) -ℤ to_z w64 (of_z w64 from)))) ≡ saturate_signed w64 (t -ℤ (in_cycle -ℤ from))
-first_kept t in_cycle from t_fits cycle_fits from_fits here near =
+first_fits_64 t in_cycle from t_fits cycle_fits from_fits here near =
     let since : FitsSigned w64 (in_cycle -ℤ from) = since_fits in_cycle from here near in
     rw (to_z-of_z t_fits, to_z-of_z cycle_fits, to_z-of_z from_fits, to_z-of_z since) refl
 
-last_kept : (t in_cycle until : ℤ) → FitsSigned w64 t → FitsSigned w64 in_cycle → FitsSigned w64 until → IsInCycle in_cycle → IsNear until
+last_fits_64 : (t in_cycle until : ℤ) → FitsSigned w64 t → FitsSigned w64 in_cycle → FitsSigned w64 until → IsInCycle in_cycle → IsNear until
     → saturate_signed w64 (to_z w64 (of_z w64 t) +ℤ to_z w64 (of_z w64 (to_z w64 (of_z w64 (to_z w64 (of_z w64 until) -ℤ to_z w64 (of_z w64 in_cycle))) -ℤ pos 1))) ≡ saturate_signed w64 (t +ℤ (until -ℤ in_cycle -ℤ pos 1))
-last_kept t in_cycle until t_fits cycle_fits until_fits here near =
+last_fits_64 t in_cycle until t_fits cycle_fits until_fits here near =
     let rest : FitsSigned w64 (until -ℤ in_cycle) = rest_fits in_cycle until here near in
     let less : FitsSigned w64 (until -ℤ in_cycle -ℤ pos 1) = last_fits in_cycle until here near in
     rw (to_z-of_z t_fits, to_z-of_z until_fits, to_z-of_z cycle_fits, to_z-of_z rest, to_z-of_z less) refl
@@ -67,10 +67,10 @@ returns c =
     let here : IsInCycle r = (omega (arith, ints, c.rem_euclid-in_cycle.ensures.lower_bound), omega (arith, ints, c.rem_euclid-in_cycle.ensures.upper_bound)) in
     let remainder : r ≡ in_cycle t = c.rem_euclid-in_cycle.ensures.value ∙ ap in_cycle (to_z-of_z c.ranges.t) in
     let is = rw (to_z-of_z offset_fits, to_z-of_z r_fits) at c.phase_by-phase.ensures in
-    let first = c.saturating_sub.ensures ∙ first_kept t r phase.from c.ranges.t r_fits from_fits here is.from_near in
-    let last = c.saturating_add.ensures ∙ last_kept t r phase.until c.ranges.t r_fits until_fits here is.until_near in
+    let first = c.saturating_sub.ensures ∙ first_fits_64 t r phase.from c.ranges.t r_fits from_fits here is.from_near in
+    let last = c.saturating_add.ensures ∙ last_fits_64 t r phase.until c.ranges.t r_fits until_fits here is.until_near in
     let instants : Instants = record { first = c.saturating_sub.result; last = c.saturating_add.result } in
-    let round = asked f dst t r phase instants (sym c.in-Some.is) c.ranges.t remainder is first last in
+    let round = requested f dst t r phase instants (sym c.in-Some.is) c.ranges.t remainder is first last in
     let edges = between_edges f dst t r phase instants (sym c.in-Some.is) c.ranges.t remainder is first last in
     let state = shown c.if-phase.state in
     let in_force = rw remainder at is.in_force in
@@ -81,4 +81,4 @@ returns c =
     ] in
     let all = (λ (said : TzString). Includes instants t × MeansThroughout said instants state × AreBetween (HasEdgeAt said) instants) in
     let said = subst all c.self.view_is (round, means_throughout f instants edges t state round means, edges) in
-    rw (to_z-of_z first_fits, to_z-of_z last_fits) (record { asked = said.0; means = said.1; edges = said.2 })
+    rw (to_z-of_z first_fits, to_z-of_z last_fits) (record { requested = said.0; means = said.1; edges = said.2 })

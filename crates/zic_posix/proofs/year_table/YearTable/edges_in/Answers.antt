@@ -6,9 +6,9 @@ use Rattle.zic_posix.proofs.YearKinds.{inside_at}
 use Rattle.zic_posix.proofs.year_table.YearTable.edges_in.Goals as goal
 
 -- the seconds fit
-kept : (second inside : ℤ) → unsigned_abs second ≤ 260_000_000_000 → pos 0 ≤ℤ inside → inside <ℤ pos 31_536_000
+fits_64 : (second inside : ℤ) → unsigned_abs second ≤ 260_000_000_000 → pos 0 ≤ℤ inside → inside <ℤ pos 31_536_000
     → to_z w64 (of_z w64 (to_z w64 (of_z w64 second) +ℤ to_z w64 (of_z w64 inside))) ≡ second +ℤ inside
-kept second inside near from to = omega (arith, ints)
+fits_64 second inside near from to = omega (arith, ints)
 
 near_edge : (second inside : ℤ) → unsigned_abs second ≤ 260_000_000_000 → pos 0 ≤ℤ inside → inside <ℤ pos 31_536_000 → IsNear (second +ℤ inside)
 near_edge second inside near from to = omega (arith, ints)
@@ -26,7 +26,7 @@ returns c =
     let stops : AreInside table.stops = search rules in
     let of_start = inside_at table.starts kind starts start.known in
     let of_stop = inside_at table.stops kind stops start.known in
-    rw (kept second (get_or table.starts kind (pos 0)) start.near of_start.0 of_start.1, kept second (get_or table.stops kind (pos 0)) start.near of_stop.0 of_stop.1)
+    rw (fits_64 second (get_or table.starts kind (pos 0)) start.near of_start.0 of_start.1, fits_64 second (get_or table.stops kind (pos 0)) start.near of_stop.0 of_stop.1)
     (record {
       start = by_kind table.starts second _ kind _ start.second start.kind;
       stop = by_kind table.stops second _ kind _ start.second start.kind;

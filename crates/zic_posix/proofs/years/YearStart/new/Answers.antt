@@ -9,8 +9,8 @@ use Rattle.zic_posix.proofs.years.YearStart.new.Goals as goal
 use Rattle.zic_posix.proofs.years.YearStart.new.Goals.{then-is_leap_year, else-is_leap_year}
 
 -- the seconds fit
-kept : (day : ℤ) → IsNearSupportedDay day → to_z w64 (of_z w64 (pos 86_400 *ℤ to_z w64 (of_z w64 day))) ≡ pos 86_400 *ℤ day
-kept day near = omega (arith, ints)
+fits_64 : (day : ℤ) → IsNearSupportedDay day → to_z w64 (of_z w64 (pos 86_400 *ℤ to_z w64 (of_z w64 day))) ≡ pos 86_400 *ℤ day
+fits_64 day near = omega (arith, ints)
 
 day_fits : (day : ℤ) → IsNearSupportedDay day → FitsSigned w64 day
 day_fits day near = omega (arith, ints)
@@ -32,7 +32,7 @@ returns c =
     ] in
     let weekday : c.weekday.result ≡ weekday_of (day_number year 1 1) = c.weekday.ensures.value ∙ ap weekday_of (to_z-of_z (day_fits day range) ∙ first) in
     let known = kind_known year in
-    rw (kept day range) (record {
+    rw (fits_64 day range) (record {
       second = ap (λ (d : ℤ). pos 86_400 *ℤ d) first;
       kind = omega (arith, added, weekday);
       known = omega (arith, added, weekday, known);

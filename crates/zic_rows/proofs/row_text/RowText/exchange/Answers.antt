@@ -1,7 +1,7 @@
 use Rattle.std.proofs.Common.{◌≡◌, ◌+◌, ◌-◌, ◌≤◌, ◌++◌, ◌∙◌, ℕ, List, ap, ap₂, append_assoc, arith, drop, length, length-append, length-drop, length-take-le, map, subst, sym, take}
+use Rattle.zic_plan.specs.Delimiter.{exchange}
 use Rattle.std.proofs.Math.Seq.{take-append_seam}
 use Rattle.std.proofs.lemmas.List.{drop-take, length-map, take-take}
-use Rattle.zic_rows.specs.Row.{for_comma}
 use Rattle.zic_rows.proofs.row_text.RowText.exchange.Goals as goal
 
 -- a part up to the end of the text is written
@@ -36,7 +36,7 @@ settled f bytes part rest more at len all within few much is =
 pub returns : goal.returns
 returns c =
     let at = c.args.from in
-    let f = for_comma c.args.byte in
+    let f = exchange c.args.byte in
     let bytes = c.deref_mut.result.now in
     let items = c.self.inside.bytes.items in
     let len = c.self.inside.len in

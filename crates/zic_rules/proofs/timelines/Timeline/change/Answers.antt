@@ -8,7 +8,7 @@ use Rattle.zic_states.specs.Zone.{Zone}
 use Rattle.zic_rules.specs.code.Period.{the_zone}
 use Rattle.zic_rules.specs.Timeline.{change_of}
 use Rattle.zic_rules.specs.code.Shown.{shown_by, dated}
-use Rattle.zic_rules.proofs.TimelineKept.{are_changes, the_changes, change_at_place, is_within}
+use Rattle.zic_rules.proofs.TimelineFields.{are_changes, the_changes, change_at_place, is_within}
 use Rattle.zic_rules.proofs.timelines.Timeline.change.Goals as goal
 
 pub index-change-requires : goal.index-change-requires

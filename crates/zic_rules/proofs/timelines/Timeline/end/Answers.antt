@@ -1,6 +1,6 @@
 use Rattle.std.proofs.Common.{rules, subst}
 use Rattle.zic_rules.specs.Timeline.{IsWholeZone}
-use Rattle.zic_rules.proofs.TimelineKept.{whole_zone}
+use Rattle.zic_rules.proofs.TimelineFields.{whole_zone}
 use Rattle.zic_rules.proofs.timelines.Timeline.end.Goals as goal
 
 pub returns-clause-end : goal.returns-clause-end

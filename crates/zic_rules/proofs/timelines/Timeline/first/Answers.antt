@@ -4,7 +4,7 @@ use Rattle.zic_base.specs.State.{Shown}
 use Rattle.zic_states.specs.Zone.{Zone}
 use Rattle.zic_rules.specs.code.Period.{the_zone}
 use Rattle.zic_rules.specs.code.Shown.{shown_by, dated}
-use Rattle.zic_rules.proofs.TimelineKept.{is_first}
+use Rattle.zic_rules.proofs.TimelineFields.{is_first}
 use Rattle.zic_rules.proofs.timelines.Timeline.first.Goals as goal
 
 pub returns : goal.returns

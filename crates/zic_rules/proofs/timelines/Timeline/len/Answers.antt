@@ -3,7 +3,7 @@ use Rattle.zic_states.specs.Change.{AreChanges}
 use Rattle.zic_states.specs.Zone.{Zone}
 use Rattle.zic_rules.specs.code.Period.{the_zone}
 use Rattle.zic_rules.specs.code.Shown.{shown_by, dated}
-use Rattle.zic_rules.proofs.TimelineKept.{are_changes, as_many}
+use Rattle.zic_rules.proofs.TimelineFields.{are_changes, as_many}
 use Rattle.zic_rules.proofs.timelines.Timeline.len.Goals as goal
 
 pub returns : goal.returns

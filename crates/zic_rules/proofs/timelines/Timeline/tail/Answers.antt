@@ -15,7 +15,7 @@ use Rattle.zic_rules.proofs.TailConstant.{constant_tail}
 use Rattle.zic_rules.proofs.TailHeld.{one_last}
 use Rattle.zic_rules.proofs.TailLines.{set_line}
 use Rattle.zic_rules.proofs.TailTurns.{rules_tail}
-use Rattle.zic_rules.proofs.TimelineKept.{whole_zone}
+use Rattle.zic_rules.proofs.TimelineFields.{whole_zone}
 use Rattle.zic_rules.proofs.TailYear.{begins_own, begun_in_years, named_in_range}
 use Rattle.zic_rules.proofs.timelines.Timeline.tail.Goals as goal
 
@@ -23,14 +23,14 @@ pub returns-then-len-lt-FEWEST_RULES-clause-tail : goal.returns-then-len-lt-FEWE
 returns-then-len-lt-FEWEST_RULES-clause-tail c =
     let t = c.self.inside in
     let zone = the_zone t.zone in
-    let kept = c.self.invariant.before_end in
+    let in_force = c.self.invariant.before_end in
     let state = shown_by c.last_state.result.now in
     let few : length t.rules.items ≤ 1 = search (rules, c.len.ensures, c.if-len-lt-FEWEST_RULES.true) in
     let shows = subst (λ (z : Zone). Shows z (t.end -ℤ pos 1) state) (sym c.self.view_is)
-    (c.last_state.ensures t.end (subst (λ (z : Zone). IsEnd z t.end) c.self.view_is kept.is_end)) in
+    (c.last_state.ensures t.end (subst (λ (z : Zone). IsEnd z t.end) c.self.view_is in_force.is_end)) in
     subst (λ (z : Zone). IsConstantTail z (shown c.state_of.result)) c.self.view_is
     (subst (IsConstantTail zone) (sym c.state_of.ensures)
-    (constant_tail zone kept.orderly t.end kept.is_end t.rules.items kept.is_zone (kept.sound kind.NoLetter) c.self.invariant.tail few state shows))
+    (constant_tail zone in_force.orderly t.end in_force.is_end t.rules.items in_force.is_zone (in_force.sound kind.NoLetter) c.self.invariant.tail few state shows))
 
 pub returns-then-len-lt-FEWEST_RULES-clause-whole : goal.returns-then-len-lt-FEWEST_RULES-clause-whole
 returns-then-len-lt-FEWEST_RULES-clause-whole c = subst IsWholeZone c.self.view_is (whole_zone _ _ _ _ c.self.invariant.before_end)
@@ -42,10 +42,10 @@ pub year_of-requires : goal.year_of-requires
 year_of-requires c =
     let t = c.self.inside in
     let zone = the_zone t.zone in
-    let kept = c.self.invariant.before_end in
+    let in_force = c.self.invariant.before_end in
     let two : 2 ≤ length t.rules.items = search (rules, c.len.ensures, c.if-len-lt-FEWEST_RULES.false) in
-    let of = set_line zone kept.orderly t.end kept.is_end t.rules.items c.self.invariant.tail two in
-    let range = named_in_range zone of.number of.name of.year kept.orderly.sets.sound of.tail.last_year in
+    let of = set_line zone in_force.orderly t.end in_force.is_end t.rules.items c.self.invariant.tail two in
+    let range = named_in_range zone of.number of.name of.year in_force.orderly.sets.sound of.tail.last_year in
     let fits : SFits w64 t.end = search rules in
     let same : to_z w64 (of_z w64 t.end) ≡ t.end = omega (arith, ints, fits) in
     begun_in_years (to_z w64 (of_z w64 t.end)) (of.year +ℤ pos 3) (same ∙ of.end_is) (omega (arith, ints, range)) (omega (arith, ints, range))
@@ -54,16 +54,16 @@ pub returns-clause-tail : goal.returns-clause-tail
 returns-clause-tail c =
     let t = c.self.inside in
     let zone = the_zone t.zone in
-    let kept = c.self.invariant.before_end in
+    let in_force = c.self.invariant.before_end in
     let two : 2 ≤ length t.rules.items = search (rules, c.len.ensures, c.if-len-lt-FEWEST_RULES.false) in
-    let of = set_line zone kept.orderly t.end kept.is_end t.rules.items c.self.invariant.tail two in
+    let of = set_line zone in_force.orderly t.end in_force.is_end t.rules.items c.self.invariant.tail two in
     let fits : SFits w64 t.end = search rules in
     let same : to_z w64 (of_z w64 t.end) ≡ t.end = omega (arith, ints, fits) in
     let year : pos c.year_of.result ≡ of.year +ℤ pos 3 = begins_own (to_z w64 (of_z w64 t.end)) (of.year +ℤ pos 3) (pos c.year_of.result) (same ∙ of.end_is) c.year_of.ensures in
-    let range = named_in_range zone of.number of.name of.year kept.orderly.sets.sound of.tail.last_year in
+    let range = named_in_range zone of.number of.name of.year in_force.orderly.sets.sound of.tail.last_year in
     let line = c.last_line.result.now in
     let within = c.last_line.ensures.sound.offset in
-    let is_line = one_last zone kept.orderly of.number of.line of.tail.is_last c.last_line.ensures.last.0 line c.last_line.ensures.last.1 in
+    let is_line = one_last zone in_force.orderly of.number of.line of.tail.is_last c.last_line.ensures.last.0 line c.last_line.ensures.last.1 in
     let offset : to_z w32 (of_z w32 line.offset) ≡ line.offset = omega (arith, ints, within) in
     let standard = to_z w32 (of_z w32 line.offset) in
     let standard_is : standard ≡ of.line.offset = offset ∙ ap (λ (l : ZoneLine). l.offset) is_line.1 in
@@ -71,4 +71,4 @@ returns-clause-tail c =
     let first_is : first ≡ of.year +ℤ pos 1 = omega (arith, ints, c.from.ensures, year, range) in
     subst (λ (z : Zone). IsRulesTail z standard first c.deref.result.now) c.self.view_is
     (subst (λ (ts : List TailRule). IsRulesTail zone standard first ts) (sym c.deref.ensures.value)
-    (rules_tail zone kept.orderly t.end kept.is_end t.rules.items of two standard first standard_is first_is))
+    (rules_tail zone in_force.orderly t.end in_force.is_end t.rules.items of two standard first standard_is first_is))

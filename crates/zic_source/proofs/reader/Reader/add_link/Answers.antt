@@ -5,7 +5,7 @@ use Rattle.zic_source.specs.Source.{SourceLines, zone_lines_of}
 use Rattle.zic_source.specs.code.Lines.{source_lines}
 use Rattle.zic_source.specs.code.Owners.{IndexesNames}
 use Rattle.zic_source.specs.code.Sets.{IndexesSets}
-use Rattle.zic_source.proofs.lookups.Named.{link_kept}
+use Rattle.zic_source.proofs.lookups.Named.{link_unchanged}
 use Rattle.zic_source.proofs.events.NewNames.{fresh_link}
 use Rattle.zic_source.proofs.reader.Reader.add_link.Goals as goal
 
@@ -20,6 +20,6 @@ returns-clause-tracks c =
     record {
       sets = subst (λ (r : Reader). IndexesSets r.sets r.lines.rules.items) (sym same) c.requires.sets;
       names = subst (λ (s : SourceLines). IndexesNames named.names s) (sym lines)
-          (link_kept old.names named.names (source_lines old.lines) c.args.link c.requires.names (fresh_link (source_lines old.lines) c.args.link.name c.in_ok-name_link.ensures.passes) c.in_ok-name_link.ensures.names);
+          (link_unchanged old.names named.names (source_lines old.lines) c.args.link c.requires.names (fresh_link (source_lines old.lines) c.args.link.name c.in_ok-name_link.ensures.passes) c.in_ok-name_link.ensures.names);
       counted = subst (λ (r : Reader). r.zone_lines ≡ length (zone_lines_of (source_lines r.lines))) (sym same) c.requires.counted;
     }

@@ -7,7 +7,7 @@ use Rattle.zic_source.specs.code.Lines.{source_lines}
 use Rattle.zic_source.specs.code.Sets.{IndexesSets}
 use Rattle.zic_source.proofs.events.Leads.{if_some_map, if_none_map}
 use Rattle.zic_source.proofs.events.Passes.{rule_passes, set_is_full}
-use Rattle.zic_source.proofs.lookups.Numbers.{sets_kept}
+use Rattle.zic_source.proofs.lookups.Numbers.{sets_unchanged}
 use Rattle.zic_source.proofs.reader.Reader.add_rule.Goals as goal
 
 pub returns-in_err-add-clause-fault : goal.returns-in_err-add-clause-fault
@@ -39,7 +39,7 @@ pub returns-clause-tracks : goal.returns-clause-tracks
 returns-clause-tracks c =
     let number : c.len-number.result ≡ length c.args.self.now.lines.rules.items = omega (arith, c.args.self.now.lines.rules.ok.0) in
     record {
-      sets = subst (IndexesSets c.add.new.self) (sym c.in_ok-push.ensures.items) (sets_kept c.args.self.now.sets c.add.new.self c.args.self.now.lines.rules.items c.args.rule c.len-number.result c.requires.sets number c.in_ok-add.ensures.added);
+      sets = subst (IndexesSets c.add.new.self) (sym c.in_ok-push.ensures.items) (sets_unchanged c.args.self.now.sets c.add.new.self c.args.self.now.lines.rules.items c.args.rule c.len-number.result c.requires.sets number c.in_ok-add.ensures.added);
       names = record { zones = c.requires.names.zones; links = c.requires.names.links; zone_has = c.requires.names.zone_has; link_has = c.requires.names.link_has };
       counted = c.requires.counted;
     }

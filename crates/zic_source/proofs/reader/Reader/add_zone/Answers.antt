@@ -10,7 +10,7 @@ use Rattle.zic_source.specs.Source.{SourceLines, ZoneLines, zone_lines_of}
 use Rattle.zic_source.specs.code.Lines.{source_lines}
 use Rattle.zic_source.specs.code.Owners.{IndexesNames}
 use Rattle.zic_source.specs.code.Sets.{IndexesSets}
-use Rattle.zic_source.proofs.lookups.Named.{zone_kept}
+use Rattle.zic_source.proofs.lookups.Named.{zone_unchanged}
 use Rattle.zic_source.proofs.events.NewNames.{fresh_zone}
 use Rattle.zic_source.proofs.events.Passes.{zone_counted}
 use Rattle.zic_source.proofs.reader.Reader.add_zone.Goals as goal
@@ -52,6 +52,6 @@ returns-clause-tracks c =
       sets = subst (λ (r : Reader). IndexesSets r.sets c.add_zone.new.self.rules.items) (sym same)
           (subst (IndexesSets old.sets) (sym (ap (λ (s : SourceLines). s.rules) lines)) c.requires.sets);
       names = subst (λ (s : SourceLines). IndexesNames named.names s) (sym lines)
-          (zone_kept old.names named.names (source_lines old.lines) zone c.requires.names (fresh_zone (source_lines old.lines) c.args.name c.in_ok-name_zone.ensures.passes) c.in_ok-name_zone.ensures.names);
+          (zone_unchanged old.names named.names (source_lines old.lines) zone c.requires.names (fresh_zone (source_lines old.lines) c.args.name c.in_ok-name_zone.ensures.passes) c.in_ok-name_zone.ensures.names);
       counted = omega (arith, ap (λ (s : SourceLines). length (zone_lines_of s)) lines, zone_counted old.lines.zones.items zone refl, ap (λ (r : Reader). r.zone_lines) same, c.requires.counted);
     }

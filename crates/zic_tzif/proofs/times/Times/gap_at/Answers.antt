@@ -2,7 +2,7 @@ use Rattle.std.proofs.Common.{◌≡◌, ℕ, ◌-◌, ◌<◌, ℤ, pos, ◌-�
 use Rattle.std.proofs.lemmas.Int.{ints}
 use Rattle.zic_posix.specs.declared.instants.TheConstants.{MAX_INSTANT}
 use Rattle.zic_tzif.specs.code.Window.{IsSplit}
-use Rattle.zic_tzif.proofs.Gaps.{IsFirst, IsLast, asked, between}
+use Rattle.zic_tzif.proofs.Gaps.{IsFirst, IsLast, requested, between}
 use Rattle.zic_tzif.proofs.times.Times.gap_at.Goals as goal
 use Rattle.zic_tzif.proofs.times.Times.gap_at.Goals.{then-count-eq0, else-count-eq0}
 
@@ -55,7 +55,7 @@ returns-then-count-times c =
     let last : IsLast times n MAX_INSTANT = inl (c.if-count-times.true ∙ long, refl) in
     record {
       count = split;
-      asked = asked times t n _ c.requires split c.ranges.t first last;
+      requested = requested times t n _ c.requires split c.ranges.t first last;
       between = between times t n _ c.requires split c.ranges.t first last;
     }
 
@@ -86,6 +86,6 @@ returns-else-count-times c =
     inr (more, last_from (get_or read n (pos 0)) t next c.ranges.t after ∙ ap (λ (xs : List ℤ). get_or xs n (pos 0) -ℤ pos 1) same) in
     record {
       count = split;
-      asked = asked times t n _ c.requires split c.ranges.t first last;
+      requested = requested times t n _ c.requires split c.ranges.t first last;
       between = between times t n _ c.requires split c.ranges.t first last;
     }

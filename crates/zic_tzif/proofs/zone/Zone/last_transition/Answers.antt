@@ -17,7 +17,7 @@ returns c =
     let changes = ap (λ (content : Content). content.changes) c.self.view_is in
     let long = ap (λ (xs : List ℤ). length xs) same in
     let is : length times ≡ (count - 1) + 1 = omega (arith, some, long) in
-    let last = last_at_end content times numbers (count - 1) c.self.invariant.as_many changes c.self.invariant.kept.rising is in
+    let last = last_at_end content times numbers (count - 1) c.self.invariant.as_many changes c.self.invariant.sound_content.rising is in
     let within : count - 1 < length read = omega (arith, some) in
     let fits : FitsSigned w64 (get_or read (count - 1) (pos 0)) = search rules in
     rw (to_z-of_z fits) (subst (λ (xs : List ℤ). IsLastTransitionAt content (get_or xs (count - 1) (pos 0))) (sym same) last)

@@ -3,13 +3,13 @@ use Rattle.std.specs.Prelude.{slice_get, IsSomeAnd}
 use Rattle.std.proofs.lemmas.Option.{slice_get-get_or}
 use Rattle.zic_tzif.specs.Content.{Content}
 use Rattle.zic_tzif.specs.code.After.{IsNumberAfter}
-use Rattle.zic_tzif.specs.code.Kept.{IsKept}
+use Rattle.zic_tzif.specs.code.StoredContent.{IsSoundContent}
 use Rattle.zic_tzif.proofs.Search.{number_at, numbered, number_has_type}
 use Rattle.zic_tzif.proofs.Transitions.{changes_length}
 use Rattle.zic_tzif.proofs.zone.Zone.number_after.Goals as goal
 
 pub returns-then-count-eq0-clause-inside : goal.returns-then-count-eq0-clause-inside
-returns-then-count-eq0-clause-inside c = (subst (λ (content : Content). IsKept content c.self.inside.footer) c.self.view_is c.self.invariant.kept).some_type
+returns-then-count-eq0-clause-inside c = (subst (λ (content : Content). IsSoundContent content c.self.inside.footer) c.self.view_is c.self.invariant.sound_content).some_type
 
 pub bounds-numbers-count : goal.bounds-numbers-count
 bounds-numbers-count c =
@@ -43,5 +43,5 @@ returns-clause-number c =
 pub returns-clause-inside : goal.returns-clause-inside
 returns-clause-inside c =
     let content = c.args.self.now in
-    let kept = subst (λ (content : Content). IsKept content c.self.inside.footer) c.self.view_is c.self.invariant.kept in
-    number_has_type content c.args.count _ kept.have_types kept.some_type (returns-clause-number c)
+    let sound_content = subst (λ (content : Content). IsSoundContent content c.self.inside.footer) c.self.view_is c.self.invariant.sound_content in
+    number_has_type content c.args.count _ sound_content.have_types sound_content.some_type (returns-clause-number c)

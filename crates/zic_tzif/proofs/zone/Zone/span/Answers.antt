@@ -5,10 +5,10 @@ use Rattle.zic_posix.specs.Instants.{Includes}
 use Rattle.zic_tzif.specs.declared.content.Change.{Change}
 use Rattle.zic_tzif.specs.Content.{Content}
 use Rattle.zic_tzif.specs.Block.{changes_at}
-use Rattle.zic_tzif.specs.code.Kept.{IsKept}
+use Rattle.zic_tzif.specs.code.StoredContent.{IsSoundContent}
 use Rattle.zic_tzif.specs.code.Window.{IsSplit}
-use Rattle.zic_tzif.proofs.Search.{times_rise, kept_footer, kept_none, gives_first}
-use Rattle.zic_tzif.proofs.Spans.{IsPlaced, placed, type_throughout, changes_before_last, open_throughout, changes_without_footer, asked_of_both, footer_throughout, changes_with_footer}
+use Rattle.zic_tzif.proofs.Search.{times_rise, stored_footer, stored_none, gives_first}
+use Rattle.zic_tzif.proofs.Spans.{IsPlaced, placed, type_throughout, changes_before_last, open_throughout, changes_without_footer, requested_of_both, footer_throughout, changes_with_footer}
 use Rattle.zic_tzif.proofs.States.{footer_numbered}
 use Rattle.zic_tzif.proofs.Transitions.{changes_length}
 use Rattle.zic_tzif.proofs.zone.Zone.span.Goals as goal
@@ -21,7 +21,7 @@ as_long times numbers changes as_many same =
     omega (arith, changes_length times numbers as_many, as_many, size)
 
 pub gap_at-gap-requires : goal.gap_at-gap-requires
-gap_at-gap-requires c = times_rise c.self.inside.times.times.items c.self.inside.numbers.items c.self.invariant.as_many c.self.invariant.kept.rising
+gap_at-gap-requires c = times_rise c.self.inside.times.times.items c.self.inside.numbers.items c.self.invariant.as_many c.self.invariant.sound_content.rising
 
 pub number_after-number-requires : goal.number_after-number-requires
 number_after-number-requires c =
@@ -44,7 +44,7 @@ returns-then-gap-len-clause-answers c =
     let as_many = c.self.invariant.as_many in
     let same = ap (λ (content : Content). content.changes) c.self.view_is in
     let split = subst (λ (z : ℤ). IsSplit times z n) (to_z-of_z c.ranges.t) c.gap_at-gap.ensures.count in
-    let here = subst (λ (z : ℤ). Includes gap z) (to_z-of_z c.ranges.t) c.gap_at-gap.ensures.asked in
+    let here = subst (λ (z : ℤ). Includes gap z) (to_z-of_z c.ranges.t) c.gap_at-gap.ensures.requested in
     let p : IsPlaced content t n gap = placed content times numbers t n gap as_many same split here c.gap_at-gap.ensures.between in
     let long = as_long times numbers content.changes as_many same in
     let inside = c.if-gap-len.true in
@@ -62,7 +62,7 @@ returns-then-gap-len-clause-changes c =
     let as_many = c.self.invariant.as_many in
     let same = ap (λ (content : Content). content.changes) c.self.view_is in
     let split = subst (λ (z : ℤ). IsSplit times z n) (to_z-of_z c.ranges.t) c.gap_at-gap.ensures.count in
-    let here = subst (λ (z : ℤ). Includes gap z) (to_z-of_z c.ranges.t) c.gap_at-gap.ensures.asked in
+    let here = subst (λ (z : ℤ). Includes gap z) (to_z-of_z c.ranges.t) c.gap_at-gap.ensures.requested in
     let p : IsPlaced content t n gap = placed content times numbers t n gap as_many same split here c.gap_at-gap.ensures.between in
     let long = as_long times numbers content.changes as_many same in
     let inside = c.if-gap-len.true in
@@ -78,25 +78,25 @@ returns-after-span c =
     let times = c.self.inside.times.times.items in
     let numbers = c.self.inside.numbers.items in
     let as_many = c.self.invariant.as_many in
-    let kept = subst (λ (content : Content). IsKept content footer) c.self.view_is c.self.invariant.kept in
+    let sound_content = subst (λ (content : Content). IsSoundContent content footer) c.self.view_is c.self.invariant.sound_content in
     let same = ap (λ (content : Content). content.changes) c.self.view_is in
     let split = subst (λ (z : ℤ). IsSplit times z n) (to_z-of_z c.ranges.t) c.gap_at-gap.ensures.count in
-    let here = subst (λ (z : ℤ). Includes gap z) (to_z-of_z c.ranges.t) c.gap_at-gap.ensures.asked in
+    let here = subst (λ (z : ℤ). Includes gap z) (to_z-of_z c.ranges.t) c.gap_at-gap.ensures.requested in
     let p : IsPlaced content t n gap = placed content times numbers t n gap as_many same split here c.gap_at-gap.ensures.between in
     let long = as_long times numbers content.changes as_many same in
     let past = c.if-gap-len.false in
     let all : length content.changes ≤ n = omega (arith, past, c.len.ensures, long) in
     let f = c.in-Some.footer in
     let span = c.span-span.result.instants in
-    let asked = subst (λ (z : ℤ). Includes span z) (to_z-of_z c.ranges.t) c.span-span.ensures.asked in
+    let requested = subst (λ (z : ℤ). Includes span z) (to_z-of_z c.ranges.t) c.span-span.ensures.requested in
     let gap_fits : FitsSigned w64 gap.first = search rules in
     let begin_fits : FitsSigned w64 span.first = search rules in
     let end_fits : FitsSigned w64 span.last = search rules in
     let first_fits : FitsSigned w64 c.max-first.result = search rules in
     let first = rw (to_z-of_z gap_fits, to_z-of_z begin_fits) at c.max-first.ensures.value in
     let instants : Instants = record { first = c.max-first.result; last = span.last } in
-    let is_footer = kept_footer content footer f kept.footer_is c.in-Some.is in
-    let means = c.span-span.ensures.means t asked in
+    let is_footer = stored_footer content footer f sound_content.footer_is c.in-Some.is in
+    let means = c.span-span.ensures.means t requested in
     let types = ap (λ (content : Content). length content.types) c.self.view_is in
     let shows = (shown c.span-span.result.state).daylight in
     let number = c.if-span.number in
@@ -105,9 +105,9 @@ returns-after-span c =
       | else-span w ↦ let is = w.number-is in inr (w.if-span.false, omega (arith, is, c.len-standard.ensures, types))
     ] in
     rw (to_z-of_z first_fits, to_z-of_z end_fits) (record {
-      asked = asked_of_both content t n gap p f span instants all is_footer asked c.span-span.ensures.edges end_fits first refl;
-      answers = footer_throughout content t n gap p f span instants all is_footer asked c.span-span.ensures.edges end_fits first refl (shown c.span-span.result.state) c.span-span.ensures.means;
-      changes = changes_with_footer content t n gap p f span instants all is_footer asked c.span-span.ensures.edges end_fits first refl;
+      requested = requested_of_both content t n gap p f span instants all is_footer requested c.span-span.ensures.edges end_fits first refl;
+      answers = footer_throughout content t n gap p f span instants all is_footer requested c.span-span.ensures.edges end_fits first refl (shown c.span-span.result.state) c.span-span.ensures.means;
+      changes = changes_with_footer content t n gap p f span instants all is_footer requested c.span-span.ensures.edges end_fits first refl;
       number = footer_numbered content f t (shown c.span-span.result.state) number is_footer.spells means numbered;
     })
 
@@ -121,12 +121,12 @@ returns-in-None-clause-changes c =
     let times = c.self.inside.times.times.items in
     let numbers = c.self.inside.numbers.items in
     let as_many = c.self.invariant.as_many in
-    let kept = subst (λ (content : Content). IsKept content footer) c.self.view_is c.self.invariant.kept in
+    let sound_content = subst (λ (content : Content). IsSoundContent content footer) c.self.view_is c.self.invariant.sound_content in
     let same = ap (λ (content : Content). content.changes) c.self.view_is in
     let split = subst (λ (z : ℤ). IsSplit times z n) (to_z-of_z c.ranges.t) c.gap_at-gap.ensures.count in
-    let here = subst (λ (z : ℤ). Includes gap z) (to_z-of_z c.ranges.t) c.gap_at-gap.ensures.asked in
+    let here = subst (λ (z : ℤ). Includes gap z) (to_z-of_z c.ranges.t) c.gap_at-gap.ensures.requested in
     let p : IsPlaced content t n gap = placed content times numbers t n gap as_many same split here c.gap_at-gap.ensures.between in
-    changes_without_footer content t n gap p (kept_none content footer kept.footer_is c.in-None.is)
+    changes_without_footer content t n gap p (stored_none content footer sound_content.footer_is c.in-None.is)
 
 pub returns-in-None-2-clause-answers : goal.returns-in-None-2-clause-answers
 returns-in-None-2-clause-answers c =
@@ -138,17 +138,17 @@ returns-in-None-2-clause-answers c =
     let times = c.self.inside.times.times.items in
     let numbers = c.self.inside.numbers.items in
     let as_many = c.self.invariant.as_many in
-    let kept = subst (λ (content : Content). IsKept content footer) c.self.view_is c.self.invariant.kept in
+    let sound_content = subst (λ (content : Content). IsSoundContent content footer) c.self.view_is c.self.invariant.sound_content in
     let same = ap (λ (content : Content). content.changes) c.self.view_is in
     let split = subst (λ (z : ℤ). IsSplit times z n) (to_z-of_z c.ranges.t) c.gap_at-gap.ensures.count in
-    let here = subst (λ (z : ℤ). Includes gap z) (to_z-of_z c.ranges.t) c.gap_at-gap.ensures.asked in
+    let here = subst (λ (z : ℤ). Includes gap z) (to_z-of_z c.ranges.t) c.gap_at-gap.ensures.requested in
     let p : IsPlaced content t n gap = placed content times numbers t n gap as_many same split here c.gap_at-gap.ensures.between in
     let long = as_long times numbers content.changes as_many same in
     let past = c.if-gap-len.false in
     let some = c.if-gap-eq0.false in
     let bound = p.inside in
     open_throughout content t n gap p (λ none. some (omega (arith, none, bound)))
-    (omega (arith, past, c.len.ensures, long)) (kept_none content footer kept.footer_is c.in-None.is)
+    (omega (arith, past, c.len.ensures, long)) (stored_none content footer sound_content.footer_is c.in-None.is)
 
 pub returns-in-None-2-clause-changes : goal.returns-in-None-2-clause-changes
 returns-in-None-2-clause-changes c =
@@ -160,21 +160,21 @@ returns-in-None-2-clause-changes c =
     let times = c.self.inside.times.times.items in
     let numbers = c.self.inside.numbers.items in
     let as_many = c.self.invariant.as_many in
-    let kept = subst (λ (content : Content). IsKept content footer) c.self.view_is c.self.invariant.kept in
+    let sound_content = subst (λ (content : Content). IsSoundContent content footer) c.self.view_is c.self.invariant.sound_content in
     let same = ap (λ (content : Content). content.changes) c.self.view_is in
     let split = subst (λ (z : ℤ). IsSplit times z n) (to_z-of_z c.ranges.t) c.gap_at-gap.ensures.count in
-    let here = subst (λ (z : ℤ). Includes gap z) (to_z-of_z c.ranges.t) c.gap_at-gap.ensures.asked in
+    let here = subst (λ (z : ℤ). Includes gap z) (to_z-of_z c.ranges.t) c.gap_at-gap.ensures.requested in
     let p : IsPlaced content t n gap = placed content times numbers t n gap as_many same split here c.gap_at-gap.ensures.between in
-    changes_without_footer content t n gap p (kept_none content footer kept.footer_is c.in-None.is)
+    changes_without_footer content t n gap p (stored_none content footer sound_content.footer_is c.in-None.is)
 
-pub returns-then-gap-len-clause-asked : goal.returns-then-gap-len-clause-asked
-returns-then-gap-len-clause-asked c = subst (λ (z : ℤ). Includes c.gap_at-gap.result.instants z) (to_z-of_z c.ranges.t) c.gap_at-gap.ensures.asked
+pub returns-then-gap-len-clause-requested : goal.returns-then-gap-len-clause-requested
+returns-then-gap-len-clause-requested c = subst (λ (z : ℤ). Includes c.gap_at-gap.result.instants z) (to_z-of_z c.ranges.t) c.gap_at-gap.ensures.requested
 
-pub returns-in-None-clause-asked : goal.returns-in-None-clause-asked
-returns-in-None-clause-asked c = subst (λ (z : ℤ). Includes c.gap_at-gap.result.instants z) (to_z-of_z c.ranges.t) c.gap_at-gap.ensures.asked
+pub returns-in-None-clause-requested : goal.returns-in-None-clause-requested
+returns-in-None-clause-requested c = subst (λ (z : ℤ). Includes c.gap_at-gap.result.instants z) (to_z-of_z c.ranges.t) c.gap_at-gap.ensures.requested
 
-pub returns-in-None-2-clause-asked : goal.returns-in-None-2-clause-asked
-returns-in-None-2-clause-asked c = subst (λ (z : ℤ). Includes c.gap_at-gap.result.instants z) (to_z-of_z c.ranges.t) c.gap_at-gap.ensures.asked
+pub returns-in-None-2-clause-requested : goal.returns-in-None-2-clause-requested
+returns-in-None-2-clause-requested c = subst (λ (z : ℤ). Includes c.gap_at-gap.result.instants z) (to_z-of_z c.ranges.t) c.gap_at-gap.ensures.requested
 
 pub returns-then-gap-len-clause-number : goal.returns-then-gap-len-clause-number
 returns-then-gap-len-clause-number c = inl c.state_of.ensures
@@ -183,16 +183,16 @@ pub returns-in-None-clause-number : goal.returns-in-None-clause-number
 returns-in-None-clause-number c = inl c.state_of-in-None.ensures
 
 pub state_of-requires-in-None : goal.state_of-requires-in-None
-state_of-requires-in-None c = subst (λ (content : Content). 0 < length content.types) c.self.view_is c.self.invariant.kept.some_type
+state_of-requires-in-None c = subst (λ (content : Content). 0 < length content.types) c.self.view_is c.self.invariant.sound_content.some_type
 
 pub returns-in-None-clause-answers : goal.returns-in-None-clause-answers
 returns-in-None-clause-answers c =
     let content = c.args.self.now in
     let footer = c.self.inside.footer in
-    let kept = subst (λ (content : Content). IsKept content footer) c.self.view_is c.self.invariant.kept in
+    let sound_content = subst (λ (content : Content). IsSoundContent content footer) c.self.view_is c.self.invariant.sound_content in
     let same = ap (λ (content : Content). content.changes) c.self.view_is in
     let long = as_long c.self.inside.times.times.items c.self.inside.numbers.items content.changes c.self.invariant.as_many same in
     let past = c.if-gap-len.false in
     let none = c.if-gap-eq0.true in
     let empty : length content.changes ≡ 0 = omega (arith, past, none, c.len.ensures, long) in
-    λ u there. gives_first content u (shown c.state_of-in-None.result) empty (kept_none content footer kept.footer_is c.in-None.is) c.state_of-in-None.ensures
+    λ u there. gives_first content u (shown c.state_of-in-None.result) empty (stored_none content footer sound_content.footer_is c.in-None.is) c.state_of-in-None.ensures

@@ -3,7 +3,7 @@ use Rattle.std.proofs.lemmas.List.{get_or-map}
 use Rattle.zic_tzif.specs.declared.content.LocalType.{LocalType}
 use Rattle.zic_tzif.specs.Content.{Content}
 use Rattle.zic_tzif.specs.Designation.{designation}
-use Rattle.zic_tzif.specs.code.Kept.{name_length}
+use Rattle.zic_tzif.specs.code.StoredContent.{name_length}
 use Rattle.zic_tzif.proofs.zone.Zone.state_of.Goals as goal
 
 -- the length of a designation, as it was kept

@@ -1,7 +1,7 @@
 use Rattle.std.proofs.Common.{◌≡◌, ℕ, List, length, Some, refl, subst}
 use Rattle.std.proofs.lemmas.Option.{slice_get_read}
 use Rattle.std.specs.Prelude.{slice_get}
-use Rattle.zic_zones.proofs.Readying.{state_told}
+use Rattle.zic_zones.proofs.Readying.{state_found}
 use Rattle.zic_zones.specs.declared.ready.ReadyZone.{ReadyZone}
 use Rattle.zic_zones.proofs.ready.Ready.state_in.Goals as goal
 
@@ -14,4 +14,4 @@ returns c = λ files are.
     let numbers = c.deref-2.result.now in
     let named = c.in_ok-text.ensures.lookup in
     let text_at = subst (λ (l : List ℕ). slice_get l c.args.number ≡ Some c.in_ok-text.text.now) c.deref-2.ensures.value (slice_get_read numbers (length numbers) c.args.number c.in_ok-text.text.now refl named.3.0 named.1) in
-    state_told files c.args.self.now are c.args.file zone zone_at c.args.number c.in_ok-text.text.now text_at
+    state_found files c.args.self.now are c.args.file zone zone_at c.args.number c.in_ok-text.text.now text_at

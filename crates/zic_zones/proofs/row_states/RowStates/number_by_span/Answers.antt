@@ -22,14 +22,14 @@ returns-in-Known c = λ says.
     let (file, at) = got files c.args.file c.requires in
     let zone = subst (λ (l : List File). IfSome (slice_get l c.args.file) (λ f. c.zone.result.now ≡ f.image.content)) same c.zone.ensures.zone in
     let content = if_at (slice_get files c.args.file) (λ (f : File). c.zone.result.now ≡ f.image.content) file zone at in
-    let asked = subst (λ (t : ℤ). Includes span.instants t) (to_z-of_z c.ranges.instant) c.span-span.ensures.asked in
+    let requested = subst (λ (t : ℤ). Includes span.instants t) (to_z-of_z c.ranges.instant) c.span-span.ensures.requested in
     let number = rw c.in-Known.is at c.span-span.ensures.number in
     let answers = rw c.in-Known.is at c.span-span.ensures.answers in
     let shows : IsShownAt files c.args.file c.args.instant span.number =
     rw at (
       shown c.in-Known.field-0,
       subst (λ (k : Content). IsStateOfNumber k span.number (shown c.in-Known.field-0)) content number,
-      subst (λ (k : Content). Answers k c.args.instant (Some (shown c.in-Known.field-0))) content (answers c.args.instant asked),
+      subst (λ (k : Content). Answers k c.args.instant (Some (shown c.in-Known.field-0))) content (answers c.args.instant requested),
     ) in
     let ready = subst (λ (l : List File). AreReady l c.self.inside.ready.now) same c.self.invariant in
     let has = subst (λ (l : List Shown). HasState l c.state.result (λ s. IsTextOf files c.args.file span.number s)) (ap (λ (v : NumberedStates). v.states) c.self.view_is) (c.state.ensures files ready) in

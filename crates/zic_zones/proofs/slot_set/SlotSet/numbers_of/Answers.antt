@@ -21,9 +21,9 @@ loop-slot-preserved c =
     let found = rw c.in-Some.is at c.in_ok-number.ensures.number in
     let numbered : slice_get after n ≡ Some slot = found ∙ ap (λ (s : Slot). Some s) (get_or_from_slice_get table i slot _ at) in
     let pushed : c.push.new.self.items ≡ numbers ++ n ∷ [] = c.in_ok-push.ensures.items in
-    let are = slot_numbered after numbers (take i table) slot n (numbers_still before after c.number.ensures.kept numbers (take i table) c.loop-slot.invariant.are) numbered in
+    let are = slot_numbered after numbers (take i table) slot n (numbers_still before after c.number.ensures.stays numbers (take i table) c.loop-slot.invariant.are) numbered in
     record {
-      kept = keeps_then c.args.self.now before after c.loop-slot.invariant.kept c.number.ensures.kept;
+      stays = keeps_then c.args.self.now before after c.loop-slot.invariant.stays c.number.ensures.stays;
       are = subst (λ (l : List ℕ). AreNumbersOfSlots after l (take (i + 1) table)) (sym pushed)
           (subst (λ (l : List Slot). AreNumbersOfSlots after (numbers ++ n ∷ []) l) (sym (take_next table i slot at)) are);
     }

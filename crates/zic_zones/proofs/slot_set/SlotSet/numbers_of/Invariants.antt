@@ -5,6 +5,6 @@ use Rattle.zic_zones.proofs.slot_set.SlotSet.numbers_of.Given as goal
 
 abbrev pub invariant-loop-slot : goal.invariant-loop-slot
 invariant-loop-slot l = record {
-  kept : Keeps l.fn.self l.self;
+  stays : Keeps l.fn.self l.self;
   are : AreNumbersOfSlots l.self l.numbers.items (take l.slot-index l.slots);
 }

@@ -8,27 +8,27 @@ use Rattle.zic_zones.specs.code.Tables.{AreNumbersOfSlots, slot_of}
 use Rattle.zic_zones.specs.code.Texts.{Keeps}
 use Rattle.zic_zones.proofs.tables.Tables.add.Goals as goal
 
-pub returns-in_err-run-clause-kept : goal.returns-in_err-run-clause-kept
-returns-in_err-run-clause-kept c =
+pub returns-in_err-run-clause-stays : goal.returns-in_err-run-clause-stays
+returns-in_err-run-clause-stays c =
     let old = c.self.inside in
     let set = c.numbers_of.new.self in
     subst (λ (l : List Slot). Keeps l (map (slot_of set) old.numbers)) c.self.view_is
-    (slots_still old.slots set c.numbers_of.ensures.kept old.numbers old.numbers c.self.invariant (keeps_same old.numbers))
+    (slots_still old.slots set c.numbers_of.ensures.stays old.numbers old.numbers c.self.invariant (keeps_same old.numbers))
 
-pub returns-clause-kept : goal.returns-clause-kept
-returns-clause-kept c =
+pub returns-clause-stays : goal.returns-clause-stays
+returns-clause-stays c =
     let old = c.self.inside in
     let set = c.numbers_of.new.self in
     subst (λ (l : List Slot). Keeps l (map (slot_of set) old.numbers)) c.self.view_is
-    (slots_still old.slots set c.numbers_of.ensures.kept old.numbers old.numbers c.self.invariant (keeps_same old.numbers))
+    (slots_still old.slots set c.numbers_of.ensures.stays old.numbers old.numbers c.self.invariant (keeps_same old.numbers))
 
-pub returns-in-Some-clause-kept : goal.returns-in-Some-clause-kept
-returns-in-Some-clause-kept c =
+pub returns-in-Some-clause-stays : goal.returns-in-Some-clause-stays
+returns-in-Some-clause-stays c =
     let old = c.self.inside in
     let set = c.numbers_of.new.self in
     let numbers = c.add.new.self in
     subst (λ (l : List Slot). Keeps l (map (slot_of set) numbers)) c.self.view_is
-    (slots_still old.slots set c.numbers_of.ensures.kept old.numbers numbers c.self.invariant (either_keeps old.numbers numbers c.deref-in-Some.result.now c.add.ensures.kept))
+    (slots_still old.slots set c.numbers_of.ensures.stays old.numbers numbers c.self.invariant (either_keeps old.numbers numbers c.deref-in-Some.result.now c.add.ensures.stays))
 
 pub invariant_of-self-in-Some : goal.invariant_of-self-in-Some
 invariant_of-self-in-Some c =
@@ -36,7 +36,7 @@ invariant_of-self-in-Some c =
     let set = c.numbers_of.new.self in
     let run = c.deref-in-Some.result.now in
     let are = subst (λ (l : List ℕ). AreNumbersOfSlots set l c.deref.result.now) (sym c.deref-in-Some.ensures.value) (rw c.in-Some.is at c.in_ok-run.ensures.numbers) in
-    either_have set run c.deref.result.now are old.numbers c.add.new.self (have_still old.slots set c.numbers_of.ensures.kept old.numbers c.self.invariant) c.add.ensures.kept
+    either_have set run c.deref.result.now are old.numbers c.add.new.self (have_still old.slots set c.numbers_of.ensures.stays old.numbers c.self.invariant) c.add.ensures.stays
 
 pub returns-in-Some-clause-table : goal.returns-in-Some-clause-table
 returns-in-Some-clause-table c =
@@ -49,4 +49,4 @@ returns-in-Some-clause-table c =
     let long : length made ≡ SLOTS = search rules in
     let are = subst (λ (l : List ℕ). AreNumbersOfSlots set l c.deref.result.now) (sym c.deref-in-Some.ensures.value) (rw c.in-Some.is at c.in_ok-run.ensures.numbers) in
     let of = subst (λ (l : List Slot). AreNumbersOfSlots set run l) c.deref.ensures.value are in
-    if_ok_some c.add.result c.add.ensures.start (λ start stands. has_table set run made of content c.args.numbers.now base c.add.new.self start long right stands)
+    if_ok_some c.add.result c.add.ensures.start (λ start located. has_table set run made of content c.args.numbers.now base c.add.new.self start long right located)

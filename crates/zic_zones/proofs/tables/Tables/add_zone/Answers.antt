@@ -15,7 +15,7 @@ loop-era-preserved c =
     let fits : FitsSigned w64 c.base_of.result = search rules in
     let table = subst (λ (t : ℤ). IfSome found (HasTable content numbers c.add.new.self t)) (to_z-of_z fits ∙ c.base_of.ensures.value) c.in_ok-starts.ensures.table in
     record {
-      kept = keeps_then c.args.self.now l.self c.add.new.self l.invariant.kept c.add.ensures.kept;
+      stays = keeps_then c.args.self.now l.self c.add.new.self l.invariant.stays c.add.ensures.stays;
       long = length-set l.starts l.era found ∙ l.invariant.long;
-      have = era_added content numbers l.self c.add.new.self l.starts l.era found c.add.ensures.kept (omega (arith, l.invariant.long, c.loop-era-test.true, c.eras-eras.ensures)) l.invariant.have table;
+      have = era_added content numbers l.self c.add.new.self l.starts l.era found c.add.ensures.stays (omega (arith, l.invariant.long, c.loop-era-test.true, c.eras-eras.ensures)) l.invariant.have table;
     }

@@ -6,7 +6,7 @@ use Rattle.zic_zones.proofs.tables.Tables.add_zone.Given as goal
 
 abbrev pub invariant-loop-era : goal.invariant-loop-era
 invariant-loop-era l = record {
-  kept : Keeps l.fn.self l.self;
+  stays : Keeps l.fn.self l.self;
   long : length l.starts ≡ ERAS;
   have : HaveTables l.zone l.numbers l.self l.starts;
 }

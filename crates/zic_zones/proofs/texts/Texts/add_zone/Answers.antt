@@ -18,9 +18,9 @@ loop-number-preserved c =
     let state = shown c.state.result in
     let pushed : c.push.new.self.items ≡ numbers ++ number ∷ [] = c.in_ok-push.ensures.items in
     let of = subst (λ (n : ℕ). IsStateOfNumber zone n state) (sym c.loop-number.invariant.long) c.state.ensures in
-    let are = numbers_still zone before texts numbers c.add.ensures.kept c.loop-number.invariant.are in
+    let are = numbers_still zone before texts numbers c.add.ensures.stays c.loop-number.invariant.are in
     record {
       long = rw pushed (omega (arith, length-append numbers (number ∷ []), c.loop-number.invariant.long));
-      kept = keeps_then c.args.self.now before texts c.loop-number.invariant.kept c.add.ensures.kept;
+      stays = keeps_then c.args.self.now before texts c.loop-number.invariant.stays c.add.ensures.stays;
       are = subst (λ (l : List ℕ). AreNumbersOf zone texts l) (sym pushed) (number_added zone texts numbers number state are c.in_ok-add.ensures.number of);
     }

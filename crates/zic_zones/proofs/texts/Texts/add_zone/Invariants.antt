@@ -5,6 +5,6 @@ use Rattle.zic_zones.proofs.texts.Texts.add_zone.Given as goal
 abbrev pub invariant-loop-number : goal.invariant-loop-number
 invariant-loop-number l = record {
   long : length l.numbers.items ≡ l.number;
-  kept : Keeps l.fn.self l.self;
+  stays : Keeps l.fn.self l.self;
   are : AreNumbersOf l.zone l.self l.numbers.items;
 }

@@ -18,10 +18,10 @@ loop-record-preserved g c =
     let at : slice_get records l.record-index ≡ Some given = slice_get-get_or records l.record-index no_record within in
     elim c.if-not-have_same_bytes.branch [
       | then-not-have_same_bytes+in_ok-learn_field w ↦
-          let told = w.in_ok-learn_field.ensures in
-          let stands = c.requires l.record-index no_record within in
+          let facts = w.in_ok-learn_field.ensures in
+          let located = c.requires l.record-index no_record within in
           rw (w.self-is, w.last-is)
-          (record_next g.T.ZoneTree.replied c.args.self.now piece l.self l.last records l.record-index given at l.invariant w.learn_field.new.self told.grown stands told.known)
+          (record_next g.T.ZoneTree.replied c.args.self.now piece l.self l.last records l.record-index given at l.invariant w.learn_field.new.self facts.grown located facts.known)
       | else-not-have_same_bytes w ↦
           let same = c.have_same_bytes.ensures w.if-not-have_same_bytes.false in
           rw (w.self-is, w.last-is) (record_same g.T.ZoneTree.replied c.args.self.now piece l.self l.last records l.record-index given at l.invariant same)

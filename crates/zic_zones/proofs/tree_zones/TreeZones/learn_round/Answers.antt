@@ -10,8 +10,8 @@ use Rattle.zic_zones.proofs.tree_zones.TreeZones.learn_round.Goals as goal
 pub loop-number-preserved : goal.loop-number-preserved
 loop-number-preserved g c =
     let l = c.loop-number in
-    let told = c.in_ok-learn_piece.ensures in
-    next_piece g.T.ZoneTree.replied c.args.self.now c.args.index c.args.round.now l.self c.learn_piece.new.self l.number c.piece.result.now c.piece.ensures l.invariant told.grown told.known
+    let facts = c.in_ok-learn_piece.ensures in
+    next_piece g.T.ZoneTree.replied c.args.self.now c.args.index c.args.round.now l.self c.learn_piece.new.self l.number c.piece.result.now c.piece.ensures l.invariant facts.grown facts.known
 
 pub returns-clause-known : goal.returns-clause-known
 returns-clause-known g c =

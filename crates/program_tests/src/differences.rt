@@ -1,0 +1,63 @@
+//! The differences of two lists of files, by workers. What is listed of which files is in
+//! tests/program/diff.txt.
+
+use crate::files::built;
+use crate::samples::{expect_text, must};
+use std::alloc::Global;
+use std::process::Abort;
+use std::sync::Wait;
+use std::thread::Threads;
+use zic_compare::{Compared, Listed, Survey};
+use zic_diff::{Sides, diff};
+use zic_files::Files;
+use zic_pieces::Open;
+use zic_plan::Plan;
+
+/// Zones of which B differs up to 2000, C is only here, and D differs for ever.
+const OLD: &str = "Zone A 1 - AAA\nZone B 1 - AAA\nZone C 1 - AAA\nZone D 1 - AAA\n";
+
+/// The same, with E and F.
+const NEW: &str = "Zone F 1 - AAA\nZone D 2 - AAA\nZone B 0 1:00 AAA 2000\n1 - AAA\n\
+Zone A 1 - AAA\nZone E 1 - AAA\n";
+
+/// The names of the old files come first, in their order.
+const LINES: &[u8] = b"zone,from,until,kind\n\
+B,,946681200,past\nC,,,removed\nD,,,forever\nF,,,added\nE,,,added\n";
+
+/// Lists the differences by a number of workers, in pieces of a number of names.
+fn listed<R: Threads + Wait + Sync + Abort>(
+    rt: &R,
+    alloc: Global,
+    sides: &Sides<'_>,
+    plan: &Plan,
+) -> Vec<u8> {
+    let how = Listed::Summaries(Survey {
+        compared: Compared {
+            daylight: true,
+            abbreviation: true,
+        },
+        since: i64::MIN,
+        present: 946_681_200,
+    });
+    must(rt, diff(rt, alloc, plan, &Open, sides, &how))
+}
+
+/// Builds the files of a text.
+fn files_of<R: Threads + Wait + Sync + Abort>(rt: &R, alloc: Global, text: &str) -> Files {
+    must(rt, built(rt, alloc, text, 1, &Open))
+}
+
+#[test]
+fn workers_list_what_one_lists(rt: HostRuntime) {
+    let old = files_of(&rt, rt.alloc(), OLD);
+    let new = files_of(&rt, rt.alloc(), NEW);
+    let sides = Sides {
+        old: &old,
+        new: &new,
+    };
+    for (workers, piece) in [(1, 64), (1, 1), (2, 2), (3, 1)] {
+        let plan = must(&rt, Plan::new(workers, piece, 1, 0, 0).ok_or(()));
+        let lines = listed(&rt, rt.alloc(), &sides, &plan);
+        expect_text(&rt, &lines, LINES, "the differences");
+    }
+}

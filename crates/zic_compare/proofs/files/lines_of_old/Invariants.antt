@@ -1,0 +1,7 @@
+use Rattle.std.proofs.Common.{slice_range}
+use Rattle.zic_compare.specs.Files.{AreLinesOfOld}
+use Rattle.zic_compare.specs.Lines.{AreLinesOfAll}
+use Rattle.zic_compare.proofs.files.lines_of_old.Given as goal
+
+abbrev pub invariant-loop-file : goal.invariant-loop-file
+invariant-loop-file l = AreLinesOfAll (AreLinesOfOld l.how l.new) (slice_range l.old l.first l.file) l.lines.items

@@ -1,0 +1,196 @@
+//! Converts columns in memory by layouts.
+
+ghost use Rattle.std.specs.Prelude.{◌≡◌, ◌+◌, ◌^◌, ◌<◌, ◌≤◌, None, IfOk, IfSome, OnOk, length};
+ghost use Rattle.zic_columns.specs.Round.{unread};
+ghost use Rattle.zic_plan.specs.declared.plan.TheConstants.{MAX_ROWS};
+ghost use Rattle.zic_convert.specs.Column.{AreRowsByLayout};
+ghost use Rattle.zic_convert.specs.code.Memory.{AreRowsOfLeft};
+ghost use Rattle.zic_convert.specs.code.Pieces.{followed_by};
+ghost use Rattle.zic_convert.specs.code.Row.{AreRowsOf, records_of_all, taken_rows};
+
+use crate::column::zones_for;
+use crate::conversion::begin_rows;
+use crate::long::{long_kind, longest_of, read_of_lines};
+use crate::opened::open_row;
+use crate::output::write_names;
+use crate::piece::{Piece, rows_of_piece};
+use crate::pieces::room_for;
+use crate::row::Rows;
+use std::alloc::{AllocError, Global};
+use std::io::Read;
+use zic_base::RowKind;
+use zic_columns::laws::{records_by_are_exchanged, texts_by_are_exchanged};
+use zic_columns::{Column, Exchanged, Round, Taken, Truncated};
+use zic_counted::Counted;
+use zic_files::Files;
+use zic_plan::{FaultyRow, Layout, Plan, Unnoted};
+use zic_rows::RowText;
+use zic_zones::{RowZones, Zones};
+
+/// The rows of a column by a layout, up to the first that ends the run: the text of the header and of
+/// the rows, the number of rows, the fault that ends the run, and the rows before it that have a fault.
+#[derive(Drop)]
+pub struct LayoutRows {
+    pub text: Vec<u8>,
+    pub count: u64,
+    pub fault: Option<RowKind>,
+    pub faults: Vec<FaultyRow>,
+}
+
+/// The number of bytes that are read at once.
+const READ: usize = 4_194_304;
+
+/// The number of records of a piece.
+const PIECE: usize = 65_536;
+
+/// What rows are made by: the zones, the layout, and the greatest number that a row may have.
+#[derive(Clone, Copy, Drop)]
+struct RowsBy<'a, 's> {
+    alloc: Global,
+    zones: &'a RowZones<'s>,
+    layout: &'a Layout,
+    most: u64,
+}
+
+/// Appends the rows that come after some rows, none of which ends the run.
+fn append(rows: &mut Rows, more: Rows) -> Result<(), AllocError>
+    requires { rows.old.count + more.count < 2 ^ 64 }
+    ensures { OnOk result (rows.new ≡ followed_by rows.old more None) }
+{
+    rows.text.push(more.text.bytes())?;
+    let mut faults = more.faults;
+    rows.faults.append(&mut faults)?;
+    rows.count += more.count;
+    rows.fault = more.fault;
+    Ok(())
+}
+
+/// Returns the rows of a round, up to the first that ends the run. The first is the row of a number.
+fn rows_of_round(by: &RowsBy<'_, '_>, round: &Round<'_>, first: u64) -> Result<Rows, AllocError>
+    requires first { first ≤ by.now.most + 1 }
+    requires most { by.now.most ≤ MAX_ROWS }
+    ensures { IfOk result (AreRowsOf by.now.layout.now by.now.zones.now by.now.most first
+        (records_of_all by.now.layout.now.delimiter round.now)) }
+{
+    let mut rows = Rows::new(by.alloc, RowText::new(by.alloc));
+    for i in 0..round.len() {
+        if rows.fault.is_some() {
+            return Ok(rows);
+        }
+        let piece = Piece {
+            bytes: round.piece(i),
+            zones: by.zones,
+            layout: by.layout,
+            first: first + rows.count,
+            most: by.most,
+        };
+        let text = RowText::with_capacity(by.alloc, room_for(piece.bytes.len()))?;
+        let more = rows_of_piece(by.alloc, &piece, text)?;
+        append(&mut rows, more)?;
+    }
+    Ok(rows)
+}
+
+/// Returns the rows of what was taken of a column, a round or an open line.
+fn rows_taken(
+    by: &RowsBy<'_, '_>,
+    taken: &Taken,
+    round: &Round<'_>,
+    first: u64,
+) -> Result<Rows, AllocError>
+    requires some { taken.now ≡ Taken.End → ⊥ }
+    requires short { taken.now ≡ Taken.TooLong → ⊥ }
+    requires first { first ≤ by.now.most + 1 }
+    requires most { by.now.most ≤ MAX_ROWS }
+    ensures { IfOk result (AreRowsOf by.now.layout.now by.now.zones.now by.now.most first
+        (taken_rows by.now.layout.now.delimiter taken.now round.now)) }
+{
+    if let Taken::OpenLine(line) = taken {
+        return open_row(by.alloc, by.layout, by.most, first, line);
+    }
+    rows_of_round(by, round, first)
+}
+
+/// Returns the rows of what is left of a column, up to the first that ends the run.
+///
+/// # Errors
+///
+/// Fails where the column can't be read on, or memory is refused.
+fn rows_of_left<R: Read>(by: &RowsBy<'_, '_>, column: &mut Column<R>) -> Result<Rows, AllocError>
+    requires mode { column.old.by ≡ by.now.layout.now.records }
+    requires most { by.now.most ≤ MAX_ROWS }
+    ensures { IfOk result (AreRowsOfLeft by.now.layout.now by.now.zones.now by.now.most
+        (unread R.remaining column.old)) }
+{
+    let mut rows = Rows::new(by.alloc, RowText::new(by.alloc));
+    for _ in 0..u64::MAX {
+        if rows.fault.is_some() {
+            return Ok(rows);
+        }
+        let Ok(taken) = column.next_round(by.alloc, READ, PIECE, longest_of(by.layout)) else {
+            return Err(AllocError);
+        };
+        if let Taken::End = taken {
+            return Ok(rows);
+        }
+        if let Taken::TooLong = taken {
+            rows.fault = Some(long_kind(by.most, rows.count + 1));
+            return Ok(rows);
+        }
+        let more = rows_taken(by, &taken, &column.round(), rows.count + 1)?;
+        append(&mut rows, more)?;
+    }
+    Err(AllocError)
+}
+
+/// Converts a column in memory by a layout, on the calling thread, to the header and the rows of
+/// [`crate::convert_column`]. Returns those up to the first that ends the run, and the faults. The
+/// plan says how many rows and bytes the column may have; its workers and pieces change nothing.
+///
+/// # Errors
+///
+/// Fails where memory is refused, the column has more bytes, or its header more than a record may have.
+pub fn rows_by_layout(
+    alloc: Global,
+    files: &Files,
+    plan: &Plan,
+    layout: &Layout,
+    column: &[u8],
+) -> Result<LayoutRows, AllocError>
+    ensures rows { IfOk result (λ rows. AreRowsByLayout files.now layout.now plan.now.max_rows column.now
+        rows.text.items rows.count rows.fault rows.faults.items) }
+    ensures within { IfOk result (λ _. length column.now ≤ plan.now.max_bytes) }
+{
+    records_by_are_exchanged();
+    texts_by_are_exchanged();
+    if plan.max_bytes() < column.len() as u64 {
+        return Err(AllocError);
+    }
+    let zones = zones_for(alloc, files, column.len())?;
+    let ready = zones.ready();
+    let by = RowsBy {
+        alloc,
+        zones: &ready,
+        layout,
+        most: plan.max_rows(),
+    };
+    let mut writer = Counted::new(Vec::new(alloc));
+    if write_names(&mut writer, layout).is_err() {
+        return Err(AllocError);
+    }
+    let short = Truncated::new(column, read_of_lines(layout), plan.max_bytes());
+    let exchanged = Exchanged::new(short, layout.delimiter.byte());
+    let log = &mut Unnoted;
+    let Ok(mut left) = begin_rows(alloc, plan, layout, exchanged, &mut writer, log) else {
+        return Err(AllocError);
+    };
+    let rows = rows_of_left(&by, &mut left)?;
+    let mut text = writer.into_inner();
+    text.extend_from_slice(rows.text.bytes())?;
+    Ok(LayoutRows {
+        text,
+        count: rows.count,
+        fault: rows.fault,
+        faults: rows.faults,
+    })
+}

@@ -1,6 +1,0 @@
-use Rattle.std.proofs.lemmas.Result.{on_ok_weaker}
-use Rattle.zic_explain.proofs.place.push_line_part.Goals as goal
-
-pub returns : goal.returns
-returns c =
-    on_ok_weaker c.push_shown.result (λ stays shown. stays (c.in_ok-push_field.ensures shown)) c.push_shown.ensures

@@ -1,7 +1,0 @@
-use Rattle.zic_explain.proofs.place.quote_place.Goals as goal
-
-pub returns-in-Some : goal.returns-in-Some
-returns-in-Some c = rw c.in-Some.is c.format.ensures.ok
-
-pub returns-in-None : goal.returns-in-None
-returns-in-None c = rw c.in-None.is c.format-in-None.ensures.ok

@@ -1,0 +1,162 @@
+//! What is expected of a row in the layout that the options give.
+
+use std::alloc::{AllocError, Global};
+use zic_base::RowKind;
+use zic_explain::{Entry, expectation};
+use zic_places::RecordForm;
+use zic_plan::{FieldCount, TimeFrom, Unit};
+
+/// What records of a column have.
+#[derive(Clone, Copy)]
+pub(crate) struct Expected {
+    /// Where they have the zone and the instant of a row.
+    pub(crate) form: RecordForm,
+    /// How many fields they have.
+    pub(crate) count: FieldCount,
+    /// The greatest number of bytes that they may have, if there is one.
+    pub(crate) max_record: Option<u64>,
+}
+
+impl Expected {
+    /// Returns the sections that say what is expected where a row has a fault of this kind: those of its
+    /// entry, or others where options make a difference.
+    pub(crate) fn sections(
+        &self,
+        alloc: Global,
+        entries: &[Entry],
+        kind: RowKind,
+    ) -> Result<String, AllocError> {
+        match kind {
+            RowKind::RowRange => self.range(alloc, entries),
+            RowKind::RowFields if !self.is_plain() => self.fields(alloc, entries),
+            RowKind::RowTooLong => self.length(alloc, entries),
+            _ => expectation(alloc, entries, kind.name()),
+        }
+    }
+
+    /// Returns whether records are `NAME,SECONDS`.
+    fn is_plain(&self) -> bool {
+        let form = &self.form;
+        self.count == FieldCount::Exactly(2)
+            && form.zone == Some(0)
+            && form.time == 1
+            && form.delimiter == b','
+            && self.is_seconds()
+    }
+
+    /// Returns whether instants are seconds.
+    fn is_seconds(&self) -> bool {
+        matches!(
+            (self.form.from, self.form.unit),
+            (TimeFrom::Count, Unit::Second)
+        )
+    }
+
+    /// Returns what is expected where an instant is out of range.
+    fn range(&self, alloc: Global, entries: &[Entry]) -> Result<String, AllocError> {
+        let text = match (self.form.from, self.form.unit) {
+            (TimeFrom::Count, Unit::Second) => return expectation(alloc, entries, "RowRange"),
+            (TimeFrom::Count, Unit::Millisecond) => MILLISECONDS,
+            (TimeFrom::Count, Unit::Microsecond) => MICROSECONDS,
+            (TimeFrom::Count, Unit::Nanosecond) => NANOSECONDS,
+            (TimeFrom::Rfc3339 | TimeFrom::Local(_), _) => DATES,
+        };
+        String::from_str(alloc, text)
+    }
+
+    /// Returns what is expected where a record has too many bytes.
+    fn length(&self, alloc: Global, entries: &[Entry]) -> Result<String, AllocError> {
+        let entry = expectation(alloc, entries, "RowTooLong")?;
+        let Some(most) = self.max_record else {
+            return Ok(entry);
+        };
+        let s = if most == 1 { "" } else { "s" };
+        let mut text = format!(in alloc; "\nExpected:\n  At most {most} byte{s}.\n")?;
+        text.push_str(after(entry.as_str(), "\nUsual cause:"))?;
+        Ok(text)
+    }
+
+    /// Returns what is expected where a record has too few or too many fields.
+    fn fields(&self, alloc: Global, entries: &[Entry]) -> Result<String, AllocError> {
+        let mut text = String::new(alloc);
+        let (count, more) = match self.count {
+            FieldCount::Exactly(count) => (count, ""),
+            FieldCount::AtLeast(count) => (count, " or more"),
+        };
+        let s = if count == 1 && more.is_empty() {
+            ""
+        } else {
+            "s"
+        };
+        let line = format!(in alloc; "\nExpected:\n  {count} field{s}{more}")?;
+        text.push_str(line.as_str())?;
+        if count > 1 || !more.is_empty() {
+            let line = match self.form.delimiter {
+                b'\t' => String::from_str(alloc, " with a tab between two of them")?,
+                byte => {
+                    let byte = char::from(byte);
+                    format!(in alloc; " with `{byte}` between two of them")?
+                }
+            };
+            text.push_str(line.as_str())?;
+        }
+        text.push_str(self.named_fields(alloc)?.as_str())?;
+        let entry = expectation(alloc, entries, "RowFields")?;
+        text.push_str(after(entry.as_str(), "\nUsual cause:"))?;
+        Ok(text)
+    }
+
+    /// Returns the end of a line, and a line that says which field is which.
+    fn named_fields(&self, alloc: Global) -> Result<String, AllocError> {
+        let time = self.form.time.saturating_add(1);
+        let label = self.form.label(RowKind::RowInstant);
+        match self.form.zone {
+            Some(zone) => {
+                let zone = zone.saturating_add(1);
+                format!(in alloc; ":\n  field {zone} is NAME, and field {time} {label}.\n")
+            }
+            None => format!(in alloc; ":\n  field {time} is {label}.\n"),
+        }
+    }
+}
+
+/// Returns a text from where this part of it begins.
+fn after<'a>(text: &'a str, part: &str) -> &'a str {
+    match text.find(part) {
+        Some(start) => text.get(start..).unwrap_or(""),
+        None => "",
+    }
+}
+
+/// What is expected where an instant in milliseconds is out of range.
+const MILLISECONDS: &str = r#"
+Expected:
+  -62135510400000 to 253402214399999 milliseconds, which is 0001-01-02T00:00:00
+  to 9999-12-30T23:59:59 UT.
+
+Usual cause:
+  Microseconds or nanoseconds, which `--unit us` and `--unit ns` take.
+"#;
+
+/// The same in microseconds.
+const MICROSECONDS: &str = r#"
+Expected:
+  -62135510400000000 to 253402214399999999 microseconds, which is
+  0001-01-02T00:00:00 to 9999-12-30T23:59:59 UT.
+
+Usual cause:
+  Nanoseconds, which `--unit ns` takes.
+"#;
+
+/// The same in nanoseconds.
+const NANOSECONDS: &str = r#"
+Expected:
+  -62135510400000000000 to 253402214399999999999 nanoseconds, which is
+  0001-01-02T00:00:00 to 9999-12-30T23:59:59 UT.
+"#;
+
+/// The same of dates and times.
+const DATES: &str = r#"
+Expected:
+  An instant from 0001-01-02T00:00:00 to 9999-12-30T23:59:59 UT.
+"#;

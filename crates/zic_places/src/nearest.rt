@@ -1,0 +1,166 @@
+//! The zone or the rule set whose name is nearest to one that no zone or set has.
+
+ghost use Rattle.std.specs.Prelude.{◌<◌, length, map, string_bytes, IfOk, OnOk};
+ghost use Rattle.zic_explain.specs.Shown.{IsShownText, StaysShown};
+ghost use Rattle.zic_places.specs.code.Nearest.{IsNearestAt};
+
+use crate::line::{entry_of, goes_on};
+use crate::related::{TextLine, entry_at};
+use std::alloc::{AllocError, Global};
+use strsim::levenshtein;
+use zic_explain::{push_bytes, push_line_end};
+use zic_lines::{Entry, Rules};
+
+/// The greatest length of a zone's name. No more is compared of a longer name.
+const LONGEST: usize = 255;
+
+/// Returns a title and the name that takes the fewest edits from this one, among the names of the
+/// zones and links of a source without faults; or an empty text if none is near. A terminal shows every
+/// byte of it. The contract says only this; which name is the nearest is tested.
+///
+/// # Errors
+///
+/// Memory ran out.
+pub fn nearest_zone(alloc: Global, source: &[u8], name: &[u8]) -> Result<String, AllocError>
+    ensures { IfOk result (λ text. IsShownText (string_bytes text)) }
+{
+    let mut names = Vec::new(alloc);
+    push_names(alloc, &mut names, source, Named::Zones)?;
+    let name = spelled(alloc, name)?;
+    nearest_of(alloc, &names, &name)
+}
+
+/// Returns the same among the names of the rule sets of some texts, for the set that a line of one of
+/// them names.
+///
+/// # Errors
+///
+/// Memory ran out.
+pub fn nearest_rules(
+    alloc: Global,
+    texts: &[Vec<u8>],
+    zone_line: TextLine,
+) -> Result<String, AllocError>
+    ensures { IfOk result (λ text. IsShownText (string_bytes text)) }
+{
+    let mut names = Vec::new(alloc);
+    for text in texts {
+        push_names(alloc, &mut names, text, Named::Rules)?;
+    }
+    let name = rules_in(alloc, texts, zone_line)?;
+    nearest_of(alloc, &names, &name)
+}
+
+/// Returns the name of the rule set that a line names, or an empty text.
+fn rules_in(alloc: Global, texts: &[Vec<u8>], at: TextLine) -> Result<String, AllocError> {
+    let Some(entry) = entry_at(alloc, texts, at)? else {
+        return Ok(String::new(alloc));
+    };
+    let rules = match &entry {
+        Entry::Zone(_, line) | Entry::Continuation(line) => &line.rules,
+        Entry::Rule(_) | Entry::Link(_) => return Ok(String::new(alloc)),
+    };
+    match rules {
+        Rules::Set(name) => spelled(alloc, name.octets()),
+        Rules::Standard | Rules::Amount(_) => Ok(String::new(alloc)),
+    }
+}
+
+/// Returns a title and the name of these that takes the fewest edits from this one, if that are fewer
+/// than a third of it.
+fn nearest_of(alloc: Global, names: &[String], name: &String) -> Result<String, AllocError>
+    ensures { IfOk result (λ text. IsShownText (string_bytes text)) }
+{
+    let mut text = String::new(alloc);
+    if names.is_empty() {
+        return Ok(text);
+    }
+    let index = nearest_index(alloc, names, name.as_str())?;
+    let nearest = names[index].as_str();
+    let edits = levenshtein(alloc, name.as_str(), nearest)?;
+    if edits.saturating_mul(3) < nearest.len() {
+        push_nearest(&mut text, nearest)?;
+    }
+    Ok(text)
+}
+
+/// Adds an empty line, a title and a name.
+fn push_nearest(text: &mut String, name: &str) -> Result<(), AllocError>
+    ensures { OnOk result (StaysShown (string_bytes text.old) (string_bytes text.new)) }
+{
+    push_line_end(text)?;
+    push_bytes(text, b"Nearest name:")?;
+    push_line_end(text)?;
+    push_bytes(text, b"  ")?;
+    push_bytes(text, name.as_bytes())?;
+    push_line_end(text)
+}
+
+/// Returns the index of a name that takes the fewest edits from this name.
+fn nearest_index(alloc: Global, names: &[String], name: &str) -> Result<usize, AllocError>
+    requires { 0 < length names.now }
+    ensures { IfOk result (IsNearestAt (map string_bytes names.now) name.now) }
+{
+    let mut nearest = 0;
+    let mut least = levenshtein(alloc, name, names[0].as_str())?;
+    for index in 1..names.len() {
+        let edits = levenshtein(alloc, name, names[index].as_str())?;
+        if edits < least {
+            least = edits;
+            nearest = index;
+        }
+    }
+    Ok(nearest)
+}
+
+/// Whose names are looked for.
+#[derive(Clone, Copy, PartialEq, Eq)]
+enum Named {
+    /// Those of zones and links.
+    Zones,
+    /// Those of rule sets.
+    Rules,
+}
+
+/// Adds the names that the lines of a text give.
+fn push_names(
+    alloc: Global,
+    names: &mut Vec<String>,
+    text: &[u8],
+    named: Named,
+) -> Result<(), AllocError> {
+    let mut awaited = false;
+    for line in text.split(|byte| *byte == b'\n') {
+        if let Some(entry) = entry_of(alloc, awaited, line)? {
+            awaited = goes_on(&entry);
+            push_name(alloc, names, &entry, named)?;
+        }
+    }
+    Ok(())
+}
+
+/// Adds the name that a line gives, if it gives one.
+fn push_name(
+    alloc: Global,
+    names: &mut Vec<String>,
+    entry: &Entry,
+    named: Named,
+) -> Result<(), AllocError> {
+    let name = match (entry, named) {
+        (Entry::Zone(name, _), Named::Zones) => name.octets(),
+        (Entry::Link(link), Named::Zones) => link.name.octets(),
+        (Entry::Rule(rule), Named::Rules) => rule.name.octets(),
+        _ => return Ok(()),
+    };
+    names.push(spelled(alloc, name)?)?;
+    Ok(())
+}
+
+/// Returns the bytes of a name as text, a character for each.
+fn spelled(alloc: Global, name: &[u8]) -> Result<String, AllocError> {
+    let mut text = String::new(alloc);
+    for byte in name.iter().take(LONGEST) {
+        text.push(char::from(*byte))?;
+    }
+    Ok(text)
+}

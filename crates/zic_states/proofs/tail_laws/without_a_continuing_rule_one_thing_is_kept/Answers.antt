@@ -1,5 +1,0 @@
-use Rattle.zic_states.proofs.TailKept.{by_none}
-use Rattle.zic_states.proofs.tail_laws.without_a_continuing_rule_one_thing_is_kept.Goals as goal
-
-pub returns : goal.returns
-returns c = by_none
