@@ -47,10 +47,10 @@ printf '%s\n' 'Rule US 2007 max - Mar Sun>=8 2:00 1:00 D' 'Rule US 2007 max - No
 python3 "$columns" plain >column.plain
 "$program" convert eastern <column.plain >rows.plain
 
-# within KIBIBYTES WORD...: runs the program within this many KiB of address space.
+# within KIBIBYTES WORD...: runs the program within this many KiB of address space. Where that is too few to start in, the shell would say so.
 within() {
     status=0
-    (ulimit -v "$1" && exec "$program" "${@:2}") <"$input" >../out 2>../err || status=$?
+    { (ulimit -v "$1" && exec "$program" "${@:2}") <"$input" >../out 2>../err || status=$?; } 2>/dev/null
 }
 
 truncate -s 67108864 large
