@@ -250,6 +250,12 @@ told 'pzic convert --tree special' 1 $'Pipe,0,,,,\nInput,0,,,,\nDevice,0,,,,\nFo
 status=0
 (yes 'stdin,0' || true) 2>/dev/null | head -n 3 | timeout 20 "$program" convert --keep-going --tree /dev >../out 2>../err || status=$?
 told 'pzic convert --tree /dev' 1 $'stdin,0,,,,\nstdin,0,,,,\nstdin,0,,,,' $'row 1: RowZone\n3 rows with faults'
+mkfifo special/+VERSION
+printf 'No,0\n' >column
+convert --keep-going --show-release --tree special
+told 'pzic convert --show-release, of a tree where a pipe has the name of the release' 1 'No,0,,,,' $'special: no release\nrow 1: RowZone\n1 row with a fault'
+rm special/+VERSION
+printf 'Pipe,0\n' >column
 convert --explain --tree special
 calls=$((calls + 1))
 grep -qxF -- '--> special/Pipe: not a regular file' ../err || differ "convert --explain of a pipe: '$(cat ../err)'"
