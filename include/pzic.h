@@ -566,6 +566,45 @@ static inline int32_t pzic_rows_faults(const pzic_handle *rows, pzic_row_fault *
 static inline int32_t pzic_rows_text(const pzic_handle *rows, uint8_t *room, size_t room_length,
                                      size_t *length);
 
+/* What is listed of two lists of files: the spans at which zones differ, or from when on they do and until when. */
+enum { PZIC_DIFF_SPANS = 0, PZIC_DIFF_SUMMARIES = 1 };
+
+/* What pzic_files_diff lists, as the options of `pzic diff` say. */
+typedef struct pzic_diff_options {
+    /* The first instant that is looked at, and of spans the last, which isn't before it. */
+    int64_t first;
+    int64_t last;
+    /* Of summaries, the instant up to which an end of differences is `past`. */
+    int64_t present;
+    /* PZIC_DIFF_SPANS or PZIC_DIFF_SUMMARIES. */
+    uint32_t listed;
+    /* Each 0, or 1 where it is left out of the comparison. */
+    uint32_t ignore_daylight;
+    uint32_t ignore_abbreviation;
+} pzic_diff_options;
+
+/*
+ * The options of `pzic diff`: spans from the start of 1900 to that of 2500. `pzic diff --summary` looks
+ * from the instant -62,135,510,400 on.
+ */
+#define PZIC_DIFF_OPTIONS_INIT {-2208988800, 16725225600, 0, PZIC_DIFF_SPANS, 0, 0}
+
+/*
+ * Compares the zones of the same names in two lists of files, on the calling thread: the bytes that `pzic
+ * diff` writes, a line for each span or summary and before them that of the names of their fields; without
+ * lines there are none. pzic_rows_text gives them, and pzic_rows_len the number of the lines after the
+ * first. Zones whose footers differ may have two spans a year up to the last instant. Both lists may be
+ * that of one handle. What `rows` held before is freed first.
+ *
+ * PZIC_OK         `rows` holds the lines
+ * PZIC_NO_SUCH    a number of the options is that of nothing, or the last instant of spans is before the
+ *                 first; `rows` holds nothing
+ * PZIC_NO_HANDLE  `old_files` or `new_files` holds no files; `rows` holds nothing
+ * PZIC_NO_MEMORY  `rows` holds nothing
+ */
+static inline int32_t pzic_files_diff(const pzic_handle *old_files, const pzic_handle *new_files,
+                                      const pzic_diff_options *options, pzic_handle *rows);
+
 /*
  * Copies the name of a fault's kind, 1 to 44, or of a reason, 1 to 14, as the program prints it: as
  * much as there is room for, without a NUL. Gives the whole length, at most 17.
@@ -632,6 +671,8 @@ int32_t pzic_raw_rows_len(pzic_handle *rows, uint64_t *count);
 int32_t pzic_raw_rows_faults(pzic_handle *rows, pzic_row_fault *room, size_t room_length,
                              size_t *count);
 int32_t pzic_raw_rows_text(pzic_handle *rows, uint8_t *room, size_t room_length, size_t *length);
+int32_t pzic_raw_files_diff(pzic_handle *old_files, pzic_handle *new_files,
+                            const pzic_diff_options *options, pzic_handle *rows);
 int32_t pzic_raw_name_of_fault(uint32_t kind, uint8_t *room, size_t room_length, size_t *length);
 int32_t pzic_raw_name_of_reason(uint32_t reason, uint8_t *room, size_t room_length, size_t *length);
 
@@ -884,6 +925,15 @@ static inline int32_t pzic_rows_text(const pzic_handle *rows, uint8_t *room, siz
     pzic_handle own = *rows;
     if (room_length == 0) room = (uint8_t *)pzic_nowhere_();
     return pzic_raw_rows_text(&own, room, room_length, length);
+}
+
+static inline int32_t pzic_files_diff(const pzic_handle *old_files, const pzic_handle *new_files,
+                                      const pzic_diff_options *options, pzic_handle *rows) {
+    pzic_handle own_old = *old_files, own_new = *new_files;
+    pzic_enter_();
+    int32_t status = pzic_raw_files_diff(&own_old, &own_new, options, rows);
+    pzic_leave_();
+    return status;
 }
 
 static inline int32_t pzic_name_of_fault(uint32_t kind, uint8_t *room, size_t room_length,

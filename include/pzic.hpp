@@ -252,6 +252,19 @@ public:
         return made;
     }
 
+    // Returns when the zones of newer files differ from these: the lines of pzic_files_diff. Returns nothing
+    // where the options list nothing, or memory is refused to the library.
+    std::optional<std::string> diff(const files &newer,
+                                    const pzic_diff_options &options = PZIC_DIFF_OPTIONS_INIT) const {
+        handle rows;
+        std::size_t length = 0;
+        if (pzic_files_diff(handle_.get(), newer.get(), &options, rows.get()) != PZIC_OK) return std::nullopt;
+        pzic_rows_text(rows.get(), nullptr, 0, &length);
+        std::string made(length, '\0');
+        pzic_rows_text(rows.get(), reinterpret_cast<std::uint8_t *>(made.data()), length, &length);
+        return made;
+    }
+
     const pzic_handle *get() const noexcept { return handle_.get(); }
 
 private:

@@ -23,6 +23,7 @@ from pzic._array import (
     UNSPECIFIED,
     Columns,
 )
+from pzic._diff import DiffOptions
 from pzic._errors import BadFile, BadName, BadRow, BadSource, NoInstant, NoSuchZone
 from pzic._library import MAX_INSTANT, MIN_INSTANT
 from pzic._rows import Layout, RowFault, Rows
@@ -47,6 +48,7 @@ __all__ = [
     "BadSource",
     "Columns",
     "Compiled",
+    "DiffOptions",
     "Files",
     "Gap",
     "Instants",

@@ -83,6 +83,19 @@ class CLayout(ctypes.Structure):
     )
 
 
+class CDiffOptions(ctypes.Structure):
+    """``pzic_diff_options``: what is listed of two lists of files."""
+
+    _fields_ = (
+        ("first", ctypes.c_int64),
+        ("last", ctypes.c_int64),
+        ("present", ctypes.c_int64),
+        ("listed", ctypes.c_uint32),
+        ("ignore_daylight", ctypes.c_uint32),
+        ("ignore_abbreviation", ctypes.c_uint32),
+    )
+
+
 def _path() -> str:
     """Return the path that ``PZIC_LIBRARY`` names, or that of the library in the package, or the
     name that the system's loader looks for."""
@@ -165,6 +178,9 @@ rows_by = declare(
 rows_len = declare(short, "pzic_raw_rows_len", _HANDLE, ctypes.POINTER(ctypes.c_uint64))
 rows_faults = declare(
     long, "pzic_raw_rows_faults", _HANDLE, ctypes.POINTER(CRowFault), _SIZE, _COUNT
+)
+files_diff = declare(
+    long, "pzic_raw_files_diff", _HANDLE, _HANDLE, ctypes.POINTER(CDiffOptions), _HANDLE
 )
 name_of_fault = declare(short, "pzic_raw_name_of_fault", ctypes.c_uint32, *_ROOM)
 name_of_reason = declare(short, "pzic_raw_name_of_reason", ctypes.c_uint32, *_ROOM)

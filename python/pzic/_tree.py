@@ -12,6 +12,7 @@ from typing import Any, Dict, Iterable, Iterator, List, Mapping, Optional, Tuple
 
 from pzic import _library as c
 from pzic._array import NO_FILE, Columns, convert_columns
+from pzic._diff import DiffOptions, diff
 from pzic._errors import BadFile, BadName, BadSource, NoSuchZone
 from pzic._handle import Owned, bytes_of
 from pzic._rows import Layout, Rows, fault_name, rows_by, text_by, text_of_column
@@ -62,6 +63,17 @@ class _Zones(Mapping[str, Zone]):
         """
         return convert_columns(self, self._numbers, names, instants)
 
+    def diff(self, new: Union[Tree, Files, Compiled], **options: Any) -> bytes:
+        """Return when the zones of another tree answer otherwise than these: the lines that ``pzic diff``
+        writes. :class:`DiffOptions` has the words that may be given, and no line says that nothing
+        differs. Of a folder all files are read, once. Other threads of Python can run in the meantime.
+        """
+        return diff(self._held(), new._held(), DiffOptions(**options))
+
+    def _held(self) -> Owned:
+        """Return all files, as the library holds them."""
+        raise NotImplementedError
+
     def _numbers(self, names: List[str]) -> Tuple[Owned, List[int]]:
         """Return files, and of each name the number of its file, or ``NO_FILE`` where the library has
         none for its zone. Raises :class:`NoSuchZone`."""
@@ -78,6 +90,9 @@ class _InMemory(_Zones):
 
     def __deepcopy__(self: _Self, memo: object) -> _Self:
         return self
+
+    def _held(self) -> Owned:
+        return self._owned
 
     def _make(self, name: str) -> Zone:
         return zone_named(c.text_of(c.files_bytes, self._owned.lend(), self._number(name)), name)
@@ -232,6 +247,9 @@ class Tree(_Zones):
         if self._all is None:
             self._all = self.files()
         return self._all
+
+    def _held(self) -> Owned:
+        return self._files_for(None)._owned
 
     def _make(self, name: str) -> Zone:
         return zone_named(self._read(name), name, (zone_of_folder, (self._folder, name)))

@@ -27,6 +27,8 @@ _Static_assert(offsetof(pzic_layout, at_fault) == 52 && offsetof(pzic_layout, st
 _Static_assert(offsetof(pzic_layout, max_record) == 64 && sizeof(pzic_abbreviation) == 16, "limit");
 _Static_assert(sizeof(pzic_civil) == 72 && offsetof(pzic_civil, month) == 8, "civil");
 _Static_assert(offsetof(pzic_civil, second) == 24 && offsetof(pzic_civil, state) == 32, "time of day");
+_Static_assert(sizeof(pzic_diff_options) == 40 && offsetof(pzic_diff_options, present) == 16, "diff");
+_Static_assert(offsetof(pzic_diff_options, listed) == 24 && offsetof(pzic_diff_options, ignore_abbreviation) == 32, "ignored");
 
 #define CHECK(holds)                                                              \
     do {                                                                          \
@@ -1018,6 +1020,94 @@ static void take_files(void) {
     pzic_free(&compiled);
 }
 
+// What differs in the files of two handles, as tests/program/diff.txt has it.
+static const char spans[] = "zone,from,until,old_offset,old_daylight,old_abbreviation,new_offset,new_daylight,new_abbreviation\n";
+static const char summaries[] = "zone,from,until,kind\n";
+
+static void expect_diff(const pzic_handle *old_files, const pzic_handle *new_files, const pzic_diff_options *options,
+                        uint64_t number, const char *lines) {
+    char want[600], room[600];
+    pzic_handle rows = {0};
+    size_t length = 0, faults = 1;
+    uint64_t count = 99;
+    CHECK(pzic_files_diff(old_files, new_files, options, &rows) == PZIC_OK && rows.kind == 3);
+    snprintf(want, sizeof want, "%s%s", number == 0 ? "" : options->listed == PZIC_DIFF_SPANS ? spans : summaries, lines);
+    CHECK(pzic_rows_text(&rows, (uint8_t *)room, sizeof room, &length) == PZIC_OK && length == strlen(want));
+    CHECK(memcmp(room, want, length) == 0);
+    CHECK(pzic_rows_len(&rows, &count) == PZIC_OK && count == number);
+    CHECK(pzic_rows_faults(&rows, NULL, 0, &faults) == PZIC_OK && faults == 0);
+    pzic_free(&rows);
+}
+
+static void compare_files(void) {
+    static const char *const sources[] = {"Zone A 1 - AAA\n", "Zone A 1 - BBB\n", "Zone A 0 1:00 AAA 2000\n1 - AAA\n",
+        "Zone A 1 - AAA 2000\n2 - BBB\nZone C 3 - CCC\nZone X 4 - XXX\nZone Y 4 - XXX\nLink X L\nLink A M\n",
+        "Zone Y 4 - XXX\nZone B 2 - BBB\nLink Y X\nLink Y L\nLink Y M\nZone C 3 - CCC"};
+    pzic_handle files[5] = {{0}}, zone = {0}, rows = {0}, none = {0};
+    const pzic_handle *const a = &files[0], *const b = &files[1], *const c = &files[2], *const d = &files[3], *const e = &files[4];
+    const pzic_diff_options whole = PZIC_DIFF_OPTIONS_INIT;
+    pzic_diff_options how = whole, bad[5] = {whole, whole, whole, whole, whole};
+    pzic_fault fault;
+    for (int i = 0; i < 5; i++) CHECK(compile(sources[i], &files[i], &fault) == PZIC_OK);
+    // The same files, also by one handle.
+    expect_diff(a, a, &how, 0, "");
+    expect_diff(a, b, &how, 1, "A,,,+01:00:00,0,AAA,+01:00:00,0,BBB\n");
+    expect_diff(b, a, &how, 1, "A,,,+01:00:00,0,BBB,+01:00:00,0,AAA\n");
+    expect_diff(a, c, &how, 1, "A,,946681200,+01:00:00,0,AAA,+01:00:00,1,AAA\n");
+    // Names of one side, and links that lead to zones that answer the same.
+    expect_diff(d, e, &how, 4, "A,,,+01:00:00,0,AAA,,,\nM,,946681200,+01:00:00,0,AAA,+04:00:00,0,XXX\n"
+                               "M,946681200,,+02:00:00,0,BBB,+04:00:00,0,XXX\nB,,,,,,+02:00:00,0,BBB\n");
+    // One second alone.
+    how.first = how.last = 946681199;
+    expect_diff(a, c, &how, 1, "A,,,+01:00:00,0,AAA,+01:00:00,1,AAA\n");
+    how.first = how.last = 946681200;
+    expect_diff(a, c, &how, 0, "");
+    // Parts that aren't compared.
+    how = whole;
+    how.ignore_daylight = 1;
+    expect_diff(a, b, &how, 1, "A,,,+01:00:00,,AAA,+01:00:00,,BBB\n");
+    expect_diff(a, c, &how, 0, "");
+    how = whole;
+    how.ignore_abbreviation = 1;
+    expect_diff(a, b, &how, 0, "");
+    how.ignore_daylight = 1;
+    how.first = 946684800;
+    expect_diff(e, d, &how, 3, "B,,,+02:00:00,,,,,\nM,,,+04:00:00,,,+02:00:00,,\nA,,,,,,+02:00:00,,\n");
+    // Summaries, for which the last instant is none.
+    how = (pzic_diff_options){.first = INT64_C(-62135510400), .last = INT64_MIN, .present = 946681200, .listed = PZIC_DIFF_SUMMARIES};
+    expect_diff(a, a, &how, 0, "");
+    expect_diff(a, b, &how, 1, "A,,,forever\n");
+    expect_diff(a, c, &how, 1, "A,,946681200,past\n");
+    expect_diff(d, e, &how, 3, "A,,,removed\nM,,,forever\nB,,,added\n");
+    how.present = 946681199;
+    expect_diff(c, a, &how, 1, "A,,946681200,future\n");
+    how.ignore_daylight = 1;
+    expect_diff(a, c, &how, 0, "");
+    // Without files on a side, and by options that there aren't, what the handle held is gone.
+    CHECK(pzic_zone_of(a, 0, &zone) == PZIC_OK && pzic_files_diff(a, b, &whole, &rows) == PZIC_OK);
+    CHECK(pzic_files_diff(&none, b, &whole, &rows) == PZIC_NO_HANDLE && rows.kind == 0);
+    CHECK(pzic_files_diff(a, b, &whole, &rows) == PZIC_OK && pzic_files_diff(a, &zone, &whole, &rows) == PZIC_NO_HANDLE && rows.kind == 0);
+    bad[0].listed = 2, bad[1].ignore_daylight = 2, bad[2].ignore_abbreviation = 2, bad[3].first = bad[3].last + 1, bad[4].last = INT64_MIN;
+    for (int i = 0; i < 5; i++) {
+        CHECK(pzic_files_diff(a, b, &whole, &rows) == PZIC_OK);
+        CHECK(pzic_files_diff(a, b, &bad[i], &rows) == PZIC_NO_SUCH && rows.kind == 0 && rows.at == NULL);
+    }
+    for (long n = 0;; n++) {
+        growths_left = n;
+        int32_t status = pzic_files_diff(d, e, &whole, &rows);
+        bool all = growths_left >= 0;
+        growths_left = -1;
+        if (all) {
+            CHECK(status == PZIC_OK && n > 2);
+            break;
+        }
+        CHECK(status == PZIC_NO_MEMORY && rows.kind == 0);
+    }
+    for (int i = 0; i < 5; i++) pzic_free(&files[i]);
+    pzic_free(&zone);
+    pzic_free(&rows);
+}
+
 static void fill(const pzic_handle *handle, pzic_handle *other) {
     CHECK(pzic_share(handle, other) == PZIC_OK && other->kind == handle->kind && other->kind != 0);
 }
@@ -1205,6 +1295,7 @@ static void *work(void *argument) {
     convert_by_layouts();
     tell_rows();
     take_files();
+    compare_files();
     empty_handles();
     compile_texts();
     name_faults();
@@ -1283,6 +1374,7 @@ int main(int count, char **words) {
     convert_by_layouts();
     tell_rows();
     take_files();
+    compare_files();
     give_no_items();
     empty_handles();
     name_faults();

@@ -196,6 +196,31 @@ def take_files(tree):
     refuses(pzic.NoSuchZone, lambda: tree.convert(b"0\n", zone="Nowhere"))
 
 
+def compare_trees(tree):
+    """What differs in trees, as tests/program/diff.txt has it."""
+    names = b"zone,from,until,old_offset,old_daylight,old_abbreviation,new_offset,new_daylight,new_abbreviation\n"
+    a, b = pzic.Compiled(b"Zone A 1 - AAA\n"), pzic.Compiled(b"Zone A 1 - BBB\n")
+    late = pzic.Compiled(b"Zone A 0 1:00 AAA 2000\n1 - AAA\n")
+    check(a.diff(a) == a.diff(pzic.Files({"A": a.data("A")})) == tree.diff(tree, summary=True) == b"", "no difference")
+    check(a.diff(b) == names + b"A,,,+01:00:00,0,AAA,+01:00:00,0,BBB\n", a.diff(b))
+    check(b.diff(a, ignore=["abbreviation"]) == a.diff(late, ignore=("daylight", "abbreviation")) == b"", "ignored")
+    check(a.diff(late) == names + b"A,,946681200,+01:00:00,0,AAA,+01:00:00,1,AAA\n", a.diff(late))
+    check(a.diff(late, first=946684800) == b"", "from 2000")
+    got = late.diff(a, first=915148800, last=915148800)
+    check(got == names + b"A,,,+01:00:00,1,AAA,+01:00:00,0,AAA\n", got)
+    for now, kind in (None, b"past"), (946681200, b"past"), (946681199, b"future"), (-1, b"future"):
+        got = a.diff(late, summary=True, now=now)
+        check(got == b"zone,from,until,kind\nA,,946681200," + kind + b"\n", now, got)
+    got = tree.files(["Europe/Dublin"]).diff(a, summary=True)
+    check(got == b"zone,from,until,kind\nEurope/Dublin,,,removed\nA,,,added\n", got)
+    refuses(ValueError, lambda: a.diff(b, ignore=["offset"]))
+    refuses(ValueError, lambda: a.diff(b, first=5, last=4))
+    refuses(ValueError, lambda: a.diff(b, now=5))
+    refuses(ValueError, lambda: a.diff(b, summary=True, last=5))
+    refuses(OverflowError, lambda: a.diff(b, last=2**63))
+    refuses(TypeError, lambda: a.diff(b, year=1900))
+
+
 def name_of(call, number):
     """Return the name of a number, or None where none has it."""
     try:
@@ -245,6 +270,7 @@ def main():
     refuse(tree)
     compile_texts(folder)
     take_files(tree)
+    compare_trees(tree)
     compare_names()
     use_threads(tree["Europe/Dublin"])
     print(f"library: Python: {len(names)} zones, {count} changes, {compare_numpy(tree)}")

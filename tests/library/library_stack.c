@@ -108,6 +108,17 @@ static void convert(void) {
     if (status == PZIC_OK) status = pzic_rows_by(&files, &layout, NULL, 0, (const uint8_t *)column, sizeof column - 1, &rows);
 }
 
+static void compare(void) {
+    static const char older[] = "Zone Test/York -5:00 - EST\n";
+    pzic_fault fault;
+    pzic_diff_options options = PZIC_DIFF_OPTIONS_INIT;
+    size_t whole = sizeof older - 1;
+    status = pzic_compile((const uint8_t *)older, whole, &whole, 1, &other, &fault);
+    if (status == PZIC_OK) status = pzic_files_diff(&other, &files, &options, &rows);
+    options.listed = PZIC_DIFF_SUMMARIES;
+    if (status == PZIC_OK) status = pzic_files_diff(&other, &files, &options, &rows);
+}
+
 static void ask_names(void) {
     status = pzic_rows_text(&rows, room, sizeof room, &count)
            + pzic_name_of_fault(1, room, sizeof room, &count) + pzic_name_of_reason(1, room, sizeof room, &count);
@@ -145,7 +156,7 @@ int main(int words, char **word) {
                  {"zone_span", ask_span}, {"zone_offsets", ask_many}, {"zone_instants", ask_instants},
                  {"zone_instants_array", ask_many_instants}, {"changes", ask_changes}, {"compile", compile}, {"files_of", make_files},
                  {"files", ask_files}, {"files_offsets", ask_rows},
-                 {"rows", convert}, {"names", ask_names}};
+                 {"rows", convert}, {"files_diff", compare}, {"names", ask_names}};
     FILE *in = words == 2 ? fopen(word[1], "rb") : NULL;
     if (in == NULL) return 1;
     length = fread(bytes, 1, sizeof bytes, in);

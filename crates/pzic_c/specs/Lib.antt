@@ -2,7 +2,9 @@ pub mod Changes
 pub mod CivilTime
 pub mod code
 pub mod Column
+pub mod DiffOptions
 pub mod Files
+pub mod FilesDiff
 pub mod FilesOf
 pub mod Handle
 pub mod Layout
