@@ -62,8 +62,8 @@ enum {
     /* The texts are no source, or a zone of them has a fault. */
     PZIC_BAD_SOURCE = 6,
     /*
-     * No file has the name or the number, no fault, reason or disambiguation has the number, or there is
-     * no such layout.
+     * No file has the name or the number, no fault, reason or disambiguation has the number, there is no
+     * such layout, or options list nothing.
      */
     PZIC_NO_SUCH = 7,
     /* A row of the column has a fault. */
