@@ -49,13 +49,7 @@ fn put_diff(alloc: Global, old: &Files, new: &Files, how: &Listed, rows: &mut Ha
 }
 
 /// Has an empty handle hold what options list of old and new files.
-fn compare(
-    alloc: Global,
-    old: &Files,
-    new: &Files,
-    options: &DiffOptions,
-    rows: &mut Handle,
-) -> i32
+fn compare(alloc: Global, old: &Files, new: &Files, options: &DiffOptions, rows: &mut Handle) -> i32
     requires handle { IsHandle rows.old }
     requires empty { held_in rows.old ≡ None }
     ensures handle { IsHandle rows.new }
