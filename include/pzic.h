@@ -549,7 +549,8 @@ static inline int32_t pzic_rows_len(const pzic_handle *rows, uint64_t *count);
 
 /*
  * Copies the faults of rows that pzic_rows_by made, as many as there is room for, and gives their
- * number. They rise by the row; the one that ended the run is the last. Rows of pzic_rows have none here.
+ * number. They rise by the row; the one that ended the run is the last. Rows of pzic_rows and lines of
+ * pzic_files_diff have none here.
  *
  * PZIC_OK         *count is the number of faults, and the first are copied
  * PZIC_NO_HANDLE  `rows` holds no rows; nothing is written
