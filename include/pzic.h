@@ -591,11 +591,11 @@ typedef struct pzic_diff_options {
 #define PZIC_DIFF_OPTIONS_INIT {-2208988800, 16725225600, 0, PZIC_DIFF_SPANS, 0, 0}
 
 /*
- * Compares the zones of the same names in two lists of files, on the calling thread: the bytes that `pzic
- * diff` writes, a line for each span or summary and before them that of the names of their fields; without
- * lines there are none. pzic_rows_text gives them, and pzic_rows_len the number of the lines after the
- * first. Zones whose footers differ may have two spans a year up to the last instant. Both lists may be
- * that of one handle. What `rows` held before is freed first.
+ * Compares the zones of two lists of files by their names, on the calling thread: the bytes that `pzic diff`
+ * writes, a line for each span or summary, and before them the line of the names of their fields; where
+ * nothing differs, no bytes. pzic_rows_text gives them, and pzic_rows_len the number of the lines after the
+ * first. Zones whose footers differ may have several spans in each year up to the last instant. Both lists
+ * may be that of one handle. What `rows` held before is freed first.
  *
  * PZIC_OK         `rows` holds the lines
  * PZIC_NO_SUCH    a number of the options is that of nothing, or the last instant of spans is before the
