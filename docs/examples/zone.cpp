@@ -13,10 +13,17 @@ int main() {
     auto found = zone->instants(1711931400);
     if (found && found->count == 0) std::cout << "a gap at " << found->change << '\n';
     std::cout << zone->instant(1711931400).value_or(0) << '\n';
+    // When it differs from a zone without daylight saving time.
+    auto plain = pzic::files::compile("Zone Test/East 5:30 - EST\n");
+    pzic_diff_options options = PZIC_DIFF_OPTIONS_INIT;
+    options.listed = PZIC_DIFF_SUMMARIES;
+    if (plain) std::cout << plain->diff(*files, options).value_or("");
 }
 
 /* Prints:
 23400 EDT
 a gap at 1711909800
 1711911600
+zone,from,until,kind
+Test/East,954527400,,forever
 */

@@ -61,4 +61,5 @@ def diff(old: Owned, new: Owned, options: DiffOptions) -> bytes:
     handle = c.Handle()
     if c.files_diff(old.lend(), new.lend(), options.numbers(), handle) == c.NO_SUCH:
         raise ValueError("the last instant is before the first")
-    return c.text_of(c.rows_text, Owned(handle).lend())
+    rows = Owned(handle)
+    return c.text_of(c.rows_text, rows.lend())
