@@ -35,7 +35,8 @@ HOME=$PWD exec bash -c "$*"
 END
 chmod +x bin/ssh
 ln -s "$program" bin/pzic
-export PATH=$PWD/bin:$PATH HOSTS=$PWD/hosts
+# A login sets SHELL, by which parallel runs jobs there.
+export PATH=$PWD/bin:$PATH HOSTS=$PWD/hosts SHELL=$BASH
 for day in 1 2 3 4 5 6 7 8 9; do
     for row in 1 2 3 4 5 6 7 8; do echo "Europe/Dublin,$((day * row * 12345678))"; done >days/$day.csv
 done
