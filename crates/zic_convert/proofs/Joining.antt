@@ -159,6 +159,7 @@ front_sound p i sound = record {
   small = sound.small;
   cut = front_cut p.size (i + 1) p.pieces sound.some sound.cut;
   few = omega (arith, length-take (i + 1) p.pieces, sound.few);
+  least = sound.least;
   first = sound.first;
 }
 

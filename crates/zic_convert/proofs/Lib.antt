@@ -29,6 +29,7 @@ pub mod Sounds
 pub mod Sources
 pub mod Staying
 pub mod Stops
+pub mod TooMany
 pub mod Totals
 pub mod PieceRecords
 pub mod Writings

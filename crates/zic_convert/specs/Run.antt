@@ -1,5 +1,5 @@
 -- How the conversion of a column went: own choice.
-use Rattle.std.specs.Prelude.{◌≡◌, ◌⊎◌, ℕ, ◌-◌, List, ◌∷◌, ◌++◌, take, Option, IfSome}
+use Rattle.std.specs.Prelude.{◌≡◌, ◌≤◌, ◌⊎◌, ℕ, ◌-◌, List, ◌∷◌, ◌++◌, length, take, Option, Some, None, IfSome}
 use Rattle.std.specs.List.{concat}
 use Rattle.std.specs.Io.{StartsWith}
 use Rattle.std.specs.Io.KnownBytes.{Appends}
@@ -50,19 +50,44 @@ run_of remaining contents noted reader reader' writer writer' log log' = record 
 abbrev pub Notes : Option (List RowNote) → Option (List RowNote) → List RowNote → Type 0
 Notes = Gains
 
--- A header and all rows of these records were written, there are n rows, and their faults were noted.
-abbrev pub WritesRows : Layout → List File → ℕ → List ℕ → List CsvRecord → ℕ → Output → Type 0
-WritesRows layout files most header row_records n out =
+-- These rows with a fault are no more than those after which a run goes on; without a limit any number is few.
+abbrev pub AreFew : Option ℕ → List RowNote → Type 0
+AreFew None faults = Unit {0}
+AreFew (Some most) faults = length faults ≤ most
+
+-- A row is the first of those with a fault after which a run doesn't go on: before it come as many as the limit says.
+pub record IsOneTooMany (limit : Option ℕ) (faults : List RowNote) (row : ℕ) (kind : RowKind) (before : List RowNote) : Type 0 where
+  pub own : List ℕ
+  pub after : List RowNote
+  pub parts : faults ≡ before ++ record { fault = record { row = row; kind = kind }; own = own } ∷ after
+  pub full : limit ≡ Some (length before)
+
+-- A header and all rows of these records were written, there are n rows, and their faults, which are few, were noted.
+abbrev pub WritesRows : Layout → List File → ℕ → Option ℕ → List ℕ → List CsvRecord → ℕ → Output → Type 0
+WritesRows layout files most limit header row_records n out =
     WritesAllOf header (RecordsConvertBy layout files most 1 row_records) n out.held out.held' × Notes out.log out.log' (faults_by layout files most 1 row_records)
+    × AreFew limit (faults_by layout files most 1 row_records)
 
--- A header and the rows before one that ends the conversion were written, and their faults were noted.
-abbrev pub EndsAtRow : Layout → List File → ℕ → List ℕ → List CsvRecord → ℕ → RowKind → Output → Type 0
-EndsAtRow layout files most header row_records row kind out =
+-- A header and the rows before one that ends the conversion were written, and their faults, which are few, were noted.
+abbrev pub EndsAtRow : Layout → List File → ℕ → Option ℕ → List ℕ → List CsvRecord → ℕ → RowKind → Output → Type 0
+EndsAtRow layout files most limit header row_records row kind out =
     WritesUpToOf header (RecordsConvertBy layout files most 1 row_records) row kind out.held out.held' × Notes out.log out.log' (faults_by layout files most 1 row_records)
+    × AreFew limit (faults_by layout files most 1 row_records)
 
--- Some lines were written, of the header and the first rows, and the faults of these rows were noted, and no others. Nothing was written
--- after these lines, unless a failure of the writer ended the run: then perhaps a beginning of those that come next.
-pub record EndsAfterLines (layout : Layout) (files : List File) (most : ℕ) (header : List ℕ) (row_records : List CsvRecord) (why : RunStop) (out : Output) : Type 0 where
+-- The conversion ends at a row with one fault too many: a header and the rows before it were written, and the faults before it were noted.
+-- Without a limit the records come to these texts, and one fault that ends the run, or none.
+pub record EndsAtFaults (layout : Layout) (files : List File) (most : ℕ) (limit : Option ℕ) (header : List ℕ) (row_records : List CsvRecord) (row : ℕ) (kind : RowKind) (out : Output) : Type 0 where
+  pub texts : List (List ℕ)
+  pub fault : Option RowKind
+  pub come : RecordsConvertBy layout files most 1 row_records texts fault
+  pub before : List RowNote
+  pub too_many : IsOneTooMany limit (faults_by layout files most 1 row_records) row kind before
+  pub wrote : Appends out.held out.held' (header ++ concat (take (row - 1) texts))
+  pub noted : Notes out.log out.log' before
+
+-- Some lines were written, of the header and the first rows, and the faults of these rows, which are few, were noted, and no others. Nothing
+-- was written after these lines, unless a failure of the writer ended the run: then perhaps a beginning of those that come next.
+pub record EndsAfterLines (layout : Layout) (files : List File) (most : ℕ) (limit : Option ℕ) (header : List ℕ) (row_records : List CsvRecord) (why : RunStop) (out : Output) : Type 0 where
   pub texts : List (List ℕ)
   pub fault : Option RowKind
   pub come : RecordsConvertBy layout files most 1 row_records texts fault
@@ -73,26 +98,29 @@ pub record EndsAfterLines (layout : Layout) (files : List File) (most : ℕ) (he
   pub exact : (part ≡ concat (take lines (header ∷ texts))) ⊎ (why ≡ stop.WriteFailed)
   pub wrote : Appends out.held out.held' part
   pub noted : Notes out.log out.log' (faults_by layout files most 1 (take (lines - 1) row_records))
+  pub few : AreFew limit (faults_by layout files most 1 (take (lines - 1) row_records))
 
 -- how a conversion ends early: at a row, or for another cause, but never for a fault of a source
-abbrev pub EndsIn : Layout → List File → ℕ → List ℕ → List CsvRecord → RunStop → Output → Type 0
-EndsIn layout files most header row_records (stop.Row row kind) out = EndsAtRow layout files most header row_records row kind out
-EndsIn layout files most header row_records (stop.Source fault) out = ⊥
-EndsIn layout files most header row_records why out = EndsAfterLines layout files most header row_records why out
+abbrev pub EndsIn : Layout → List File → ℕ → Option ℕ → List ℕ → List CsvRecord → RunStop → Output → Type 0
+EndsIn layout files most limit header row_records (stop.Row row kind) out =
+    EndsAtRow layout files most limit header row_records row kind out
+    ⊎ EndsAtFaults layout files most limit header row_records row kind out
+EndsIn layout files most limit header row_records (stop.Source fault) out = ⊥
+EndsIn layout files most limit header row_records why out = EndsAfterLines layout files most limit header row_records why out
 
--- by these files, all rows of the column were written, there are n, and their faults were noted
-abbrev pub ConvertsAllBy : {R W : Type 0} → Layout → ℕ → ℕ → Run R W → List File → Type 0
-ConvertsAllBy layout most n run files = IfSome run.column (λ column.
-    (row_records : List CsvRecord) × AreRowRecords layout column row_records × WritesRows layout files most (header_text layout column) row_records n run.output)
+-- by these files, all rows of the column were written, there are n, and their faults, which are few, were noted
+abbrev pub ConvertsAllBy : {R W : Type 0} → Layout → ℕ → Option ℕ → ℕ → Run R W → List File → Type 0
+ConvertsAllBy layout most limit n run files = IfSome run.column (λ column.
+    (row_records : List CsvRecord) × AreRowRecords layout column row_records × WritesRows layout files most limit (header_text layout column) row_records n run.output)
 
 -- all of the line of names was written, if there is to be one, and perhaps more
 abbrev pub HasNames : Layout → Output → Type 0
 HasNames layout out = (rest : List ℕ) × Appends out.held out.held' (names_line layout ++ rest)
 
 -- by these files, the conversion of the column ended early, after the line of names
-abbrev pub EndsBy : {R W : Type 0} → Layout → ℕ → RunStop → Run R W → List File → Type 0
-EndsBy layout most why run files = IfSome run.column (λ column.
-    (row_records : List CsvRecord) × AreRowRecords layout column row_records × EndsIn layout files most (header_text layout column) row_records why run.output × HasNames layout run.output)
+abbrev pub EndsBy : {R W : Type 0} → Layout → ℕ → Option ℕ → RunStop → Run R W → List File → Type 0
+EndsBy layout most limit why run files = IfSome run.column (λ column.
+    (row_records : List CsvRecord) × AreRowRecords layout column row_records × EndsIn layout files most limit (header_text layout column) row_records why run.output × HasNames layout run.output)
 
 -- The line of names could not be written: nothing was read of the column, and no fault was noted.
 pub record EndsAtNames {R W : Type 0} (layout : Layout) (why : RunStop) (run : Run R W) : Type 0 where

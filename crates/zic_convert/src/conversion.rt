@@ -30,6 +30,7 @@ use crate::output::{flush, write_header, write_names};
 use crate::pieces::RowPieces;
 use crate::round::convert_round;
 use crate::spare::SpareTexts;
+use crate::tally::Tally;
 use std::alloc::Global;
 use std::io::{Read, Write};
 use std::sync::Wait;
@@ -62,8 +63,8 @@ const PIECES_FOR_ONE: u64 = 3;
 /// The number of bytes that a record usually has.
 const USUAL_RECORD: u64 = 48;
 
-/// What a conversion runs with besides zones: the runtime, the allocator, the plan, the layout and the
-/// gate.
+/// What a conversion runs with besides zones: the runtime, the allocator, the plan, the layout, the
+/// gate, and after how many rows with a fault it goes on.
 #[derive(Drop)]
 pub struct Conversion<'a, T, G> {
     pub rt: &'a T,
@@ -71,6 +72,8 @@ pub struct Conversion<'a, T, G> {
     pub plan: &'a Plan,
     pub layout: &'a Layout,
     pub gate: &'a G,
+    /// The most rows with a fault after which a run goes on; `None` sets no limit.
+    pub max_faults: Option<u64>,
 }
 
 /// Returns the number of bytes that a round is to have: some pieces for each worker, of usual
@@ -112,16 +115,18 @@ fn next_round<T, G, Z: Zones, R: Read>(
     Ok(taken)
 }
 
-/// What the next rows are of: what was taken, the number of the first row, and texts to write them into.
+/// What the next rows are of: what was taken, the number of the first row, how many more rows with a fault
+/// may come, where that is limited, and texts to write them into.
 #[derive(Clone, Copy, Drop)]
 struct NextRows<'a> {
     taken: &'a Taken,
     first: u64,
+    left: Option<u64>,
     spare: &'a SpareTexts,
 }
 
 /// Converts what was taken, a round by the zones that are ready or an open line, writes its rows, and
-/// notes their faults. Returns the number of rows.
+/// notes their faults. Returns the number of rows, and how many more rows with a fault may come then.
 ///
 /// # Errors
 ///
@@ -133,23 +138,24 @@ fn convert_ready<T: Threads + Wait + Sync, G: Gate + Sync, Z: Zones, W: Write, L
     next: &NextRows<'_>,
     writer: &mut Counted<W>,
     log: &mut L,
-) -> Result<u64, RunStop>
+) -> Result<Tally, RunStop>
+    requires least { 1 ≤ next.now.first }
     requires first { next.now.first ≤ MAX_ROWS + 1 }
     requires some { next.now.taken.now ≡ Taken.End → ⊥ }
     requires short { next.now.taken.now ≡ Taken.TooLong → ⊥ }
     requires few { length round ≤ MAX_ROUND_PIECES }
     requires cut { ArePiecesOf conversion.now.plan.now.row_piece round }
     ensures ok { IfOk result (WritesRecords conversion.now.layout.now (Z.known zones.now)
-        conversion.now.plan.now.max_rows next.now.first
+        conversion.now.plan.now.max_rows next.now.left next.now.first
         (taken_rows conversion.now.layout.now.delimiter next.now.taken.now round.entry)
         W.contents writer.old writer.new (L.noted log.old) (L.noted log.new)) }
     ensures stop { IfErr result (EndsInRecords conversion.now.layout.now (Z.known zones.now)
-        conversion.now.plan.now.max_rows next.now.first
+        conversion.now.plan.now.max_rows next.now.left next.now.first
         (taken_rows conversion.now.layout.now.delimiter next.now.taken.now round.entry)
         W.contents writer.old writer.new (L.noted log.old) (L.noted log.new)) }
 {
     if let Taken::OpenLine(line) = next.taken {
-        return write_open_line(conversion, line, next.first, writer, log);
+        return write_open_line(conversion, line, next.first, next.left, writer, log);
     }
     let ready = zones.ready();
     let pieces = RowPieces::new(
@@ -160,7 +166,7 @@ fn convert_ready<T: Threads + Wait + Sync, G: Gate + Sync, Z: Zones, W: Write, L
         conversion.plan,
         next.spare,
     );
-    convert_round(conversion, &pieces, writer, log)
+    convert_round(conversion, &pieces, next.left, writer, log)
 }
 
 /// Converts the rest of a column. The rows of each round are written before it reads on, and an open
@@ -180,13 +186,13 @@ fn convert_rounds<T: Threads + Wait + Sync, G: Gate + Sync, Z: Zones, R: Read, W
     requires { column.old.by ≡ conversion.now.layout.now.records }
     ensures grown { IfOk result (λ _. Z.grown zones.old zones.new) }
     ensures all { (files : List File) → Z.may_be zones.new files → IfOk result (λ n. ConvertsRest
-        conversion.now.layout.now conversion.now.plan.now.max_rows
+        conversion.now.layout.now conversion.now.plan.now.max_rows conversion.now.max_faults
         (unread R.remaining column.old) n (output_of W.contents L.noted writer.old writer.new
         log.old log.new) files) }
     ensures flushed { IfOk result (λ _. writer.new.failures ≡ writer.old.failures) }
     ensures halt { IfErr result (λ halt. EndsByZones Z.grown Z.broken Z.may_be zones.old zones.new
         (stop_of halt) (EndsInRest conversion.now.layout.now conversion.now.plan.now.max_rows
-        (unread R.remaining column.old) (stop_of halt) (output_of W.contents L.noted writer.old
+        conversion.now.max_faults (unread R.remaining column.old) (stop_of halt) (output_of W.contents L.noted writer.old
         writer.new log.old log.new))) }
     ensures cause { IfErr result (IsCauseOfHalt writer.old writer.new) }
 {
@@ -198,6 +204,7 @@ fn convert_rounds<T: Threads + Wait + Sync, G: Gate + Sync, Z: Zones, R: Read, W
     prove!(conversion.plan.max_rows() <= u64::MAX);
     let spare = SpareTexts::new(conversion.alloc);
     let mut count = 0;
+    let mut left = conversion.max_faults;
     'rounds: loop {
         let taken = next_round(conversion, zones, column)?;
         if let Taken::End = taken {
@@ -211,9 +218,12 @@ fn convert_rounds<T: Threads + Wait + Sync, G: Gate + Sync, Z: Zones, R: Read, W
         let next = NextRows {
             taken: &taken,
             first: count + 1,
+            left,
             spare: &spare,
         };
-        count += convert_ready(conversion, zones, round, &next, writer, log)?;
+        let tally = convert_ready(conversion, zones, round, &next, writer, log)?;
+        count += tally.rows;
+        left = tally.left;
     }
     flush(writer)?;
     Ok(count)
@@ -317,12 +327,13 @@ fn convert_rows<
 ) -> Result<u64, Halt>
     ensures grown { IfOk result (λ _. Z.grown zones.old zones.new) }
     ensures all { (files : List File) → Z.may_be zones.new files → IfOk result (λ n. ConvertsColumn
-        conversion.now.layout.now conversion.now.plan.now.max_rows (R.remaining reader) n
+        conversion.now.layout.now conversion.now.plan.now.max_rows conversion.now.max_faults
+        (R.remaining reader) n
         (output_of W.contents L.noted writer.old writer.new log.old log.new) files) }
     ensures flushed { IfOk result (λ _. writer.new.failures ≡ writer.old.failures) }
     ensures halt { IfErr result (λ halt. EndsByZones Z.grown Z.broken Z.may_be zones.old zones.new
         (stop_of halt) (EndsInColumn conversion.now.layout.now conversion.now.plan.now.max_rows
-        (R.remaining reader) (stop_of halt) (output_of W.contents L.noted writer.old writer.new
+        conversion.now.max_faults (R.remaining reader) (stop_of halt) (output_of W.contents L.noted writer.old writer.new
         log.old log.new))) }
     ensures cause { IfErr result (IsCauseOfHalt writer.old writer.new) }
 {
@@ -411,7 +422,8 @@ fn ended<R>(
 /// takes note of the fault, and of the record's own bytes where it is put aside. A header that is such a
 /// line is one as any other. Where each line is a record and the run goes on at faults, no more than four
 /// bytes of a line are read beyond the most that the layout allows, and the others are dropped: they
-/// are in no row and no note.
+/// are in no row and no note. Where the run goes on after a number of rows with a fault alone, as
+/// `max_faults` says, the next such row ends the conversion, as the first does where none may have one.
 ///
 /// The column is read in rounds. Before a round is converted, its zones are made ready. The plan's
 /// workers convert the pieces of a round, which have the number of records that the plan says, and
@@ -428,7 +440,7 @@ fn ended<R>(
 ///   no instant or local time, a local time that no instant or more than one has, or a whole second out
 ///   of range. All rows before it were written and flushed, and no failure of the writer was counted.
 ///   Where rows with faults are written or their records put aside, only `TooManyRows` ends the
-///   conversion as `Row`, and of records of CSV also `RowTooLong`.
+///   conversion as `Row`, of records of CSV also `RowTooLong`, and each fault that is one too many.
 /// - `ReadFailed` or `WriteFailed` where the reader or writer counted a failure. Each error of the
 ///   reader or writer ends the call, also one at which others try again, and so does a write that
 ///   takes no byte. A reader that ended is not read again. Where the line of names can't be written,
@@ -459,8 +471,9 @@ pub fn convert_column<
 ) -> Result<u64, RunStop>
     ensures grown { IfOk result (λ _. Z.grown zones.old zones.new) }
     ensures ok { (files : List File) → Z.may_be zones.new files → IfOk result (λ n. ConvertsAllBy
-        conversion.now.layout.now conversion.now.plan.now.max_rows n (run_of R.remaining W.contents
-        L.noted reader.old reader.new writer.old writer.new log.old log.new) files) }
+        conversion.now.layout.now conversion.now.plan.now.max_rows conversion.now.max_faults n
+        (run_of R.remaining W.contents L.noted reader.old reader.new writer.old writer.new log.old
+        log.new) files) }
     ensures within { IfOk result
         (λ _. reader.new.taken ≤ reader.old.taken + conversion.now.plan.now.max_bytes) }
     ensures unfailed { IfOk result (λ _. HasFailedSince reader.new reader.old.failures → ⊥) }
@@ -469,8 +482,9 @@ pub fn convert_column<
         (EndsAtNames conversion.now.layout.now stop (run_of R.remaining W.contents L.noted
         reader.old reader.new writer.old writer.new log.old log.new) × (zones.new ≡ zones.old))
         ⊎ EndsByZones Z.grown Z.broken Z.may_be zones.old zones.new stop
-        (EndsBy conversion.now.layout.now conversion.now.plan.now.max_rows stop (run_of R.remaining
-        W.contents L.noted reader.old reader.new writer.old writer.new log.old log.new))) }
+        (EndsBy conversion.now.layout.now conversion.now.plan.now.max_rows conversion.now.max_faults
+        stop (run_of R.remaining W.contents L.noted reader.old reader.new writer.old writer.new log.old
+        log.new))) }
     ensures cause { IfErr result (IsCauseOf conversion.now.plan.now.max_bytes
         reader.old reader.new writer.old writer.new) }
 {
@@ -557,6 +571,7 @@ pub fn convert<T: Threads + Wait + Sync, R: Read, W: Write, G: Gate + Sync>(
         plan,
         layout: &layout,
         gate,
+        max_faults: None,
     };
     convert_column(&conversion, &mut zones, reader, writer, &mut Unnoted)
 }

@@ -22,6 +22,7 @@ mod round;
 mod row;
 mod shown;
 mod spare;
+mod tally;
 
 pub use column::{ColumnRows, rows_of_column};
 pub use conversion::{Conversion, convert, convert_column};

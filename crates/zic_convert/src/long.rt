@@ -1,6 +1,6 @@
 //! Records that have more bytes of their own than they may have.
 
-ghost use Rattle.std.specs.Prelude.{◌≡◌, ◌∷◌, [], false, List, Option, Some, length};
+ghost use Rattle.std.specs.Prelude.{◌≡◌, ◌∷◌, [], false, ℕ, List, Option, Some, length};
 ghost use Rattle.zic_columns.specs.Own.{CsvRecord};
 ghost use Rattle.zic_columns.specs.Round.{may_have};
 ghost use Rattle.zic_files.specs.File.{File};
@@ -62,10 +62,10 @@ pub(crate) fn long_kind(most: u64, number: u64) -> RowKind
 /// Has the writer pass on what it holds back, and returns the stop at such a record as the row of a
 /// number, or `WriteFailed`.
 pub(crate) fn end_at_long<W: Write>(writer: &mut Counted<W>, most: u64, number: u64) -> RunStop
-    ensures stop { (layout : Layout) (files : List File) (given : CsvRecord)
+    ensures stop { (layout : Layout) (files : List File) (limit : Option ℕ) (given : CsvRecord)
         (log : Option (List RowNote)) → may_have (longest_of layout) (length given.own) ≡ false
-        → EndsInRecords layout files most number (given ∷ []) W.contents writer.old writer.new log
-        log result }
+        → EndsInRecords layout files most limit number (given ∷ []) W.contents writer.old writer.new
+        log log result }
     ensures cause { IsOwnCause writer.old writer.new result }
 {
     stop_at(writer, number, long_kind(most, number))

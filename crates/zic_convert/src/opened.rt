@@ -11,8 +11,9 @@ ghost use Rattle.zic_convert.specs.code.Written.{EndsInRecords, WritesRecords};
 
 use crate::conversion::Conversion;
 use crate::faulty::{aside, ends_run, push_own};
-use crate::output::write_rows;
+use crate::output::{stop_at, write_rows};
 use crate::row::Rows;
+use crate::tally::{Tally, left_after};
 use std::alloc::{AllocError, Global};
 use std::io::Write;
 use zic_base::{RowFault, RowKind, RunStop};
@@ -78,26 +79,28 @@ pub(crate) fn open_row(
     Ok(rows)
 }
 
-/// Writes the row of an open line, which is the row of this number, notes its fault, and returns the
-/// number of rows. The line has the delimiter and the comma in each other's place.
+/// Writes the row of an open line, which is the row of this number, and notes its fault, where any is
+/// left. Returns the number of rows, and how many faults are left then. The line has the delimiter and
+/// the comma in each other's place.
 ///
 /// # Errors
 ///
-/// `Row` where the fault ends the run, `Memory`, or `WriteFailed`.
+/// `Row` where the fault ends the run or is one too many, `Memory`, or `WriteFailed`.
 pub(crate) fn write_open_line<T, G, W: Write, L: RowLog>(
     conversion: &Conversion<'_, T, G>,
     line: &[u8],
     number: u64,
+    left: Option<u64>,
     writer: &mut Counted<W>,
     log: &mut L,
-) -> Result<u64, RunStop>
+) -> Result<Tally, RunStop>
     requires { number ≤ MAX_ROWS + 1 }
-    ensures ok { IfOk result (λ count. (files : List File) → WritesRecords
-        conversion.now.layout.now files conversion.now.plan.now.max_rows number
+    ensures ok { IfOk result (λ tally. (files : List File) → WritesRecords
+        conversion.now.layout.now files conversion.now.plan.now.max_rows left number
         (exchanged_record conversion.now.layout.now.delimiter (open_record line.now) ∷ [])
-        W.contents writer.old writer.new (L.noted log.old) (L.noted log.new) count) }
+        W.contents writer.old writer.new (L.noted log.old) (L.noted log.new) tally) }
     ensures stop { IfErr result (λ why. (files : List File) → EndsInRecords
-        conversion.now.layout.now files conversion.now.plan.now.max_rows number
+        conversion.now.layout.now files conversion.now.plan.now.max_rows left number
         (exchanged_record conversion.now.layout.now.delimiter (open_record line.now) ∷ [])
         W.contents writer.old writer.new (L.noted log.old) (L.noted log.new) why) }
 {
@@ -105,5 +108,12 @@ pub(crate) fn write_open_line<T, G, W: Write, L: RowLog>(
     let Ok(row) = open_row(conversion.alloc, conversion.layout, most, number, line) else {
         return Err(RunStop::Memory);
     };
-    write_rows(writer, number, &[row], log)
+    let rows = [row];
+    match left_after(&rows, left) {
+        Ok(left) => match write_rows(writer, number, &rows, log) {
+            Ok(rows) => Ok(Tally { rows, left }),
+            Err(stop) => Err(stop),
+        },
+        Err(fault) => Err(stop_at(writer, fault.row, fault.kind)),
+    }
 }

@@ -1,6 +1,6 @@
 //! The records of a round, in pieces for several workers.
 
-ghost use Rattle.std.specs.Prelude.{◌≡◌, ◌≤◌, ◌<◌, ◌+◌, true, false, IfOk, length, take};
+ghost use Rattle.std.specs.Prelude.{◌≡◌, ◌≤◌, ◌<◌, ◌+◌, ◌-◌, true, false, IfOk, length, take};
 ghost use Rattle.zic_columns.specs.Round.{ArePiecesOf};
 ghost use Rattle.zic_columns.specs.declared.pieces.TheConstants.{MAX_ROUND_PIECES};
 ghost use Rattle.zic_plan.specs.declared.plan.TheConstants.{MAX_ROWS};
@@ -78,6 +78,7 @@ impl<'a, 's> RowPieces<'a, 's> {
         plan: &Plan,
         spare: &'a SpareTexts,
     ) -> RowPieces<'a, 's>
+        requires least { 1 ≤ first }
         requires first { first ≤ MAX_ROWS + 1 }
         requires few { length round ≤ MAX_ROUND_PIECES }
         requires cut { ArePiecesOf plan.now.row_piece round }
@@ -126,6 +127,27 @@ impl<'a, 's> RowPieces<'a, 's> {
             round: self.round.front(i as usize + 1),
             first: self.first,
             most: self.most,
+            size: self.size,
+            stops: false,
+            spare: self.spare,
+        }
+    }
+
+    /// Returns the same pieces, as a task in which the row of this number ends the run, whatever it has,
+    /// and that doesn't stop there.
+    pub(crate) fn before(&self, row: u64) -> RowPieces<'_, 's>
+        requires { 1 ≤ row }
+        ensures { result ≡ record self.now {
+          most = row - 1;
+          stops = false;
+        } }
+    {
+        RowPieces {
+            layout: self.layout,
+            zones: self.zones,
+            round: self.round.front(self.round.len()),
+            first: self.first,
+            most: row - 1,
             size: self.size,
             stops: false,
             spare: self.spare,

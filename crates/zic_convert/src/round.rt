@@ -1,62 +1,38 @@
 //! Converts a round, and writes its rows.
 
-ghost use Rattle.std.specs.Prelude.{◌≡◌, ◌≤◌, IfOk, IfErr, false, length};
+ghost use Rattle.std.specs.Prelude.{◌≡◌, ◌≤◌, IfOk, IfErr, Option, ℕ, false, length};
 ghost use Rattle.zic_pieces.specs.Task.{AreValues};
 ghost use Rattle.zic_convert.specs.code.Pieces.{ArePieces, IsOutcomeOf};
 ghost use Rattle.zic_columns.specs.declared.pieces.TheConstants.{MAX_ROUND_PIECES};
-ghost use Rattle.zic_convert.specs.code.Written.{EndsInRound, WritesRound};
+ghost use Rattle.zic_convert.specs.code.Written.{EndsInRound, HasOneTooMany, WritesRound};
 
 use crate::conversion::Conversion;
 use crate::output::write_rows;
 use crate::pieces::RowPieces;
 use crate::row::Rows;
+use crate::tally::{Tally, left_after};
 use std::io::Write;
 use std::sync::Wait;
 use std::thread::Threads;
-use zic_base::RunStop;
+use zic_base::{RowFault, RunStop};
 use zic_counted::Counted;
 use zic_pieces::{Gate, TaskStop, run_task};
 use zic_plan::RowLog;
 
-/// Writes the rows of a round, by those of its pieces, notes their faults, and returns the number
-/// of rows.
+/// Returns the rows of the pieces, as a task that doesn't stop at a row that ends the run.
 ///
 /// # Errors
 ///
-/// `Row` for the fault that ends the run, once the rows before it are written, or `WriteFailed`.
-fn write_round<W: Write, L: RowLog>(
-    writer: &mut Counted<W>,
-    pieces: &RowPieces<'_, '_>,
-    rows: &[Rows],
-    log: &mut L,
-) -> Result<u64, RunStop>
-    requires { AreValues (IsOutcomeOf pieces.now) (length pieces.now.pieces) rows.now }
-    ensures ok { IfOk result (WritesRound pieces.now W.contents writer.old writer.new
-        (L.noted log.old) (L.noted log.new)) }
-    ensures stop { IfErr result (EndsInRound pieces.now W.contents writer.old writer.new
-        (L.noted log.old) (L.noted log.new)) }
-{
-    write_rows(writer, pieces.first(), rows, log)
-}
-
-/// Converts the pieces up to the row of the last of them that ends the run, as a task of their own,
-/// and writes the rows before it.
-///
-/// # Errors
-///
-/// As [`write_round`], and `Memory`.
-fn convert_again<T: Threads + Wait + Sync, W: Write, G: Gate + Sync, L: RowLog>(
+/// `Memory`.
+fn rows_of<T: Threads + Wait + Sync, G: Gate + Sync>(
     conversion: &Conversion<'_, T, G>,
     pieces: &RowPieces<'_, '_>,
-    writer: &mut Counted<W>,
-    log: &mut L,
-) -> Result<u64, RunStop>
+) -> Result<Vec<Rows>, RunStop>
     requires goes_on { pieces.now.stops ≡ false }
     requires few { length pieces.now.pieces ≤ MAX_ROUND_PIECES }
-    ensures ok { IfOk result (WritesRound pieces.now W.contents writer.old writer.new
-        (L.noted log.old) (L.noted log.new)) }
-    ensures stop { IfErr result (EndsInRound pieces.now W.contents writer.old writer.new
-        (L.noted log.old) (L.noted log.new)) }
+    ensures ok { IfOk result (λ rows.
+        AreValues (IsOutcomeOf pieces.now) (length pieces.now.pieces) rows.items) }
+    ensures err { IfErr result (λ stop. stop ≡ RunStop.Memory) }
 {
     let workers = conversion.plan.workers();
     match run_task(
@@ -66,31 +42,124 @@ fn convert_again<T: Threads + Wait + Sync, W: Write, G: Gate + Sync, L: RowLog>(
         workers,
         conversion.gate,
     ) {
-        Ok(rows) => write_round(writer, pieces, &rows, log),
+        Ok(rows) => Ok(rows),
         Err(TaskStop::Memory(_)) => Err(RunStop::Memory),
         Err(TaskStop::NoThread | TaskStop::Fault(_, ())) => unreachable!(),
     }
 }
 
-/// Converts the pieces of a round by the plan's workers, writes their rows, notes their faults, and
-/// returns the number of rows.
-///
-/// The first piece with a fault that ends the run ends the task, and later ones need not be
-/// converted. The rows before that fault are then converted once more.
+/// Converts the pieces once more up to this row, which has one fault too many, and writes the rows
+/// before it. Returns the stop at that row.
 ///
 /// # Errors
 ///
-/// As [`write_round`], and `Memory`.
+/// Returns `Memory` or `WriteFailed` in its place where these end the run.
+fn end_at_fault<T: Threads + Wait + Sync, W: Write, G: Gate + Sync, L: RowLog>(
+    conversion: &Conversion<'_, T, G>,
+    pieces: &RowPieces<'_, '_>,
+    fault: RowFault,
+    writer: &mut Counted<W>,
+    log: &mut L,
+) -> RunStop
+    requires few { length pieces.now.pieces ≤ MAX_ROUND_PIECES }
+    requires fault { (limit : Option ℕ) × HasOneTooMany pieces.now limit fault }
+    ensures { (limit : Option ℕ) → HasOneTooMany pieces.now limit fault → EndsInRound pieces.now
+        limit W.contents writer.old writer.new (L.noted log.old) (L.noted log.new) result }
+{
+    let first = pieces.first();
+    let before = pieces.before(fault.row);
+    let rows = match rows_of(conversion, &before) {
+        Ok(rows) => rows,
+        Err(stop) => return stop,
+    };
+    match write_rows(writer, first, &rows, log) {
+        Ok(_) => unreachable!(),
+        Err(RunStop::Row { .. }) => RunStop::Row {
+            row: fault.row,
+            kind: fault.kind,
+        },
+        Err(stop) => stop,
+    }
+}
+
+/// Writes the rows of a round, by those of its pieces, and notes their faults, of which this many are
+/// left. Returns the number of rows, and how many faults are left then.
+///
+/// # Errors
+///
+/// `Row` for the fault that ends the run, or that is one too many, once the rows before it are written,
+/// or `Memory` or `WriteFailed`.
+fn write_round<T: Threads + Wait + Sync, W: Write, G: Gate + Sync, L: RowLog>(
+    conversion: &Conversion<'_, T, G>,
+    pieces: &RowPieces<'_, '_>,
+    rows: &[Rows],
+    left: Option<u64>,
+    writer: &mut Counted<W>,
+    log: &mut L,
+) -> Result<Tally, RunStop>
+    requires { AreValues (IsOutcomeOf pieces.now) (length pieces.now.pieces) rows.now }
+    ensures ok { IfOk result (WritesRound pieces.now left W.contents writer.old writer.new
+        (L.noted log.old) (L.noted log.new)) }
+    ensures stop { IfErr result (EndsInRound pieces.now left W.contents writer.old writer.new
+        (L.noted log.old) (L.noted log.new)) }
+{
+    let first = pieces.first();
+    match left_after(rows, left) {
+        Ok(left) => match write_rows(writer, first, rows, log) {
+            Ok(rows) => Ok(Tally { rows, left }),
+            Err(stop) => Err(stop),
+        },
+        Err(fault) => Err(end_at_fault(conversion, pieces, fault, writer, log)),
+    }
+}
+
+/// Converts the pieces up to the row of the last of them that ends the run, as a task of their own,
+/// and writes the rows before it.
+///
+/// # Errors
+///
+/// As [`write_round`].
+fn convert_again<T: Threads + Wait + Sync, W: Write, G: Gate + Sync, L: RowLog>(
+    conversion: &Conversion<'_, T, G>,
+    pieces: &RowPieces<'_, '_>,
+    left: Option<u64>,
+    writer: &mut Counted<W>,
+    log: &mut L,
+) -> Result<Tally, RunStop>
+    requires goes_on { pieces.now.stops ≡ false }
+    requires few { length pieces.now.pieces ≤ MAX_ROUND_PIECES }
+    ensures ok { IfOk result (WritesRound pieces.now left W.contents writer.old writer.new
+        (L.noted log.old) (L.noted log.new)) }
+    ensures stop { IfErr result (EndsInRound pieces.now left W.contents writer.old writer.new
+        (L.noted log.old) (L.noted log.new)) }
+{
+    match rows_of(conversion, pieces) {
+        Ok(rows) => write_round(conversion, pieces, &rows, left, writer, log),
+        Err(stop) => Err(stop),
+    }
+}
+
+/// Converts the pieces of a round by the plan's workers, writes their rows, and notes their faults, of
+/// which this many are left. Returns the number of rows, and how many faults are left then.
+///
+/// The first piece with a fault that ends the run ends the task, and later ones need not be
+/// converted. The rows before that fault are then converted once more, and so are the rows before one
+/// with one fault too many.
+///
+/// # Errors
+///
+/// As [`write_round`].
 pub(crate) fn convert_round<T: Threads + Wait + Sync, W: Write, G: Gate + Sync, L: RowLog>(
     conversion: &Conversion<'_, T, G>,
     pieces: &RowPieces<'_, '_>,
+    left: Option<u64>,
     writer: &mut Counted<W>,
     log: &mut L,
-) -> Result<u64, RunStop>
+) -> Result<Tally, RunStop>
     requires { ArePieces pieces.now }
-    ensures ok { IfOk result (WritesRound pieces.now W.contents writer.old writer.new
+    ensures ok { IfOk result (WritesRound pieces.now left W.contents writer.old writer.new
         (L.noted log.old) (L.noted log.new)) }
-    ensures stop { IfErr result (EndsInRound pieces.now W.contents writer.old writer.new
+    ensures stop { IfErr result (EndsInRound pieces.now left W.contents writer.old writer.new
         (L.noted log.old) (L.noted log.new)) }
 {
     let workers = conversion.plan.workers();
@@ -102,11 +171,13 @@ pub(crate) fn convert_round<T: Threads + Wait + Sync, W: Write, G: Gate + Sync, 
         conversion.gate,
     ) {
         Ok(rows) => {
-            let written = write_round(writer, pieces, &rows, log);
+            let written = write_round(conversion, pieces, &rows, left, writer, log);
             pieces.keep_texts(rows);
             written
         }
-        Err(TaskStop::Fault(i, ())) => convert_again(conversion, &pieces.up_to(i), writer, log),
+        Err(TaskStop::Fault(i, ())) => {
+            convert_again(conversion, &pieces.up_to(i), left, writer, log)
+        }
         Err(TaskStop::Memory(_)) => Err(RunStop::Memory),
         Err(TaskStop::NoThread) => unreachable!(),
     }

@@ -25,6 +25,7 @@ pub record ArePieces (p : Pieces) : Type 0 where
   pub small : p.size ≤ MAX_OF_PIECE
   pub cut : ArePiecesOf p.size p.pieces
   pub few : length p.pieces ≤ MAX_ROUND_PIECES
+  pub least : 1 ≤ p.first
   pub first : p.first ≤ MAX_ROWS + 1
 
 -- the rows of a piece's records

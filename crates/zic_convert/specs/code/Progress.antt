@@ -27,6 +27,7 @@ use Rattle.zic_convert.specs.Column.{AreRowRecords, header_of, own_header, own_l
 use Rattle.zic_convert.specs.LayoutRows.{RecordsConvertBy, faults_by}
 use Rattle.zic_convert.specs.Run.{EndsIn, Notes, Output, WritesRows}
 use Rattle.zic_convert.specs.code.Row.{records_in}
+use Rattle.zic_convert.specs.code.Written.{IsLeft}
 use Rattle.zic_convert.specs.declared.halt.Halt.{Halt}
 use Rattle.zic_convert.specs.declared.halt.Halt.TheVariants as halt
 
@@ -42,8 +43,9 @@ Takes layout old new row_records = IfSome old (λ bytes. (rest : List ℕ) × (n
 abbrev pub ComeNext : Layout → Option (List ℕ) → List CsvRecord → Type 0
 ComeNext layout left row_records = IfSome left (λ bytes. (more : List CsvRecord) × (records_in layout bytes ≡ row_records ++ more))
 
--- Of these records this number was converted and written, none of which ends the run, and the bytes that are left have the others.
-pub record IsSoFar (layout : Layout) (files : List File) (most : ℕ) (all : List CsvRecord) (left : Option (List ℕ)) (count : ℕ) (out : Output) : Type 0 where
+-- Of these records this number was converted and written, none of which ends the run, and the bytes that are left have the others. So many
+-- more rows with a fault may come, where there is a limit.
+pub record IsSoFar (layout : Layout) (files : List File) (most : ℕ) (limit : Option ℕ) (all : List CsvRecord) (left : Option (List ℕ)) (count : ℕ) (more : Option ℕ) (out : Output) : Type 0 where
   pub row_records : List CsvRecord
   pub texts : List (List ℕ)
   pub rest : List ℕ
@@ -53,24 +55,25 @@ pub record IsSoFar (layout : Layout) (files : List File) (most : ℕ) (all : Lis
   pub counted : count ≡ length texts
   pub wrote : Appends out.held out.held' (concat texts)
   pub noted : Notes out.log out.log' (faults_by layout files most 1 row_records)
+  pub few : IsLeft limit (faults_by layout files most 1 row_records) more
 
 -- by these files, all rows of the bytes that were left, where they are known, were written, there are n, and their faults were noted
-abbrev pub ConvertsRest : Layout → ℕ → Option (List ℕ) → ℕ → Output → List File → Type 0
-ConvertsRest layout most known n out files = IfSome known (λ bytes. WritesRows layout files most [] (records_in layout bytes) n out)
+abbrev pub ConvertsRest : Layout → ℕ → Option ℕ → Option (List ℕ) → ℕ → Output → List File → Type 0
+ConvertsRest layout most limit known n out files = IfSome known (λ bytes. WritesRows layout files most limit [] (records_in layout bytes) n out)
 
 -- the conversion of those bytes ended early
-abbrev pub EndsInRest : Layout → ℕ → Option (List ℕ) → RunStop → Output → List File → Type 0
-EndsInRest layout most known why out files = IfSome known (λ bytes. EndsIn layout files most [] (records_in layout bytes) why out)
+abbrev pub EndsInRest : Layout → ℕ → Option ℕ → Option (List ℕ) → RunStop → Output → List File → Type 0
+EndsInRest layout most limit known why out files = IfSome known (λ bytes. EndsIn layout files most limit [] (records_in layout bytes) why out)
 
 -- by these files, all rows of a column were written below its own header
-abbrev pub ConvertsColumn : Layout → ℕ → Option (List ℕ) → ℕ → Output → List File → Type 0
-ConvertsColumn layout most known n out files = IfSome known (λ column.
-    (row_records : List CsvRecord) × AreRowRecords layout column row_records × WritesRows layout files most (own_line layout column) row_records n out)
+abbrev pub ConvertsColumn : Layout → ℕ → Option ℕ → Option (List ℕ) → ℕ → Output → List File → Type 0
+ConvertsColumn layout most limit known n out files = IfSome known (λ column.
+    (row_records : List CsvRecord) × AreRowRecords layout column row_records × WritesRows layout files most limit (own_line layout column) row_records n out)
 
 -- the conversion of that column ended early
-abbrev pub EndsInColumn : Layout → ℕ → Option (List ℕ) → RunStop → Output → List File → Type 0
-EndsInColumn layout most known why out files = IfSome known (λ column.
-    (row_records : List CsvRecord) × AreRowRecords layout column row_records × EndsIn layout files most (own_line layout column) row_records why out)
+abbrev pub EndsInColumn : Layout → ℕ → Option ℕ → Option (List ℕ) → RunStop → Output → List File → Type 0
+EndsInColumn layout most limit known why out files = IfSome known (λ column.
+    (row_records : List CsvRecord) × AreRowRecords layout column row_records × EndsIn layout files most limit (own_line layout column) row_records why out)
 
 -- the column's own header with names added, but for the delimiter of the column
 abbrev pub own_line_in : Layout → List ℕ → List ℕ

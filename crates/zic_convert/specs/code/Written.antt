@@ -1,5 +1,6 @@
 -- Rows that were written.
-use Rattle.std.specs.Prelude.{◌≡◌, ℕ, ◌+◌, ◌⊎◌, true, List, [], ◌++◌, take, Option, Some, None}
+use Rattle.std.specs.Prelude.{◌≡◌, ℕ, ◌+◌, ◌⊎◌, true, List, [], ◌++◌, length, take, Option, Some, None, option_map}
+use Rattle.std.specs.List.{concat}
 use Rattle.std.specs.Io.{StartsWith}
 use Rattle.std.specs.Io.KnownBytes.{Appends}
 use Rattle.zic_columns.specs.Own.{CsvRecord}
@@ -9,12 +10,15 @@ use Rattle.zic_files.specs.File.{File}
 use Rattle.zic_plan.specs.Plan.{Limits}
 use Rattle.zic_plan.specs.declared.layout.Layout.{Layout}
 use Rattle.zic_plan.specs.Noted.{RowNote}
+use Rattle.zic_base.specs.declared.row_fault.RowFault.{RowFault}
 use Rattle.zic_base.specs.declared.row_fault.RowKind.{RowKind}
 use Rattle.zic_base.specs.declared.run_stop.RunStop.{RunStop}
 use Rattle.zic_base.specs.declared.run_stop.RunStop.TheVariants as stop
-use Rattle.zic_convert.specs.Run.{Notes}
+use Rattle.zic_convert.specs.LayoutRows.{RecordsConvertBy}
+use Rattle.zic_convert.specs.Run.{AreFew, IsOneTooMany, Notes}
 use Rattle.zic_convert.specs.code.Row.{AreRowsOf, RowsOf, records_of_all}
 use Rattle.zic_convert.specs.code.Pieces.{Pieces, joined}
+use Rattle.zic_convert.specs.declared.tally.Tally.{Tally}
 
 -- the writer's bytes, where they are known, grew by these bytes, and nothing failed
 abbrev pub Wrote : {W : Type 0} → (W → Option (List ℕ)) → Counts W → Counts W → List ℕ → Type 0
@@ -56,18 +60,23 @@ EndsAtHead contents old new head stop.WriteFailed = FailsWithin contents old new
 EndsAtHead contents old new head stop.Memory = new ≡ old
 EndsAtHead contents old new head _ = ⊥
 
--- the rows of these records, the first of which is the row of a number, were all written, and this is their count
-abbrev pub WritesRecords : {W : Type 0} → Layout → List File → ℕ → ℕ → List CsvRecord → (W → Option (List ℕ)) → Counts W → Counts W → Option (List RowNote) → Option (List RowNote) → ℕ → Type 0
-WritesRecords layout files most first row_records contents old new log log' count =
-    (rows : RowsOf) × AreRowsOf layout files most first row_records rows × WroteRows contents old new log log' rows count
+-- of the rows with a fault after which a run goes on, this many are left after these, where there is a limit
+abbrev pub IsLeft : Option ℕ → List RowNote → Option ℕ → Type 0
+IsLeft limit faults left = limit ≡ option_map (λ n. length faults + n) left
+
+-- The rows of these records, the first of which is the row of a number, were all written. This is how many they are, and how many more rows
+-- with a fault may come.
+abbrev pub WritesRecords : {W : Type 0} → Layout → List File → ℕ → Option ℕ → ℕ → List CsvRecord → (W → Option (List ℕ)) → Counts W → Counts W → Option (List RowNote) → Option (List RowNote) → Tally → Type 0
+WritesRecords layout files most limit first row_records contents old new log log' tally =
+    (rows : RowsOf) × AreRowsOf layout files most first row_records rows × WroteRows contents old new log log' rows tally.rows × IsLeft limit rows.faults tally.left
 
 -- those of a round
-abbrev pub WritesRound : {W : Type 0} → Pieces → (W → Option (List ℕ)) → Counts W → Counts W → Option (List RowNote) → Option (List RowNote) → ℕ → Type 0
-WritesRound p contents old new log log' count = WritesRecords p.layout p.files p.most p.first (records_of_all p.layout.delimiter p.pieces) contents old new log log' count
+abbrev pub WritesRound : {W : Type 0} → Pieces → Option ℕ → (W → Option (List ℕ)) → Counts W → Counts W → Option (List RowNote) → Option (List RowNote) → Tally → Type 0
+WritesRound p limit contents old new log log' tally = WritesRecords p.layout p.files p.most limit p.first (records_of_all p.layout.delimiter p.pieces) contents old new log log' tally
 
--- of the rows of these records, those of the first records were written, and their faults noted, and then the writer failed
+-- of the rows of these records, those of the first records were written, and their faults, which are few, noted, and then the writer failed
 pub record FailsInRows {W : Type 0} (contents : W → Option (List ℕ)) (old new : Counts W) (log log' : Option (List RowNote))
-    (layout : Layout) (files : List File) (most first : ℕ) (row_records : List CsvRecord) (rows : RowsOf) : Type 0 where
+    (layout : Layout) (files : List File) (most : ℕ) (limit : Option ℕ) (first : ℕ) (row_records : List CsvRecord) (rows : RowsOf) : Type 0 where
   pub done : List CsvRecord
   pub more : List CsvRecord
   pub parts : row_records ≡ done ++ more
@@ -75,23 +84,44 @@ pub record FailsInRows {W : Type 0} (contents : W → Option (List ℕ)) (old ne
   pub are : AreRowsOf layout files most first done front
   pub fails : FailsAfter contents old new front.text rows.text
   pub noted : Notes log log' front.faults
+  pub few : AreFew limit front.faults
+
+-- the rows of these records before one with one fault too many were written, and the faults before it noted
+pub record StopsAtFault {W : Type 0} (contents : W → Option (List ℕ)) (old new : Counts W) (log log' : Option (List RowNote))
+    (layout : Layout) (files : List File) (most : ℕ) (limit : Option ℕ) (first : ℕ) (row_records : List CsvRecord) (rows : RowsOf) (row : ℕ) (kind : RowKind) : Type 0 where
+  pub texts : List (List ℕ)
+  pub come : RecordsConvertBy layout files most first row_records texts rows.fault
+  pub before : List RowNote
+  pub too_many : IsOneTooMany limit rows.faults row kind before
+  pub done : ℕ
+  pub number : row ≡ first + done
+  pub wrote : Wrote contents old new (concat (take done texts))
+  pub noted : Notes log log' before
 
 -- the rows of records were written up to one that ends the run, or up to where the writer failed
 abbrev pub EndsInRows : {W : Type 0} → (W → Option (List ℕ)) → Counts W → Counts W → Option (List RowNote) → Option (List RowNote)
-    → Layout → List File → ℕ → ℕ → List CsvRecord → RowsOf → RunStop → Type 0
-EndsInRows contents old new log log' layout files most first row_records rows (stop.Row row kind) = StopsAtRow contents old new log log' first rows row kind
-EndsInRows contents old new log log' layout files most first row_records rows stop.WriteFailed = FailsInRows contents old new log log' layout files most first row_records rows
-EndsInRows contents old new log log' layout files most first row_records rows _ = ⊥
+    → Layout → List File → ℕ → Option ℕ → ℕ → List CsvRecord → RowsOf → RunStop → Type 0
+EndsInRows contents old new log log' layout files most limit first row_records rows (stop.Row row kind) =
+    (StopsAtRow contents old new log log' first rows row kind × AreFew limit rows.faults)
+    ⊎ StopsAtFault contents old new log log' layout files most limit first row_records rows row kind
+EndsInRows contents old new log log' layout files most limit first row_records rows stop.WriteFailed = FailsInRows contents old new log log' layout files most limit first row_records rows
+EndsInRows contents old new log log' layout files most limit first row_records rows _ = ⊥
 
 -- the rows of these records before one that ends the run were written, or the writer failed, or memory ran out
-abbrev pub EndsInRecords : {W : Type 0} → Layout → List File → ℕ → ℕ → List CsvRecord → (W → Option (List ℕ)) → Counts W → Counts W → Option (List RowNote) → Option (List RowNote) → RunStop → Type 0
-EndsInRecords layout files most first row_records contents old new log log' why =
+abbrev pub EndsInRecords : {W : Type 0} → Layout → List File → ℕ → Option ℕ → ℕ → List CsvRecord → (W → Option (List ℕ)) → Counts W → Counts W → Option (List RowNote) → Option (List RowNote) → RunStop → Type 0
+EndsInRecords layout files most limit first row_records contents old new log log' why =
     ((why ≡ stop.Memory) × (new ≡ old) × (log' ≡ log))
-    ⊎ ((rows : RowsOf) × AreRowsOf layout files most first row_records rows × EndsInRows contents old new log log' layout files most first row_records rows why)
+    ⊎ ((rows : RowsOf) × AreRowsOf layout files most first row_records rows × EndsInRows contents old new log log' layout files most limit first row_records rows why)
 
 -- those of a round
-abbrev pub EndsInRound : {W : Type 0} → Pieces → (W → Option (List ℕ)) → Counts W → Counts W → Option (List RowNote) → Option (List RowNote) → RunStop → Type 0
-EndsInRound p contents old new log log' why = EndsInRecords p.layout p.files p.most p.first (records_of_all p.layout.delimiter p.pieces) contents old new log log' why
+abbrev pub EndsInRound : {W : Type 0} → Pieces → Option ℕ → (W → Option (List ℕ)) → Counts W → Counts W → Option (List RowNote) → Option (List RowNote) → RunStop → Type 0
+EndsInRound p limit contents old new log log' why = EndsInRecords p.layout p.files p.most limit p.first (records_of_all p.layout.delimiter p.pieces) contents old new log log' why
+
+-- among the rows of a round is this one with one fault too many
+abbrev pub HasOneTooMany : Pieces → Option ℕ → RowFault → Type 0
+HasOneTooMany p limit fault =
+    (rows : RowsOf) × AreRowsOf p.layout p.files p.most p.first (records_of_all p.layout.delimiter p.pieces) rows
+    × (before : List RowNote) × IsOneTooMany limit rows.faults fault.row fault.kind before
 
 -- the pieces of a round by a layout, files and a plan; the first record is the row of this number
 abbrev pub pieces_by : Layout → List File → Limits → List (List ℕ) → ℕ → Pieces

@@ -1,0 +1,331 @@
+-- Rows up to one with one fault too many.
+use Rattle.std.proofs.Common.{◌≡◌, ◌≤◌, ◌<◌, ◌+◌, ◌-◌, ◌⊎◌, ℕ, suc, List, [], ◌∷◌, ◌++◌, length, take, drop, Option, Some, None, inl, inr, refl, sym, ap, ap₂, subst, ◌∙◌, append_assoc, le-leb, arith}
+use Rattle.std.specs.Prelude.{IsSome, is_some, option_map}
+use Rattle.std.specs.List.{concat}
+use Rattle.std.specs.Io.{StartsWith}
+use Rattle.std.proofs.Math.Seq.{take-append_seam}
+use Rattle.std.proofs.lemmas.Bool.{lt-leb}
+use Rattle.std.proofs.lemmas.List.{length-append, take-append-drop}
+use Rattle.std.proofs.lemmas.List.Folds.{concat-append}
+use Rattle.zic_columns.specs.Own.{CsvRecord}
+use Rattle.zic_counted.specs.Counts.{Counts}
+use Rattle.zic_files.specs.File.{File}
+use Rattle.zic_plan.specs.declared.layout.Layout.{Layout}
+use Rattle.zic_plan.specs.Noted.{RowNote}
+use Rattle.zic_base.specs.declared.row_fault.RowKind.{RowKind}
+use Rattle.zic_base.specs.declared.row_fault.RowKind.TheVariants as kinds
+use Rattle.zic_convert.specs.LayoutRows.{RecordsConvertBy, IsRowAt, ending, ends_by, fault_by, faults_by, if_aside, noted}
+use Rattle.zic_convert.specs.Run.{AreFew, IsOneTooMany, Notes}
+use Rattle.zic_convert.specs.code.Row.{AreRowsOf, RowsOf}
+use Rattle.zic_convert.specs.code.Written.{FailsInRows, IsLeft, StopsAtFault, StopsAtRow, Wrote}
+use Rattle.zic_convert.proofs.Bytes.{starts_later}
+use Rattle.zic_convert.proofs.Coming.{too_many_ends, within}
+
+-- ---- how many faults are few
+
+-- none are
+pub none_few : (limit : Option ℕ) → AreFew limit []
+none_few None = tt
+none_few (Some most) = omega arith
+
+-- no more than few are
+pub fewer : (limit : Option ℕ) (xs ys : List RowNote) → length xs ≤ length ys → AreFew limit ys → AreFew limit xs
+fewer None xs ys less few = tt
+fewer (Some most) xs ys less few = omega (arith, less, few)
+
+-- those are of which some are left
+pub left_few : (limit left : Option ℕ) (faults : List RowNote) → IsLeft limit faults left → AreFew limit faults
+left_few None left faults is = tt
+left_few (Some most) None faults is = absurd (cc is)
+left_few (Some most) (Some left) faults is =
+    let same : most ≡ length faults + left = cc is in
+    omega (arith, same)
+
+-- and more of which as many are few
+pub more_few : (limit left : Option ℕ) (faults others : List RowNote) → IsLeft limit faults left → AreFew left others → AreFew limit (faults ++ others)
+more_few None left faults others is few = tt
+more_few (Some most) None faults others is few = absurd (cc is)
+more_few (Some most) (Some left) faults others is few =
+    let same : most ≡ length faults + left = cc is in
+    omega (arith, same, few, length-append faults others)
+
+-- before any all are left
+pub all_left : (limit : Option ℕ) → IsLeft limit [] limit
+all_left None = refl
+all_left (Some most) = refl
+
+-- after some, and then others
+pub left_then : (limit mid left : Option ℕ) (faults others : List RowNote) → IsLeft limit faults mid → IsLeft mid others left → IsLeft limit (faults ++ others) left
+left_then limit mid None faults others first then = first ∙ ap (option_map (λ n. length faults + n)) then
+left_then limit mid (Some left) faults others first then =
+    let both : length faults + (length others + left) ≡ length (faults ++ others) + left = omega (arith, length-append faults others) in
+    first ∙ ap (option_map (λ n. length faults + n)) then ∙ ap Some both
+
+-- one too many of those after some is one too many of all
+pub too_many_then : (limit left : Option ℕ) (faults others : List RowNote) (row : ℕ) (kind : RowKind) (before : List RowNote) → IsLeft limit faults left → IsOneTooMany left others row kind before
+    → IsOneTooMany limit (faults ++ others) row kind (faults ++ before)
+too_many_then limit left faults others row kind before is many =
+    let note : RowNote = record { fault = record { row = row; kind = kind }; own = many.own } in
+    record {
+      own = many.own;
+      after = many.after;
+      parts = ap (λ (l : List RowNote). faults ++ l) many.parts ∙ sym (append_assoc faults before (note ∷ many.after));
+      full = is ∙ ap (option_map (λ n. length faults + n)) many.full ∙ ap Some (sym (length-append faults before));
+    }
+
+-- more faults may come after it
+pub too_many_of_more : (limit : Option ℕ) (faults more : List RowNote) (row : ℕ) (kind : RowKind) (before : List RowNote) → IsOneTooMany limit faults row kind before → IsOneTooMany limit (faults ++ more) row kind before
+too_many_of_more limit faults more row kind before many =
+    let note : RowNote = record { fault = record { row = row; kind = kind }; own = many.own } in
+    record {
+      own = many.own;
+      after = many.after ++ more;
+      parts = ap (λ (l : List RowNote). l ++ more) many.parts ∙ append_assoc before (note ∷ many.after) more;
+      full = many.full;
+    }
+
+-- nothing is one too many without a limit
+pub none_too_many : (faults : List RowNote) (row : ℕ) (kind : RowKind) (before : List RowNote) → IsOneTooMany None faults row kind before → ⊥
+none_too_many faults row kind before many = absurd (cc many.full)
+
+-- no note stands among none
+no_note : (before after : List RowNote) (note : RowNote) → ◌≡◌ {A = List RowNote} [] (before ++ note ∷ after) → ⊥
+no_note [] after note e = absurd (cc e)
+no_note (b ∷ before) after note e = absurd (cc e)
+
+-- an end is one
+not_none : (end : Option RowKind) → IsSome end → end ≡ None → ⊥
+not_none None has none = absurd (cc has)
+not_none (Some kind) has none = absurd (cc none)
+
+-- ---- a lower greatest number of a row
+
+module _ (layout : Layout) (files : List File) where
+  -- records have no fewer faults than the first of them
+  pub front_fewer : (most number : ℕ) (xs ys : List CsvRecord) → length (faults_by layout files most number xs) ≤ length (faults_by layout files most number (xs ++ ys))
+  front_fewer most number [] ys = omega arith
+  front_fewer most number (x ∷ xs) ys = by_end (ends_by layout files most number x) refl where
+    by_end : (end : Option RowKind) → ends_by layout files most number x ≡ end
+        → length (faults_by layout files most number (x ∷ xs)) ≤ length (faults_by layout files most number (x ∷ (xs ++ ys)))
+    by_end (Some kind) e = rw e (omega arith)
+    by_end None e =
+        let here = noted layout.at_fault number x.own (fault_by layout files most number x) in
+        rw e (omega (arith, front_fewer most (number + 1) xs ys, length-append here (faults_by layout files most (number + 1) xs), length-append here (faults_by layout files most (number + 1) (xs ++ ys))))
+
+  -- a row that may be by a lower greatest number has the fault that it has by a higher
+  fault_low : (most low number : ℕ) (x : CsvRecord) → number ≤ low → low ≤ most → fault_by layout files low number x ≡ fault_by layout files most number x
+  fault_low most low number x may less = rw (le-leb number low may, le-leb number most (omega (arith, may, less))) refl
+
+  ends_low : (most low number : ℕ) (x : CsvRecord) → number ≤ low → low ≤ most → ends_by layout files low number x ≡ ends_by layout files most number x
+  ends_low most low number x may less = ap (ending layout.at_fault layout.records) (fault_low most low number x may less)
+
+  -- the row after it ends the run
+  ends_beyond : (low number : ℕ) (x : CsvRecord) → low < number → ends_by layout files low number x ≡ Some kinds.TooManyRows
+  ends_beyond low number x beyond = rw (lt-leb number low beyond) (too_many_ends layout.at_fault layout.records)
+
+  -- rows up to a lower greatest number are those of as many records
+  pub come_low : (most low number : ℕ) (xs : List CsvRecord) (texts : List (List ℕ)) (fault : Option RowKind) → low ≤ most → RecordsConvertBy layout files low number xs texts fault
+      → RecordsConvertBy layout files most number (take (length texts) xs) texts None
+  come_low most low number [] [] fault less come = (refl, refl)
+  come_low most low number [] (t ∷ texts) fault less come = absurd (cc come.0)
+  come_low most low number (x ∷ xs) [] fault less come = (refl, refl)
+  come_low most low number (x ∷ xs) (t ∷ texts) fault less come =
+      let may = within layout files low number x come.0 in (
+        sym (ends_low most low number x may less) ∙ come.0,
+        subst (λ (f : Option RowKind). IsRowAt layout files f x t) (fault_low most low number x may less) come.1,
+        come_low most low (number + 1) xs texts fault less come.2,
+      )
+
+  -- and have their faults
+  pub faults_low : (most low number : ℕ) (xs : List CsvRecord) (texts : List (List ℕ)) (fault : Option RowKind) → low ≤ most → RecordsConvertBy layout files low number xs texts fault
+      → faults_by layout files low number xs ≡ faults_by layout files most number (take (length texts) xs)
+  faults_low most low number [] [] fault less come = refl
+  faults_low most low number [] (t ∷ texts) fault less come = absurd (cc come.0)
+  faults_low most low number (x ∷ xs) [] None less come = absurd (cc come.1)
+  faults_low most low number (x ∷ xs) [] (Some kind) less come = rw (sym come.0) refl
+  faults_low most low number (x ∷ xs) (t ∷ texts) fault less come =
+      let may = within layout files low number x come.0 in
+      let rest = faults_low most low (number + 1) xs texts fault less come.2 in
+      let none = sym (ends_low most low number x may less) ∙ come.0 in
+      let here = ap (noted layout.at_fault number x.own) (fault_low most low number x may less) in
+      rw (come.0, none) (ap (λ (l : List RowNote). l ++ faults_by layout files low (number + 1) xs) here
+      ∙ ap (λ (l : List RowNote). noted layout.at_fault number x.own (fault_by layout files most number x) ++ l) rest)
+
+  module _ (most : ℕ) where
+    -- a row with a fault, as it is noted
+    abbrev note_of : ℕ → CsvRecord → RowKind → RowNote
+    note_of number x kind = record { fault = record { row = number; kind = kind }; own = if_aside layout.at_fault x.own }
+
+    -- what is noted of records after the first has a note, which has others before it
+    pub record Follows (number : ℕ) (x : CsvRecord) (xs : List CsvRecord) (before after : List RowNote) (note : RowNote) : Type 0 where
+      pub others : List RowNote
+      pub is : before ≡ noted layout.at_fault number x.own (fault_by layout files most number x) ++ others
+      pub parts : faults_by layout files most (number + 1) xs ≡ others ++ note ∷ after
+
+    -- a note is that of the first record, or of those after it
+    either : (number : ℕ) (x : CsvRecord) (xs : List CsvRecord) (before after : List RowNote) (note : RowNote)
+        → noted layout.at_fault number x.own (fault_by layout files most number x) ++ faults_by layout files most (number + 1) xs ≡ before ++ note ∷ after
+        → ((before ≡ []) × (note.fault.row ≡ number)) ⊎ Follows number x xs before after note
+    either number x xs before after note e = by_fault (fault_by layout files most number x) refl where
+      by_before : (kind : RowKind) (before : List RowNote) → fault_by layout files most number x ≡ Some kind → note_of number x kind ∷ faults_by layout files most (number + 1) xs ≡ before ++ note ∷ after
+          → ((before ≡ []) × (note.fault.row ≡ number)) ⊎ Follows number x xs before after note
+      by_before kind [] is same =
+          let first : note_of number x kind ≡ note = cc same in
+          inl (refl, ap (λ (n : RowNote). n.fault.row) (sym first))
+      by_before kind (b ∷ before) is same =
+          let first : note_of number x kind ≡ b = cc same in
+          let rest : faults_by layout files most (number + 1) xs ≡ before ++ note ∷ after = cc same in
+          inr (record { others = before; is = rw is (ap (λ (n : RowNote). n ∷ before) (sym first)); parts = rest })
+
+      by_fault : (fault : Option RowKind) → fault_by layout files most number x ≡ fault → ((before ≡ []) × (note.fault.row ≡ number)) ⊎ Follows number x xs before after note
+      by_fault None is = inr (record { others = before; is = rw is refl; parts = rw is at e })
+      by_fault (Some kind) is = by_before kind before is (rw is at e)
+
+    -- the numbers of noted rows are those from the first record's on, up to the greatest
+    pub noted_within : (number : ℕ) (xs : List CsvRecord) (before after : List RowNote) (note : RowNote) → faults_by layout files most number xs ≡ before ++ note ∷ after
+        → (number ≤ note.fault.row) × (note.fault.row ≤ most)
+    noted_within number [] before after note e = absurd (no_note before after note e)
+    noted_within number (x ∷ xs) before after note e = by_end (ends_by layout files most number x) refl where
+      by_end : (end : Option RowKind) → ends_by layout files most number x ≡ end → (number ≤ note.fault.row) × (note.fault.row ≤ most)
+      by_end (Some kind) is = absurd (no_note before after note (rw is at e))
+      by_end None is = elim (either number x xs before after note (rw is at e)) [
+        | inl here ↦ (omega (arith, here.1), omega (arith, here.1, within layout files most number x is))
+        | inr then ↦ let rest = noted_within (number + 1) xs then.others after note then.parts in (omega (arith, rest.0), rest.1)
+      ]
+
+    -- the rows of records up to a lower greatest number, which is that of the row before a noted one
+    pub record IsCut (low number : ℕ) (xs : List CsvRecord) (texts cut : List (List ℕ)) (fault end : Option RowKind) (before : List RowNote) : Type 0 where
+      pub ended : end ≡ Some kinds.TooManyRows
+      pub long : low + 1 ≡ number + length cut
+      pub noted : faults_by layout files low number xs ≡ before
+      pub come : RecordsConvertBy layout files most number xs (cut ++ drop (length cut) texts) fault
+
+    module _ (low : ℕ) (less : low ≤ most) (fault end : Option RowKind) (after : List RowNote) (note : RowNote) (at : low + 1 ≡ note.fault.row) where
+      -- the first record has the note
+      cut_first : (number : ℕ) (x : CsvRecord) (xs : List CsvRecord) (texts cut : List (List ℕ)) → RecordsConvertBy layout files most number (x ∷ xs) texts fault
+          → RecordsConvertBy layout files low number (x ∷ xs) cut end → note.fault.row ≡ number → IsCut low number (x ∷ xs) texts cut fault end []
+      cut_first number x xs texts (c ∷ cut) come low_come is = absurd (cc (sym (ends_beyond low number x (omega (arith, at, is))) ∙ low_come.0))
+      cut_first number x xs texts [] come low_come is =
+          let beyond = ends_beyond low number x (omega (arith, at, is)) in
+          record {
+            ended = low_come.0 ∙ beyond;
+            long = omega (arith, at, is);
+            noted = rw beyond refl;
+            come = come;
+          }
+
+      -- one of those after it has it
+      cut_later : (number : ℕ) (x : CsvRecord) (xs : List CsvRecord) (t : List ℕ) (texts cut : List (List ℕ)) → RecordsConvertBy layout files most number (x ∷ xs) (t ∷ texts) fault
+          → RecordsConvertBy layout files low number (x ∷ xs) cut end → number ≤ low → (before : List RowNote) (then : Follows number x xs before after note)
+          → ((cut : List (List ℕ)) → RecordsConvertBy layout files low (number + 1) xs cut end → IsCut low (number + 1) xs texts cut fault end then.others)
+          → IsCut low number (x ∷ xs) (t ∷ texts) cut fault end before
+      cut_later number x xs t texts [] come low_come may before then rest = absurd (not_none end low_come.1 (low_come.0 ∙ ends_low most low number x may less ∙ come.0))
+      cut_later number x xs t texts (c ∷ cut) come low_come may before then rest =
+          let cut_rest = rest cut low_come.2 in
+          let same = fault_low most low number x may less in
+          record {
+            ended = cut_rest.ended;
+            long = omega (arith, cut_rest.long);
+            noted = rw low_come.0 (ap₂ (λ (f : Option RowKind) (l : List RowNote). noted layout.at_fault number x.own f ++ l) same cut_rest.noted ∙ sym then.is);
+            come = (come.0, subst (λ (f : Option RowKind). IsRowAt layout files f x c) same low_come.1, cut_rest.come);
+          }
+
+      -- there are such rows
+      pub is_cut : (number : ℕ) (xs : List CsvRecord) (texts cut : List (List ℕ)) (before : List RowNote) → RecordsConvertBy layout files most number xs texts fault
+          → RecordsConvertBy layout files low number xs cut end → faults_by layout files most number xs ≡ before ++ note ∷ after → IsCut low number xs texts cut fault end before
+      is_cut number [] texts cut before come low_come e = absurd (no_note before after note e)
+      is_cut number (x ∷ xs) [] cut before come low_come e = absurd (ended_first fault come.1 come.0)
+        where
+          ended_first : (fault : Option RowKind) → IsSome fault → fault ≡ ends_by layout files most number x → ⊥
+          ended_first None has is = absurd (cc has)
+          ended_first (Some kind) has is = absurd (no_note before after note (rw (sym is) at e))
+      is_cut number (x ∷ xs) (t ∷ texts) cut before come low_come e = elim (either number x xs before after note (rw come.0 at e)) [
+        | inl here ↦ rw here.0 (cut_first number x xs (t ∷ texts) cut come low_come here.1)
+        | inr then ↦ cut_later number x xs t texts cut come low_come (omega (arith, at, (noted_within (number + 1) xs then.others after note then.parts).0)) before then
+            (λ cut low_rest. is_cut (number + 1) xs texts cut then.others come.2 low_rest then.parts)
+      ]
+
+-- ---- rows that are made once more, up to one with one fault too many
+
+module _ (layout : Layout) (files : List File) (most : ℕ) (limit : Option ℕ) (first : ℕ) (rs : List CsvRecord) (rows : RowsOf) (are : AreRowsOf layout files most first rs rows)
+    (row : ℕ) (kind : RowKind) (before : List RowNote) (many : IsOneTooMany limit rows.faults row kind before) where
+  abbrev note : RowNote
+  note = record { fault = record { row = row; kind = kind }; own = many.own }
+
+  among : faults_by layout files most first rs ≡ before ++ note ∷ many.after
+  among = sym are.faults ∙ many.parts
+
+  -- its number is one of theirs
+  pub row_within : (first ≤ row) × (row ≤ most)
+  row_within = noted_within layout files most first rs before many.after note among
+
+  module _ (low : ℕ) (at : low + 1 ≡ row) (cut : RowsOf) (are_cut : AreRowsOf layout files low first rs cut) where
+    less : low ≤ most
+    less = omega (arith, at, row_within.1)
+
+    is : IsCut layout files most low first rs are.texts are_cut.texts rows.fault cut.fault before
+    is = is_cut layout files most low less rows.fault cut.fault many.after note at first rs are.texts are_cut.texts before are.come are_cut.come among
+
+    -- they are ended
+    pub cut_ends : cut.fault ≡ None → ⊥
+    cut_ends none = absurd (cc (sym is.ended ∙ none))
+
+    -- the texts of all, which begin with those
+    abbrev pub texts_on : List (List ℕ)
+    texts_on = are_cut.texts ++ drop (length are_cut.texts) are.texts
+
+    abbrev pub rows_on : RowsOf
+    rows_on = record { text = concat texts_on; count = length texts_on; fault = rows.fault; faults = rows.faults }
+
+    pub are_on : AreRowsOf layout files most first rs rows_on
+    are_on = record { texts = texts_on; come = is.come; text = refl; count = refl; faults = are.faults }
+
+    module _ {W : Type 0} (contents : W → Option (List ℕ)) (old new : Counts W) (log log' : Option (List RowNote)) where
+      -- the rows before it were written
+      pub stops_before : (at_row : ℕ) (end : RowKind) → StopsAtRow contents old new log log' first cut at_row end
+          → StopsAtFault contents old new log log' layout files most limit first rs rows_on row kind
+      stops_before at_row end h = record {
+        texts = texts_on;
+        come = is.come;
+        before = before;
+        too_many = many;
+        done = length are_cut.texts;
+        number = omega (arith, at, is.long);
+        wrote = subst (λ (l : List ℕ). Wrote contents old new l) (are_cut.text ∙ ap concat (sym (take-append_seam are_cut.texts (drop (length are_cut.texts) are.texts)))) h.2;
+        noted = subst (λ (l : List RowNote). Notes log log' l) (are_cut.faults ∙ is.noted) h.3;
+      }
+
+      few_before : (done more : List CsvRecord) → rs ≡ done ++ more → (faults : List RowNote) → faults ≡ faults_by layout files low first done → AreFew limit faults
+      few_before done more parts faults same =
+          let all : faults_by layout files low first (done ++ more) ≡ before = ap (faults_by layout files low first) (sym parts) ∙ is.noted in
+          let less : length faults ≤ length before = omega (arith, ap (length {A = RowNote}) same, front_fewer layout files low first done more, ap (length {A = RowNote}) all) in
+          subst (λ (l : Option ℕ). AreFew l faults) (sym many.full) less
+
+      -- or the writer failed
+      pub fails_before : FailsInRows contents old new log log' layout files low None first rs cut → FailsInRows contents old new log log' layout files most limit first rs rows_on
+      fails_before h =
+          let n = length h.are.texts in
+          let rest = drop (length are_cut.texts) are.texts in
+          let longer : cut.text ++ concat rest ≡ concat texts_on = ap (λ (l : List ℕ). l ++ concat rest) are_cut.text ∙ sym (concat-append are_cut.texts rest) in
+          record {
+            done = take n h.done;
+            more = drop n h.done ++ h.more;
+            parts = h.parts ∙ ap (λ (l : List CsvRecord). l ++ h.more) (sym (take-append-drop n h.done)) ∙ append_assoc (take n h.done) (drop n h.done) h.more;
+            front = record h.front { fault = None };
+            are = record {
+              texts = h.are.texts;
+              come = come_low layout files most low first h.done h.are.texts h.front.fault less h.are.come;
+              text = h.are.text;
+              count = h.are.count;
+              faults = h.are.faults ∙ faults_low layout files most low first h.done h.are.texts h.front.fault less h.are.come;
+            };
+            fails = record {
+              part = h.fails.part;
+              starts = subst (λ (l : List ℕ). StartsWith l h.fails.part) longer (starts_later [] cut.text h.fails.part (concat rest) h.fails.starts);
+              least = h.fails.least;
+              wrote = h.fails.wrote;
+              failed = h.fails.failed;
+            };
+            noted = h.noted;
+            few = few_before h.done h.more h.parts h.front.faults h.are.faults;
+          }
