@@ -19,18 +19,18 @@ use Rattle.zic_base.specs.declared.run_stop.RunStop.{RunStop}
 use Rattle.zic_base.specs.declared.run_stop.RunStop.TheVariants as stop
 use Rattle.zic_convert.specs.Column.{AreRowRecords, header_of, header_text, names_line, names_of, own_line}
 use Rattle.zic_convert.specs.LayoutRows.{faults_by}
-use Rattle.zic_convert.specs.Run.{EndsAfterLines, EndsIn, HasNames, Notes, WritesRows}
+use Rattle.zic_convert.specs.Run.{AreFew, EndsAfterLines, EndsIn, HasNames, Notes, WritesRows}
 use Rattle.zic_convert.specs.code.Progress.{ConvertsColumn, EndsInColumn, output}
 use Rattle.zic_convert.proofs.Bytes.{starts_later}
 use Rattle.zic_convert.proofs.Options.{for_some, if_some}
 
-module _ (layout : Layout) (files : List File) (most : ℕ) (row_records : List CsvRecord) (head : List ℕ) (old mid new : Option (List ℕ)) (log last : Option (List RowNote)) (begun : Appends old mid head) where
-  pub rows_below : (n : ℕ) → WritesRows layout files most [] row_records n (output mid new log last) → WritesRows layout files most head row_records n (output old new log last)
-  rows_below n w = (record { texts = w.0.texts; converts = w.0.converts; count = w.0.count; wrote = appends-more old mid new head (concat w.0.texts) begun w.0.wrote }, w.1)
+module _ (layout : Layout) (files : List File) (most : ℕ) (limit : Option ℕ) (row_records : List CsvRecord) (head : List ℕ) (old mid new : Option (List ℕ)) (log last : Option (List RowNote)) (begun : Appends old mid head) where
+  pub rows_below : (n : ℕ) → WritesRows layout files most limit [] row_records n (output mid new log last) → WritesRows layout files most limit head row_records n (output old new log last)
+  rows_below n w = (record { texts = w.0.texts; converts = w.0.converts; count = w.0.count; wrote = appends-more old mid new head (concat w.0.texts) begun w.0.wrote }, w.1, w.2)
 
-  module _ (why : RunStop) (w : EndsAfterLines layout files most [] row_records why (output mid new log last)) where
+  module _ (why : RunStop) (w : EndsAfterLines layout files most limit [] row_records why (output mid new log last)) where
     lines_with : (lines : ℕ) (text : List ℕ) → concat (take w.lines ([] ∷ w.texts)) ≡ text → concat (take lines (head ∷ w.texts)) ≡ head ++ text → lines - 1 ≡ w.lines - 1
-        → EndsAfterLines layout files most head row_records why (output old new log last)
+        → EndsAfterLines layout files most limit head row_records why (output old new log last)
     lines_with lines text before after rows = record {
       texts = w.texts;
       fault = w.fault;
@@ -46,18 +46,28 @@ module _ (layout : Layout) (files : List File) (most : ℕ) (row_records : List 
       ];
       wrote = appends-more old mid new head w.part begun w.wrote;
       noted = subst (λ (k : ℕ). Notes log last (faults_by layout files most 1 (take k row_records))) (sym rows) w.noted;
+      few = subst (λ (k : ℕ). AreFew limit (faults_by layout files most 1 (take k row_records))) (sym rows) w.few;
     }
 
-    by_lines : (lines : ℕ) → w.lines ≡ lines → EndsAfterLines layout files most head row_records why (output old new log last)
+    by_lines : (lines : ℕ) → w.lines ≡ lines → EndsAfterLines layout files most limit head row_records why (output old new log last)
     by_lines zero e = lines_with 1 [] (ap (λ (k : ℕ). concat (take k ([] ∷ w.texts))) e) refl (omega (arith, e))
     by_lines (suc k) e = lines_with (suc k) (concat (take k w.texts)) (ap (λ (k : ℕ). concat (take k ([] ∷ w.texts))) e) refl (omega (arith, e))
 
-    pub lines_below : EndsAfterLines layout files most head row_records why (output old new log last)
+    pub lines_below : EndsAfterLines layout files most limit head row_records why (output old new log last)
     lines_below = by_lines w.lines refl
 
-  pub ends_below : (why : RunStop) → EndsIn layout files most [] row_records why (output mid new log last) → EndsIn layout files most head row_records why (output old new log last)
-  ends_below (stop.Row row kind) w =
-      (record { texts = w.0.texts; converts = w.0.converts; number = w.0.number; wrote = appends-more old mid new head (concat w.0.texts) begun w.0.wrote }, w.1)
+  pub ends_below : (why : RunStop) → EndsIn layout files most limit [] row_records why (output mid new log last) → EndsIn layout files most limit head row_records why (output old new log last)
+  ends_below (stop.Row row kind) (inl w) = inl
+      (record { texts = w.0.texts; converts = w.0.converts; number = w.0.number; wrote = appends-more old mid new head (concat w.0.texts) begun w.0.wrote }, w.1, w.2)
+  ends_below (stop.Row row kind) (inr w) = inr (record {
+    texts = w.texts;
+    fault = w.fault;
+    come = w.come;
+    before = w.before;
+    too_many = w.too_many;
+    wrote = appends-more old mid new head (concat (take (row - 1) w.texts)) begun w.wrote;
+    noted = w.noted;
+  })
   ends_below (stop.Source fault) w = absurd w
   ends_below stop.ReadFailed w = lines_below stop.ReadFailed w
   ends_below stop.WriteFailed w = lines_below stop.WriteFailed w
@@ -72,19 +82,19 @@ one_line starts.Record style time header d line own = inl refl
 
 -- ---- below the line of names
 
-module _ (layout : Layout) (files : List File) (most : ℕ) (column : List ℕ) (row_records : List CsvRecord) (old mid new : Option (List ℕ)) (log last : Option (List RowNote))
+module _ (layout : Layout) (files : List File) (most : ℕ) (limit : Option ℕ) (column : List ℕ) (row_records : List CsvRecord) (old mid new : Option (List ℕ)) (log last : Option (List RowNote))
     (begun : Appends old mid (names_line layout)) where
   longer : (texts : List (List ℕ)) → Appends mid new (own_line layout column ++ concat texts) → Appends old new (header_text layout column ++ concat texts)
   longer texts wrote =
       subst (λ (l : List ℕ). Appends old new l) (sym (append_assoc (names_line layout) (own_line layout column) (concat texts)))
       (appends-more old mid new (names_line layout) (own_line layout column ++ concat texts) begun wrote)
 
-  pub rows_after_names : (n : ℕ) → WritesRows layout files most (own_line layout column) row_records n (output mid new log last) → WritesRows layout files most (header_text layout column) row_records n (output old new log last)
-  rows_after_names n w = (record { texts = w.0.texts; converts = w.0.converts; count = w.0.count; wrote = longer w.0.texts w.0.wrote }, w.1)
+  pub rows_after_names : (n : ℕ) → WritesRows layout files most limit (own_line layout column) row_records n (output mid new log last) → WritesRows layout files most limit (header_text layout column) row_records n (output old new log last)
+  rows_after_names n w = (record { texts = w.0.texts; converts = w.0.converts; count = w.0.count; wrote = longer w.0.texts w.0.wrote }, w.1, w.2)
 
   module _ (why : RunStop) where
-    no_names : (names own : List ℕ) → Appends old mid names → names ≡ [] → EndsAfterLines layout files most own row_records why (output mid new log last)
-        → EndsAfterLines layout files most (names ++ own) row_records why (output old new log last)
+    no_names : (names own : List ℕ) → Appends old mid names → names ≡ [] → EndsAfterLines layout files most limit own row_records why (output mid new log last)
+        → EndsAfterLines layout files most limit (names ++ own) row_records why (output old new log last)
     no_names names own first none w = rw none (record {
       texts = w.texts;
       fault = w.fault;
@@ -96,32 +106,37 @@ module _ (layout : Layout) (files : List File) (most : ℕ) (column : List ℕ) 
       exact = w.exact;
       wrote = appends-more old mid new [] w.part (rw none at first) w.wrote;
       noted = w.noted;
+      few = w.few;
     })
 
-    no_own : (names own : List ℕ) → Appends old mid names → own ≡ [] → EndsAfterLines layout files most own row_records why (output mid new log last)
-        → EndsAfterLines layout files most (names ++ own) row_records why (output old new log last)
+    no_own : (names own : List ℕ) → Appends old mid names → own ≡ [] → EndsAfterLines layout files most limit own row_records why (output mid new log last)
+        → EndsAfterLines layout files most limit (names ++ own) row_records why (output old new log last)
     no_own names own first none w =
-        subst (λ (l : List ℕ). EndsAfterLines layout files most l row_records why (output old new log last)) (sym (ap (λ (l : List ℕ). names ++ l) none ∙ append-nil names))
-        (lines_below layout files most row_records names old mid new log last first why (rw none at w))
+        subst (λ (l : List ℕ). EndsAfterLines layout files most limit l row_records why (output old new log last)) (sym (ap (λ (l : List ℕ). names ++ l) none ∙ append-nil names))
+        (lines_below layout files most limit row_records names old mid new log last first why (rw none at w))
 
-    lines_after_names : EndsAfterLines layout files most (own_line layout column) row_records why (output mid new log last)
-        → EndsAfterLines layout files most (header_text layout column) row_records why (output old new log last)
+    lines_after_names : EndsAfterLines layout files most limit (own_line layout column) row_records why (output mid new log last)
+        → EndsAfterLines layout files most limit (header_text layout column) row_records why (output old new log last)
     lines_after_names w = elim (one_line layout.start layout.style layout.from layout.header layout.delimiter _ _) [
       | inl none ↦ no_names (names_line layout) (own_line layout column) begun none w
       | inr none ↦ no_own (names_line layout) (own_line layout column) begun none w
     ]
 
-    with_names : EndsAfterLines layout files most (own_line layout column) row_records why (output mid new log last) → HasNames layout (output old new log last)
+    with_names : EndsAfterLines layout files most limit (own_line layout column) row_records why (output mid new log last) → HasNames layout (output old new log last)
     with_names w = (w.part, appends-more old mid new (names_line layout) w.part begun w.wrote)
 
-    both : EndsAfterLines layout files most (own_line layout column) row_records why (output mid new log last)
-        → EndsAfterLines layout files most (header_text layout column) row_records why (output old new log last) × HasNames layout (output old new log last)
+    both : EndsAfterLines layout files most limit (own_line layout column) row_records why (output mid new log last)
+        → EndsAfterLines layout files most limit (header_text layout column) row_records why (output old new log last) × HasNames layout (output old new log last)
     both w = (lines_after_names w, with_names w)
 
-  pub ends_after_names : (why : RunStop) → EndsIn layout files most (own_line layout column) row_records why (output mid new log last)
-      → EndsIn layout files most (header_text layout column) row_records why (output old new log last) × HasNames layout (output old new log last)
-  ends_after_names (stop.Row row kind) w = (
-    (record { texts = w.0.texts; converts = w.0.converts; number = w.0.number; wrote = longer w.0.texts w.0.wrote }, w.1),
+  pub ends_after_names : (why : RunStop) → EndsIn layout files most limit (own_line layout column) row_records why (output mid new log last)
+      → EndsIn layout files most limit (header_text layout column) row_records why (output old new log last) × HasNames layout (output old new log last)
+  ends_after_names (stop.Row row kind) (inr w) = (
+    inr (record { texts = w.texts; fault = w.fault; come = w.come; before = w.before; too_many = w.too_many; wrote = longer (take (row - 1) w.texts) w.wrote; noted = w.noted }),
+    (own_line layout column ++ concat (take (row - 1) w.texts), appends-more old mid new (names_line layout) (own_line layout column ++ concat (take (row - 1) w.texts)) begun w.wrote),
+  )
+  ends_after_names (stop.Row row kind) (inl w) = (
+    inl (record { texts = w.0.texts; converts = w.0.converts; number = w.0.number; wrote = longer w.0.texts w.0.wrote }, w.1, w.2),
     (own_line layout column ++ concat w.0.texts, appends-more old mid new (names_line layout) (own_line layout column ++ concat w.0.texts) begun w.0.wrote),
   )
   ends_after_names (stop.Source fault) w = absurd w
@@ -133,17 +148,17 @@ module _ (layout : Layout) (files : List File) (most : ℕ) (column : List ℕ) 
 
 -- ---- a column below the line of names
 
-module _ (layout : Layout) (most : ℕ) (known : Option (List ℕ)) (files : List File) (old mid new : Option (List ℕ)) (log last : Option (List RowNote)) (begun : Appends old mid (names_line layout)) where
-  pub column_after_names : (n : ℕ) → ConvertsColumn layout most known n (output mid new log last) files
-      → IfSome known (λ column. (row_records : List CsvRecord) × AreRowRecords layout column row_records × WritesRows layout files most (header_text layout column) row_records n (output old new log last))
+module _ (layout : Layout) (most : ℕ) (limit : Option ℕ) (known : Option (List ℕ)) (files : List File) (old mid new : Option (List ℕ)) (log last : Option (List RowNote)) (begun : Appends old mid (names_line layout)) where
+  pub column_after_names : (n : ℕ) → ConvertsColumn layout most limit known n (output mid new log last) files
+      → IfSome known (λ column. (row_records : List CsvRecord) × AreRowRecords layout column row_records × WritesRows layout files most limit (header_text layout column) row_records n (output old new log last))
   column_after_names n all = if_some known _ (λ column e.
       let (row_records, are, w) = for_some known _ column all e in
-      (row_records, are, rows_after_names layout files most column row_records old mid new log last begun n w))
+      (row_records, are, rows_after_names layout files most limit column row_records old mid new log last begun n w))
 
-  pub column_ends_after_names : (why : RunStop) → EndsInColumn layout most known why (output mid new log last) files
-      → IfSome known (λ column. (row_records : List CsvRecord) × AreRowRecords layout column row_records × EndsIn layout files most (header_text layout column) row_records why (output old new log last)
+  pub column_ends_after_names : (why : RunStop) → EndsInColumn layout most limit known why (output mid new log last) files
+      → IfSome known (λ column. (row_records : List CsvRecord) × AreRowRecords layout column row_records × EndsIn layout files most limit (header_text layout column) row_records why (output old new log last)
       × HasNames layout (output old new log last))
   column_ends_after_names why ends = if_some known _ (λ column e.
       let (row_records, are, w) = for_some known _ column ends e in
-      let both = ends_after_names layout files most column row_records old mid new log last begun why w in
+      let both = ends_after_names layout files most limit column row_records old mid new log last begun why w in
       (row_records, are, both.0, both.1))

@@ -13,7 +13,7 @@ use Rattle.zic_files.specs.File.{File}
 use Rattle.zic_plan.specs.declared.layout.Layout.{Layout}
 use Rattle.zic_convert.specs.Convert.{IsCauseOf}
 use Rattle.zic_convert.specs.LayoutRows.{faults_by}
-use Rattle.zic_convert.specs.Run.{EndsAfterLines, EndsByZones, Notes, Output, WritesRows}
+use Rattle.zic_convert.specs.Run.{AreFew, EndsAfterLines, EndsByZones, Notes, Output, WritesRows}
 use Rattle.zic_convert.specs.code.Halt.{IsCauseOfHalt, IsEnd, IsOwnCause, IsReadingStop, stop_of}
 use Rattle.zic_convert.specs.code.Progress.{ConvertsColumn, EndsInColumn}
 use Rattle.zic_convert.specs.declared.halt.Halt.{Halt}
@@ -38,9 +38,9 @@ module _ {R : Type 0} (reader : Counts R) (failures taken most : ℕ) where
   err_end (Err (halt.Stop stop)) (Err why) P Q S all read stops is p q = subst S (sym is.stops) (stops stop q)
 
 -- all lines were written
-all_lines : (layout : Layout) (files : List File) (most : ℕ) (header : List ℕ) (row_records : List CsvRecord) (n : ℕ) (why : RunStop) (out : Output) → WritesRows layout files most header row_records n out
-    → EndsAfterLines layout files most header row_records why out
-all_lines layout files most header row_records n why out w =
+all_lines : (layout : Layout) (files : List File) (most : ℕ) (limit : Option ℕ) (header : List ℕ) (row_records : List CsvRecord) (n : ℕ) (why : RunStop) (out : Output) → WritesRows layout files most limit header row_records n out
+    → EndsAfterLines layout files most limit header row_records why out
+all_lines layout files most limit header row_records n why out w =
     let texts = w.0.texts in
     let all : concat (take (suc n) (header ∷ texts)) ≡ header ++ concat texts = ap (λ (l : List (List ℕ)). header ++ concat l) (take_all n texts (omega (arith, w.0.count))) in
     let many = all_texts layout files most 1 row_records texts w.0.converts in
@@ -57,12 +57,13 @@ all_lines layout files most header row_records n why out w =
       exact = inl (sym all);
       wrote = w.0.wrote;
       noted = subst (λ (l : List CsvRecord). Notes out.log out.log' (faults_by layout files most 1 l)) (sym row_record) w.1;
+      few = subst (λ (l : List CsvRecord). AreFew limit (faults_by layout files most 1 l)) (sym row_record) w.2;
     }
 
 -- where a read failed, other causes leave the same output
-read_as : (layout : Layout) (files : List File) (most : ℕ) (header : List ℕ) (row_records : List CsvRecord) (why : RunStop) (out : Output) → EndsAfterLines layout files most header row_records stop.ReadFailed out
-    → EndsAfterLines layout files most header row_records why out
-read_as layout files most header row_records why out w = record {
+read_as : (layout : Layout) (files : List File) (most : ℕ) (limit : Option ℕ) (header : List ℕ) (row_records : List CsvRecord) (why : RunStop) (out : Output)
+    → EndsAfterLines layout files most limit header row_records stop.ReadFailed out → EndsAfterLines layout files most limit header row_records why out
+read_as layout files most limit header row_records why out w = record {
   texts = w.texts;
   fault = w.fault;
   come = w.come;
@@ -76,19 +77,20 @@ read_as layout files most header row_records why out w = record {
   ];
   wrote = w.wrote;
   noted = w.noted;
+  few = w.few;
 }
 
-module _ (layout : Layout) (most : ℕ) (known : Option (List ℕ)) (out : Output) (files : List File) where
-  all_read : (n : ℕ) → ConvertsColumn layout most known n out files → EndsInColumn layout most known stop.ReadFailed out files
-  all_read n all = if_some known _ (λ column e. (let (row_records, are, w) = for_some known _ column all e in (row_records, are, all_lines layout files most _ row_records n stop.ReadFailed out w)))
+module _ (layout : Layout) (most : ℕ) (limit : Option ℕ) (known : Option (List ℕ)) (out : Output) (files : List File) where
+  all_read : (n : ℕ) → ConvertsColumn layout most limit known n out files → EndsInColumn layout most limit known stop.ReadFailed out files
+  all_read n all = if_some known _ (λ column e. (let (row_records, are, w) = for_some known _ column all e in (row_records, are, all_lines layout files most limit _ row_records n stop.ReadFailed out w)))
 
-  ends_as_read : {R : Type 0} (reader : Counts R) (failures taken most_bytes : ℕ) (why : RunStop) → IsReadingStop reader failures taken most_bytes why → EndsInColumn layout most known stop.ReadFailed out files
-      → EndsInColumn layout most known why out files
+  ends_as_read : {R : Type 0} (reader : Counts R) (failures taken most_bytes : ℕ) (why : RunStop) → IsReadingStop reader failures taken most_bytes why → EndsInColumn layout most limit known stop.ReadFailed out files
+      → EndsInColumn layout most limit known why out files
   ends_as_read reader failures taken most_bytes stop.ReadFailed is ends = ends
   ends_as_read reader failures taken most_bytes stop.ColumnTooLong is ends =
-      if_some known _ (λ column e. (let (row_records, are, w) = for_some known _ column ends e in (row_records, are, read_as layout files most _ row_records stop.ColumnTooLong out w)))
+      if_some known _ (λ column e. (let (row_records, are, w) = for_some known _ column ends e in (row_records, are, read_as layout files most limit _ row_records stop.ColumnTooLong out w)))
   ends_as_read reader failures taken most_bytes stop.Memory is ends =
-      if_some known _ (λ column e. (let (row_records, are, w) = for_some known _ column ends e in (row_records, are, read_as layout files most _ row_records stop.Memory out w)))
+      if_some known _ (λ column e. (let (row_records, are, w) = for_some known _ column ends e in (row_records, are, read_as layout files most limit _ row_records stop.Memory out w)))
   ends_as_read reader failures taken most_bytes (stop.Row row kind) is ends = absurd is
   ends_as_read reader failures taken most_bytes (stop.Source fault) is ends = absurd is
   ends_as_read reader failures taken most_bytes stop.WriteFailed is ends = absurd is
@@ -102,19 +104,19 @@ both_ok (Err why) G M C g all = tt
 
 -- how a conversion by zones ends early
 pub zones_end : {R Z : Type 0} (reader : Counts R) (failures taken most_bytes : ℕ) (grown broken : Z → Z → Type 0) (may_be : Z → List File → Type 0) (old new : Z)
-    (layout : Layout) (most : ℕ) (known : Option (List ℕ)) (out : Output) (outcome : Result ℕ Halt) (result : Result ℕ RunStop) → IsEnd reader failures taken most_bytes outcome result
+    (layout : Layout) (most : ℕ) (limit : Option ℕ) (known : Option (List ℕ)) (out : Output) (outcome : Result ℕ Halt) (result : Result ℕ RunStop) → IsEnd reader failures taken most_bytes outcome result
     → IfOk outcome (λ _. grown old new)
-    → ((files : List File) → may_be new files → IfOk outcome (λ n. ConvertsColumn layout most known n out files))
-    → IfErr outcome (λ why. EndsByZones grown broken may_be old new (stop_of why) (EndsInColumn layout most known (stop_of why) out))
-    → IfErr result (λ why. EndsByZones grown broken may_be old new why (EndsInColumn layout most known why out))
-zones_end reader failures taken most_bytes grown broken may_be old new layout most known out outcome result is grew all ends =
+    → ((files : List File) → may_be new files → IfOk outcome (λ n. ConvertsColumn layout most limit known n out files))
+    → IfErr outcome (λ why. EndsByZones grown broken may_be old new (stop_of why) (EndsInColumn layout most limit known (stop_of why) out))
+    → IfErr result (λ why. EndsByZones grown broken may_be old new why (EndsInColumn layout most limit known why out))
+zones_end reader failures taken most_bytes grown broken may_be old new layout most limit known out outcome result is grew all ends =
     err_end reader failures taken most_bytes outcome result
-    (λ n. grown old new × ((files : List File) → may_be new files → ConvertsColumn layout most known n out files))
-    (λ why. EndsByZones grown broken may_be old new (stop_of why) (EndsInColumn layout most known (stop_of why) out))
-    (λ why. EndsByZones grown broken may_be old new why (EndsInColumn layout most known why out))
-    (λ n done. record { then = new; grown = done.0; ends = inl refl; by = λ files may. all_read layout most known out files n (done.1 files may) })
-    (λ why read ends. ends_map grown broken may_be old new stop.ReadFailed why _ _ (λ e. absurd (cc e)) (λ files part. ends_as_read layout most known out files reader failures taken most_bytes why read part) ends)
-    (λ why ends. ends) is (both_ok outcome (grown old new) (may_be new) (λ n files. ConvertsColumn layout most known n out files) grew all) ends
+    (λ n. grown old new × ((files : List File) → may_be new files → ConvertsColumn layout most limit known n out files))
+    (λ why. EndsByZones grown broken may_be old new (stop_of why) (EndsInColumn layout most limit known (stop_of why) out))
+    (λ why. EndsByZones grown broken may_be old new why (EndsInColumn layout most limit known why out))
+    (λ n done. record { then = new; grown = done.0; ends = inl refl; by = λ files may. all_read layout most limit known out files n (done.1 files may) })
+    (λ why read ends. ends_map grown broken may_be old new stop.ReadFailed why _ _ (λ e. absurd (cc e)) (λ files part. ends_as_read layout most limit known out files reader failures taken most_bytes why read part) ends)
+    (λ why ends. ends) is (both_ok outcome (grown old new) (may_be new) (λ n files. ConvertsColumn layout most limit known n out files) grew all) ends
 
 -- nothing is asked of rows
 all_of : (outcome : Result ℕ Halt) → IfOk outcome (λ n. Unit {0})

@@ -16,7 +16,7 @@ use Rattle.zic_convert.specs.code.Progress.{ComeNext, IsSoFar, output}
 use Rattle.zic_convert.specs.code.Written.{EndsInRows}
 use Rattle.csv.proofs.WriteFacts.{appends-none}
 use Rattle.zic_convert.proofs.Coming.{all_texts, all_within, few_texts}
-use Rattle.zic_convert.proofs.Progress.{ends_after, ends_here, up_to_row}
+use Rattle.zic_convert.proofs.Progress.{ends_after, ends_here, up_to_fault, up_to_row}
 
 -- rows without a fault are as many as their records
 pub as_many : (layout : Layout) (files : List File) (most n : ℕ) (rs : List CsvRecord) (rows : RowsOf) → AreRowsOf layout files most n rs rows → rows.fault ≡ None → rows.count ≡ length rs
@@ -32,34 +32,37 @@ no_more layout files most n rs rows are none within =
 pub few : (layout : Layout) (files : List File) (most n : ℕ) (rs : List CsvRecord) (rows : RowsOf) → AreRowsOf layout files most n rs rows → rows.count ≤ length rs
 few layout files most n rs rows are = omega (arith, are.count, few_texts layout files most n rs are.texts rows.fault are.come)
 
-module _ {W : Type 0} (contents : W → Option (List ℕ)) (once : FilesAnswerOnce) (layout : Layout) (files : List File) (most : ℕ) (sound : AreSoundFiles files) (all : List CsvRecord)
-    (left : Option (List ℕ)) (n : ℕ) (old : Option (List ℕ)) (mid new : Counts W) (log now last : Option (List RowNote))
-    (far : IsSoFar layout files most all left n (output old (contents mid.inner) log now)) where
+module _ {W : Type 0} (contents : W → Option (List ℕ)) (once : FilesAnswerOnce) (layout : Layout) (files : List File) (most : ℕ) (limit : Option ℕ) (sound : AreSoundFiles files) (all : List CsvRecord)
+    (left : Option (List ℕ)) (n : ℕ) (more : Option ℕ) (old : Option (List ℕ)) (mid new : Counts W) (log now last : Option (List RowNote))
+    (far : IsSoFar layout files most limit all left n more (output old (contents mid.inner) log now)) where
   -- a row ends the run, or the writer failed
   pub ends_in_rows : (rs : List CsvRecord) → ComeNext layout left rs → (rows : RowsOf) → AreRowsOf layout files most (n + 1) rs rows → (why : RunStop)
-      → EndsInRows contents mid new now last layout files most (n + 1) rs rows why → EndsIn layout files most [] all why (output old (contents new.inner) log last)
-  ends_in_rows rs come rows are (stop.Row row kind) h =
-      subst (λ (k : ℕ). EndsAtRow layout files most [] all k kind (output old (contents new.inner) log last)) (sym h.1)
-      (up_to_row layout files most all left n old (contents mid.inner) (contents new.inner) log now last far rs rows are come kind h.0 h.2.0 h.3)
+      → EndsInRows contents mid new now last layout files most more (n + 1) rs rows why → EndsIn layout files most limit [] all why (output old (contents new.inner) log last)
+  ends_in_rows rs come rows are (stop.Row row kind) (inl (h, few)) = inl
+      (subst (λ (k : ℕ). EndsAtRow layout files most limit [] all k kind (output old (contents new.inner) log last)) (sym h.1)
+      (up_to_row layout files most limit all left n more old (contents mid.inner) (contents new.inner) log now last far rs rows are come kind h.0 h.2.0 h.3 few))
+  ends_in_rows rs come rows are (stop.Row row kind) (inr h) = inr
+      (up_to_fault layout files most limit all left n more old (contents mid.inner) (contents new.inner) log now last far rs rows are come once sound row kind h.front h.rest h.come h.before h.too_many
+      h.number h.wrote.0 h.noted)
   ends_in_rows rs come rows are stop.WriteFailed h =
-      ends_after layout files most all left n old (contents mid.inner) (contents new.inner) log now last far rs rows are come once sound h.done h.more h.parts h.front h.are
-      h.fails.part h.fails.starts h.fails.least stop.WriteFailed (inr refl) h.fails.wrote h.noted
+      ends_after layout files most limit all left n more old (contents mid.inner) (contents new.inner) log now last far rs rows are come once sound h.done h.more h.parts h.front h.are
+      h.fails.part h.fails.starts h.fails.least stop.WriteFailed (inr refl) h.fails.wrote h.noted h.few
   ends_in_rows rs come rows are (stop.Source fault) h = absurd h
   ends_in_rows rs come rows are stop.ReadFailed h = absurd h
   ends_in_rows rs come rows are stop.ColumnTooLong h = absurd h
   ends_in_rows rs come rows are stop.Memory h = absurd h
   ends_in_rows rs come rows are stop.NoThread h = absurd h
 
-module _ (once : FilesAnswerOnce) (layout : Layout) (files : List File) (most : ℕ) (sound : AreSoundFiles files) (all : List CsvRecord)
-    (left : Option (List ℕ)) (n : ℕ) (old mid : Option (List ℕ)) (log now : Option (List RowNote)) (far : IsSoFar layout files most all left n (output old mid log now)) where
+module _ (once : FilesAnswerOnce) (layout : Layout) (files : List File) (most : ℕ) (limit : Option ℕ) (sound : AreSoundFiles files) (all : List CsvRecord)
+    (left : Option (List ℕ)) (n : ℕ) (more : Option ℕ) (old mid : Option (List ℕ)) (log now : Option (List RowNote)) (far : IsSoFar layout files most limit all left n more (output old mid log now)) where
   -- nothing more was written
-  pub ends_still : (why : RunStop) → EndsAfterLines layout files most [] all why (output old mid log now)
-  ends_still why = ends_here layout files most all once sound left n old mid mid log now far why [] refl (inl refl) (appends-none mid)
+  pub ends_still : (why : RunStop) → EndsAfterLines layout files most limit [] all why (output old mid log now)
+  ends_still why = ends_here layout files most limit all once sound left n more old mid mid log now far why [] refl (inl refl) (appends-none mid)
 
 -- the writer failed as it passed on what it held back
-pub ends_at_flush : {W : Type 0} (contents : W → Option (List ℕ)) (once : FilesAnswerOnce) (layout : Layout) (files : List File) (most : ℕ) (sound : AreSoundFiles files) (all : List CsvRecord)
-    (left : Option (List ℕ)) (n : ℕ) (old : Option (List ℕ)) (mid new : Counts W) (log now : Option (List RowNote))
-    → IsSoFar layout files most all left n (output old (contents mid.inner) log now) → FailsWithin contents mid new []
-    → EndsAfterLines layout files most [] all stop.WriteFailed (output old (contents new.inner) log now)
-ends_at_flush contents once layout files most sound all left n old mid new log now far fails =
-    ends_here layout files most all once sound left n old (contents mid.inner) (contents new.inner) log now far stop.WriteFailed fails.part fails.starts (inr refl) fails.wrote
+pub ends_at_flush : {W : Type 0} (contents : W → Option (List ℕ)) (once : FilesAnswerOnce) (layout : Layout) (files : List File) (most : ℕ) (limit : Option ℕ) (sound : AreSoundFiles files) (all : List CsvRecord)
+    (left : Option (List ℕ)) (n : ℕ) (more : Option ℕ) (old : Option (List ℕ)) (mid new : Counts W) (log now : Option (List RowNote))
+    → IsSoFar layout files most limit all left n more (output old (contents mid.inner) log now) → FailsWithin contents mid new []
+    → EndsAfterLines layout files most limit [] all stop.WriteFailed (output old (contents new.inner) log now)
+ends_at_flush contents once layout files most limit sound all left n more old mid new log now far fails =
+    ends_here layout files most limit all once sound left n more old (contents mid.inner) (contents new.inner) log now far stop.WriteFailed fails.part fails.starts (inr refl) fails.wrote

@@ -36,6 +36,7 @@ use Rattle.zic_convert.proofs.Delimited.{own_line_delimited, records_alike}
 use Rattle.zic_convert.proofs.Logs.{notes_none}
 use Rattle.zic_convert.proofs.Options.{for_some, if_some}
 use Rattle.zic_convert.proofs.Sounds.{all_known}
+use Rattle.zic_convert.proofs.TooMany.{none_few}
 use Rattle.zic_convert.proofs.Totals.{all_come}
 
 module _ {W : Type 0} (contents : W → Option (List ℕ)) where
@@ -78,9 +79,9 @@ module _ {W : Type 0} (contents : W → Option (List ℕ)) where
     cause_at_head (halt.Stop stop.NoThread) ends = absurd ends
 
 -- not even a header was written whole
-no_line : FilesAnswerOnce → (layout : Layout) (files : List File) (most : ℕ) → AreSoundFiles files → (head : List ℕ) (row_records : List CsvRecord) (why : RunStop) (old new : Option (List ℕ)) (log : Option (List RowNote))
-    (part : List ℕ) → StartsWith head part → Appends old new part → ((part ≡ []) ⊎ (why ≡ stop.WriteFailed)) → EndsAfterLines layout files most head row_records why (output old new log log)
-no_line once layout files most sound head row_records why old new log part starts wrote exact =
+no_line : FilesAnswerOnce → (layout : Layout) (files : List File) (most : ℕ) (limit : Option ℕ) → AreSoundFiles files → (head : List ℕ) (row_records : List CsvRecord) (why : RunStop) (old new : Option (List ℕ)) (log : Option (List RowNote))
+    (part : List ℕ) → StartsWith head part → Appends old new part → ((part ≡ []) ⊎ (why ≡ stop.WriteFailed)) → EndsAfterLines layout files most limit head row_records why (output old new log log)
+no_line once layout files most limit sound head row_records why old new log part starts wrote exact =
     let (texts, fault, come) = all_come layout files most (all_known files sound once) 1 row_records in
     record {
       texts = texts;
@@ -93,10 +94,11 @@ no_line once layout files most sound head row_records why old new log part start
       exact = exact;
       wrote = wrote;
       noted = notes_none log;
+      few = none_few limit;
     }
 
 -- a column was converted in which the delimiter and commas are exchanged
-module _ (layout : Layout) (most : ℕ) (law : RecordsByAreExchanged) (own_law : TextsByAreExchanged) (can : is_delimiter layout.delimiter ≡ true) (known inside : Option (List ℕ))
+module _ (layout : Layout) (most : ℕ) (limit : Option ℕ) (law : RecordsByAreExchanged) (own_law : TextsByAreExchanged) (can : is_delimiter layout.delimiter ≡ true) (known inside : Option (List ℕ))
     (is : inside ≡ option_map (exchanged layout.delimiter) (option_map (read_by layout) known)) where
   within : (column : List ℕ) → known ≡ Some column → inside ≡ Some (exchanged layout.delimiter (read_by layout column))
   within column e = is ∙ ap (λ (o : Option (List ℕ)). option_map (exchanged layout.delimiter) (option_map (read_by layout) o)) e
@@ -107,14 +109,14 @@ module _ (layout : Layout) (most : ℕ) (law : RecordsByAreExchanged) (own_law :
   -- the rows of a column did not begin
   module _ {W : Type 0} (contents : W → Option (List ℕ)) (once : FilesAnswerOnce) (old new : Counts W) (log : Option (List RowNote)) (files : List File) (sound : AreSoundFiles files) where
     none_written : (why : RunStop) → IfSome known (λ column. (row_records : List CsvRecord) × AreRowRecords layout column row_records
-        × EndsAfterLines layout files most (own_line layout column) row_records why (output (contents old.inner) (contents old.inner) log log))
+        × EndsAfterLines layout files most limit (own_line layout column) row_records why (output (contents old.inner) (contents old.inner) log log))
     none_written why = if_some known _ (λ column e. (
       row_wholes column,
       records_alike layout law can column,
-      no_line once layout files most sound (own_line layout column) (row_wholes column) why (contents old.inner) (contents old.inner) log [] refl (appends-none (contents old.inner)) (inl refl),
+      no_line once layout files most limit sound (own_line layout column) (row_wholes column) why (contents old.inner) (contents old.inner) log [] refl (appends-none (contents old.inner)) (inl refl),
     ))
 
-    pub ends_at_head : (why : Halt) → HaltsAtHead contents old new layout inside why → EndsInColumn layout most known (stop_of why) (output (contents old.inner) (contents new.inner) log log) files
+    pub ends_at_head : (why : Halt) → HaltsAtHead contents old new layout inside why → EndsInColumn layout most limit known (stop_of why) (output (contents old.inner) (contents new.inner) log log) files
     ends_at_head halt.Unread same = rw same (none_written stop.ReadFailed)
     ends_at_head (halt.Stop stop.Memory) same = rw same (none_written stop.Memory)
     ends_at_head (halt.Stop stop.WriteFailed) failed = if_some known _ (λ column e.
@@ -122,7 +124,7 @@ module _ (layout : Layout) (most : ℕ) (law : RecordsByAreExchanged) (own_law :
         let same = own_line_delimited layout own_law can column in (
           row_wholes column,
           records_alike layout law can column,
-          no_line once layout files most sound (own_line layout column) (row_wholes column) stop.WriteFailed (contents old.inner) (contents new.inner) log fails.part
+          no_line once layout files most limit sound (own_line layout column) (row_wholes column) stop.WriteFailed (contents old.inner) (contents new.inner) log fails.part
               (subst (λ (l : List ℕ). StartsWith l fails.part) same fails.starts) fails.wrote (inr refl),
         ))
     ends_at_head (halt.Stop (stop.Row row kind)) ends = absurd ends
@@ -149,12 +151,12 @@ module _ (layout : Layout) (most : ℕ) (law : RecordsByAreExchanged) (own_law :
           below column (drop k (records_in layout (strip_bom text))) line (subst P all (for_some left _ rest p at)),
         ))
 
-    pub converts_column : (n : ℕ) → ConvertsRest layout most left n (output mid new log last) files → ConvertsColumn layout most known n (output old new log last) files
-    converts_column n = begun_as (λ row_records. WritesRows layout files most [] row_records n (output mid new log last))
-        (λ column row_records. WritesRows layout files most (own_line layout column) row_records n (output old new log last))
-        (λ column row_records line w. rows_below layout files most row_records (own_line layout column) old mid new log last line n w)
+    pub converts_column : (n : ℕ) → ConvertsRest layout most limit left n (output mid new log last) files → ConvertsColumn layout most limit known n (output old new log last) files
+    converts_column n = begun_as (λ row_records. WritesRows layout files most limit [] row_records n (output mid new log last))
+        (λ column row_records. WritesRows layout files most limit (own_line layout column) row_records n (output old new log last))
+        (λ column row_records line w. rows_below layout files most limit row_records (own_line layout column) old mid new log last line n w)
 
-    pub ends_column : (why : RunStop) → EndsInRest layout most left why (output mid new log last) files → EndsInColumn layout most known why (output old new log last) files
-    ends_column why = begun_as (λ row_records. EndsIn layout files most [] row_records why (output mid new log last))
-        (λ column row_records. EndsIn layout files most (own_line layout column) row_records why (output old new log last))
-        (λ column row_records line w. ends_below layout files most row_records (own_line layout column) old mid new log last line why w)
+    pub ends_column : (why : RunStop) → EndsInRest layout most limit left why (output mid new log last) files → EndsInColumn layout most limit known why (output old new log last) files
+    ends_column why = begun_as (λ row_records. EndsIn layout files most limit [] row_records why (output mid new log last))
+        (λ column row_records. EndsIn layout files most limit (own_line layout column) row_records why (output old new log last))
+        (λ column row_records line w. ends_below layout files most limit row_records (own_line layout column) old mid new log last line why w)

@@ -4,6 +4,7 @@ use Rattle.std.specs.Prelude.{slice_get, IfErr, IfOk, IfSome, IsSome}
 use Rattle.std.proofs.lemmas.List.{append-nil, length-append, length-take, take-append-drop}
 use Rattle.std.proofs.lemmas.Option.{same_Some, slice_get-get_or}
 use Rattle.std.proofs.lemmas.Grind.{flat_map-append}
+use Rattle.std.proofs.Math.Seq.{take-length}
 use mathlib.Core.Option.{some}
 use lib.ListN.{get_elem?}
 use Rattle.zic_columns.specs.Round.{ArePiecesOf, records_of}
@@ -14,17 +15,21 @@ use Rattle.zic_columns.specs.declared.columns.Taken.TheVariants as taken
 use Rattle.zic_pieces.specs.Task.{AreValues}
 use Rattle.zic_files.specs.File.{File}
 use Rattle.zic_convert.specs.code.Row.{AreRowsOf, RowsOf, csv_records_in, taken_rows, records_of_all}
-use Rattle.zic_convert.specs.code.Written.{EndsInPieces, EndsInRound, EndsInRows, WritesRound}
+use Rattle.zic_convert.specs.code.Written.{EndsInPieces, EndsInRound, EndsInRows, HasOneTooMany, WritesRound}
 use Rattle.zic_counted.specs.Counts.{Counts}
 use Rattle.zic_plan.specs.declared.layout.Layout.{Layout}
 use Rattle.zic_plan.specs.Noted.{RowNote}
 use Rattle.zic_base.specs.declared.run_stop.RunStop.{RunStop}
 use Rattle.zic_base.specs.declared.run_stop.RunStop.TheVariants as stop
 use Rattle.zic_convert.specs.code.Pieces.{ArePieces, AreRowsOfPiece, IsOutcomeOf, Pieces, joined}
+use Rattle.zic_base.specs.declared.row_fault.RowFault.{RowFault}
 use Rattle.zic_base.specs.declared.row_fault.RowKind.{RowKind}
 use Rattle.zic_convert.specs.LayoutRows.{RecordsConvertBy, faults_by}
+use Rattle.zic_convert.specs.Run.{AreFew}
+use Rattle.zic_convert.specs.declared.tally.Tally.{Tally}
 use Rattle.zic_convert.proofs.Coming.{come_more, faults_more, no_rows, rows_followed}
 use Rattle.zic_convert.proofs.PieceRecords.{as_many_in, as_many_of_all}
+use Rattle.zic_convert.proofs.TooMany.{few_of_front, row_within}
 
 module _ (layout : Layout) (files : List File) (most size : ℕ) where
   -- the rows of pieces, by those of each
@@ -87,25 +92,32 @@ joined_round p values sound are = rows_of_all p.layout p.files p.most p.size p.f
 wholes_split : (d i : ℕ) (pieces : List (List ℕ)) → records_of_all d pieces ≡ records_of_all d (take i pieces) ++ records_of_all d (drop i pieces)
 wholes_split d i pieces = ap (records_of_all d) (sym (take-append-drop i pieces)) ∙ flat_map-append (csv_records_in d) (take i pieces) (drop i pieces)
 
--- where pieces end, their rows do
-pub pieces_end : {W : Type 0} (contents : W → Option (List ℕ)) (old new : Counts W) (log log' : Option (List RowNote)) (p : Pieces) (values : List RowsOf) → ArePieces p
-    → AreValues (IsOutcomeOf p) (length p.pieces) values → (why : RunStop) → EndsInPieces contents old new log log' p.first values why
-    → EndsInRows contents old new log log' p.layout p.files p.most p.first (records_of_all p.layout.delimiter p.pieces) (joined values) why
-pieces_end contents old new log log' p values sound are (stop.Row row kind) h = h
-pieces_end contents old new log log' p values sound are stop.WriteFailed (i, fails, noted) = record {
-  done = records_of_all p.layout.delimiter (take i p.pieces);
-  more = records_of_all p.layout.delimiter (drop i p.pieces);
-  parts = wholes_split p.layout.delimiter i p.pieces;
-  front = joined (take i values);
-  are = rows_of_front p.layout p.files p.most p.size i p.first p.pieces values sound.cut are.0 (λ k rows at. (are.1 k rows at).0);
-  fails = fails;
-  noted = noted;
-}
-pieces_end contents old new log log' p values sound are (stop.Source fault) h = absurd h
-pieces_end contents old new log log' p values sound are stop.ReadFailed h = absurd h
-pieces_end contents old new log log' p values sound are stop.ColumnTooLong h = absurd h
-pieces_end contents old new log log' p values sound are stop.Memory h = absurd h
-pieces_end contents old new log log' p values sound are stop.NoThread h = absurd h
+-- where pieces with few faults end, their rows do
+module _ {W : Type 0} (contents : W → Option (List ℕ)) (old new : Counts W) (log log' : Option (List RowNote)) (p : Pieces) (limit : Option ℕ) (values : List RowsOf) (sound : ArePieces p)
+    (are : AreValues (IsOutcomeOf p) (length p.pieces) values) (few : AreFew limit (joined values).faults) where
+  pub pieces_end : (why : RunStop) → EndsInPieces contents old new log log' p.first values why
+      → EndsInRows contents old new log log' p.layout p.files p.most limit p.first (records_of_all p.layout.delimiter p.pieces) (joined values) why
+  pieces_end (stop.Row row kind) h = inl (h, few)
+  pieces_end stop.WriteFailed (i, fails, noted) =
+      let done = records_of_all p.layout.delimiter (take i p.pieces) in
+      let more = records_of_all p.layout.delimiter (drop i p.pieces) in
+      let parts = wholes_split p.layout.delimiter i p.pieces in
+      let are_front = rows_of_front p.layout p.files p.most p.size i p.first p.pieces values sound.cut are.0 (λ k rows at. (are.1 k rows at).0) in
+      record {
+        done = done;
+        more = more;
+        parts = parts;
+        front = joined (take i values);
+        are = are_front;
+        fails = fails;
+        noted = noted;
+        few = few_of_front p.layout p.files p.most limit p.first (records_of_all p.layout.delimiter p.pieces) done more parts (joined values) (joined_round p values sound are) (joined (take i values)) are_front few;
+      }
+  pieces_end (stop.Source fault) h = absurd h
+  pieces_end stop.ReadFailed h = absurd h
+  pieces_end stop.ColumnTooLong h = absurd h
+  pieces_end stop.Memory h = absurd h
+  pieces_end stop.NoThread h = absurd h
 
 -- so a round has no more than so many full pieces
 round_few : (size : ℕ) (pieces : List (List ℕ)) → ArePiecesOf size pieces → length (records_of pieces) ≤ length pieces * size
@@ -142,7 +154,7 @@ few_records p sound = omega (arith, as_many_of_all p.layout.delimiter p.pieces, 
 pub small_number : (p : Pieces) (i : ℕ) → ArePieces p → i < length p.pieces → p.first + i * p.size ≤ 281475076710657
 small_number p i sound lt = omega (arith, product i p.size (omega (arith, lt, sound.few)) sound.small, sound.first)
 
--- ---- the pieces up to one
+-- ---- the pieces up to one, or up to a row
 
 -- the first pieces of a round are pieces
 front_cut : (size n : ℕ) (pieces : List (List ℕ)) → 1 ≤ size → ArePiecesOf size pieces → ArePiecesOf size (take n pieces)
@@ -162,6 +174,22 @@ front_sound p i sound = record {
   least = sound.least;
   first = sound.first;
 }
+
+-- all pieces are the first of as many
+pub before_sound : (p : Pieces) (most : ℕ) → ArePieces p → ArePieces (record p { pieces = take (length p.pieces) p.pieces; most = most; stops = false })
+before_sound p most sound = rw (take-length p.pieces) (record {
+  some = sound.some;
+  small = sound.small;
+  cut = sound.cut;
+  few = sound.few;
+  least = sound.least;
+  first = sound.first;
+})
+
+-- a row with one fault too many has a number of its own
+pub row_positive : (p : Pieces) (limit : Option ℕ) (fault : RowFault) → ArePieces p → HasOneTooMany p limit fault → 1 ≤ fault.row
+row_positive p limit fault sound (rows, are, before, many) =
+    omega (arith, sound.least, (row_within p.layout p.files p.most limit p.first (records_of_all p.layout.delimiter p.pieces) rows are fault.row fault.kind before many).0)
 
 -- the records up to a piece, and its own
 front_records : (d size : ℕ) (pieces : List (List ℕ)) (i : ℕ) (piece : List ℕ) → ArePiecesOf size pieces → slice_get pieces i ≡ Some piece
@@ -233,21 +261,31 @@ front_of_all p i rows kind are has =
 -- ---- a round that is converted again up to a fault
 
 module _ (p : Pieces) (i : ℕ) (found : RowsOf) (sound : ArePieces p) (lt : i < length p.pieces) (of_piece : AreRowsOfPiece p i found) (has : IsSome found.fault) where
-  module _ {W : Type 0} (contents : W → Option (List ℕ)) (old new : Counts W) (log log' : Option (List RowNote)) where
+  module _ {W : Type 0} (limit : Option ℕ) (contents : W → Option (List ℕ)) (old new : Counts W) (log log' : Option (List RowNote)) where
     -- its rows are not all without a fault
-    pub again_ok : (count : ℕ) → WritesRound (record p { pieces = take (i + 1) p.pieces; stops = false }) contents old new log log' count → ⊥
-    again_ok count wrote = front_faults p i wrote.0 found sound lt wrote.1 of_piece has wrote.2.0
+    pub again_ok : (tally : Tally) → WritesRound (record p { pieces = take (i + 1) p.pieces; stops = false }) limit contents old new log log' tally → ⊥
+    again_ok tally wrote = front_faults p i wrote.0 found sound lt wrote.1 of_piece has wrote.2.0
 
-    by_fault : (rows : RowsOf) (fault : Option RowKind) → rows.fault ≡ fault → AreRowsOf p.layout p.files p.most p.first (records_of_all p.layout.delimiter (take (i + 1) p.pieces)) rows
-        → AreRowsOf p.layout p.files p.most p.first (records_of_all p.layout.delimiter p.pieces) rows
-    by_fault rows None e are = absurd (front_faults p i rows found sound lt are of_piece has e)
-    by_fault rows (Some kind) e are = front_of_all p i rows kind are e
-
-    rows_again : (rows : RowsOf) (why : RunStop)
-        → EndsInRows contents old new log log' p.layout p.files p.most p.first (records_of_all p.layout.delimiter (take (i + 1) p.pieces)) rows why
-        → EndsInRows contents old new log log' p.layout p.files p.most p.first (records_of_all p.layout.delimiter p.pieces) rows why
-    rows_again rows (stop.Row row kind) h = h
-    rows_again rows stop.WriteFailed h =
+    rows_again : (rows : RowsOf) (end : RowKind) → rows.fault ≡ Some end → (why : RunStop)
+        → EndsInRows contents old new log log' p.layout p.files p.most limit p.first (records_of_all p.layout.delimiter (take (i + 1) p.pieces)) rows why
+        → EndsInRows contents old new log log' p.layout p.files p.most limit p.first (records_of_all p.layout.delimiter p.pieces) rows why
+    rows_again rows end e (stop.Row row kind) (inl h) = inl h
+    rows_again rows end e (stop.Row row kind) (inr h) =
+        let d = p.layout.delimiter in
+        let front = records_of_all d (take (i + 1) p.pieces) in
+        let rest = records_of_all d (drop (i + 1) p.pieces) in
+        let come = rw e at h.come in
+        inr (record {
+          front = h.front;
+          rest = h.rest;
+          come = rw (wholes_split d (i + 1) p.pieces, e) (come_more p.layout p.files p.most p.first front rest (h.front ++ h.rest) end come);
+          before = h.before;
+          too_many = h.too_many;
+          number = h.number;
+          wrote = h.wrote;
+          noted = h.noted;
+        })
+    rows_again rows end e stop.WriteFailed h =
         let d = p.layout.delimiter in
         let rest = records_of_all d (drop (i + 1) p.pieces) in
         record {
@@ -258,17 +296,24 @@ module _ (p : Pieces) (i : ℕ) (found : RowsOf) (sound : ArePieces p) (lt : i <
           are = h.are;
           fails = h.fails;
           noted = h.noted;
+          few = h.few;
         }
-    rows_again rows (stop.Source fault) h = absurd h
-    rows_again rows stop.ReadFailed h = absurd h
-    rows_again rows stop.ColumnTooLong h = absurd h
-    rows_again rows stop.Memory h = absurd h
-    rows_again rows stop.NoThread h = absurd h
+    rows_again rows end e (stop.Source fault) h = absurd h
+    rows_again rows end e stop.ReadFailed h = absurd h
+    rows_again rows end e stop.ColumnTooLong h = absurd h
+    rows_again rows end e stop.Memory h = absurd h
+    rows_again rows end e stop.NoThread h = absurd h
+
+    by_fault : (rows : RowsOf) (fault : Option RowKind) → rows.fault ≡ fault → AreRowsOf p.layout p.files p.most p.first (records_of_all p.layout.delimiter (take (i + 1) p.pieces)) rows → (why : RunStop)
+        → EndsInRows contents old new log log' p.layout p.files p.most limit p.first (records_of_all p.layout.delimiter (take (i + 1) p.pieces)) rows why
+        → EndsInRound p limit contents old new log log' why
+    by_fault rows None e are why ends = absurd (front_faults p i rows found sound lt are of_piece has e)
+    by_fault rows (Some kind) e are why ends = inr (rows, front_of_all p i rows kind are e, rows_again rows kind e why ends)
 
     -- it ends as the whole does
-    pub again_err : (why : RunStop) → EndsInRound (record p { pieces = take (i + 1) p.pieces; stops = false }) contents old new log log' why → EndsInRound p contents old new log log' why
+    pub again_err : (why : RunStop) → EndsInRound (record p { pieces = take (i + 1) p.pieces; stops = false }) limit contents old new log log' why → EndsInRound p limit contents old new log log' why
     again_err why (inl memory) = inl memory
-    again_err why (inr ends) = inr (ends.0, by_fault ends.0 ends.0.fault refl ends.1, rows_again ends.0 why ends.2)
+    again_err why (inr ends) = by_fault ends.0 ends.0.fault refl ends.1 why ends.2
 
 -- what holds of a value where more does
 pub on_ok : {X E : Type 0} (r : Result X E) (P Q : X → Type 0) → ((x : X) → P x → Q x) → IfOk r P → IfOk r Q

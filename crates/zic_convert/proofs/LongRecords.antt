@@ -1,5 +1,5 @@
 -- The end of a run at a record that has more bytes than it may have.
-use Rattle.std.proofs.Common.{◌≡◌, ◌+◌, ℕ, List, [], ◌∷◌, Option, Some, inr, refl, sym, ap, subst, arith}
+use Rattle.std.proofs.Common.{◌≡◌, ◌+◌, ℕ, List, [], ◌∷◌, Option, Some, inl, inr, refl, sym, ap, subst, arith}
 use Rattle.zic_columns.specs.Own.{CsvRecord}
 use Rattle.zic_counted.specs.Counts.{Counts}
 use Rattle.zic_files.specs.File.{File}
@@ -14,6 +14,7 @@ use Rattle.zic_convert.specs.code.Row.{AreRowsOf, RowsOf, empty_rows}
 use Rattle.zic_convert.specs.code.Written.{EndsInRecords, IsStopAt}
 use Rattle.zic_convert.proofs.Coming.{no_rows, one_fault}
 use Rattle.zic_convert.proofs.Logs.{notes_none}
+use Rattle.zic_convert.proofs.TooMany.{none_few}
 
 -- a writer that failed, or a row that ends the run
 pub stop_cause : {W : Type 0} (contents : W → Option (List ℕ)) (old new : Counts W) (row : ℕ) (kind : RowKind) (why : RunStop) → IsStopAt contents old new row kind why → IsOwnCause old new why
@@ -25,7 +26,7 @@ stop_cause contents old new row kind stop.ColumnTooLong is = absurd is
 stop_cause contents old new row kind stop.Memory is = absurd is
 stop_cause contents old new row kind stop.NoThread is = absurd is
 
-module _ {W : Type 0} (contents : W → Option (List ℕ)) (old new : Counts W) (layout : Layout) (files : List File) (most number : ℕ) (given : CsvRecord) (kind : RowKind)
+module _ {W : Type 0} (contents : W → Option (List ℕ)) (old new : Counts W) (layout : Layout) (files : List File) (most : ℕ) (limit : Option ℕ) (number : ℕ) (given : CsvRecord) (kind : RowKind)
     (ends : ends_by layout files most number given ≡ Some kind) (log : Option (List RowNote)) where
   rows : RowsOf
   rows = record { text = []; count = 0; fault = Some kind; faults = [] }
@@ -36,9 +37,9 @@ module _ {W : Type 0} (contents : W → Option (List ℕ)) (old new : Counts W) 
       let at : number ≡ number + 0 = omega arith in
       one_fault layout files most number [] [] 0 [] (no_rows layout files most number) given [] kind (subst (λ (n : ℕ). ends_by layout files most n given ≡ Some kind) at ends)
 
-  pub long_stops : (why : RunStop) → IsStopAt contents old new number kind why → EndsInRecords layout files most number (given ∷ []) contents old new log log why
+  pub long_stops : (why : RunStop) → IsStopAt contents old new number kind why → EndsInRecords layout files most limit number (given ∷ []) contents old new log log why
   unfolding rows
-  long_stops (stop.Row at fault) is = inr (rows, no_row, (ap Some (sym is.1), omega (arith, is.0), is.2, notes_none log))
+  long_stops (stop.Row at fault) is = inr (rows, no_row, inl ((ap Some (sym is.1), omega (arith, is.0), is.2, notes_none log), none_few limit))
   long_stops stop.WriteFailed is = inr (
     rows,
     no_row,
@@ -50,6 +51,7 @@ module _ {W : Type 0} (contents : W → Option (List ℕ)) (old new : Counts W) 
       are = no_rows layout files most number;
       fails = record { part = is.part; starts = is.starts; least = refl; wrote = is.wrote; failed = is.failed };
       noted = notes_none log;
+      few = none_few limit;
     },
   )
   long_stops (stop.Source fault) is = absurd is

@@ -16,10 +16,14 @@ use Rattle.zic_base.specs.declared.run_stop.RunStop.TheVariants as stop
 use Rattle.zic_convert.specs.LayoutRows.{ending, fault_by, faulty_text, if_aside, unless_aside}
 use Rattle.zic_convert.specs.code.Pieces.{joined}
 use Rattle.zic_convert.specs.code.Row.{AreNext, AreRowsOf, RowsOf, empty_rows}
-use Rattle.zic_convert.specs.code.Written.{EndsInPieces, EndsInRows}
+use Rattle.zic_convert.specs.Run.{AreFew, IsOneTooMany}
+use Rattle.zic_convert.specs.code.Written.{EndsInPieces, EndsInRecords, EndsInRows, IsStopAt}
+use Rattle.zic_convert.proofs.Bytes.{starts_later}
 use Rattle.zic_convert.proofs.Coming.{no_rows, one_fault, rows_followed, too_many_ends}
 use Rattle.zic_convert.proofs.MoreRows.{end_added, row_added}
+use Rattle.zic_convert.proofs.Logs.{notes_none}
 use Rattle.zic_convert.proofs.NextRows.{next_end, next_faulty}
+use Rattle.zic_convert.proofs.TooMany.{none_few, one_noted}
 
 module _ (layout : Layout) (files : List File) (most number : ℕ) (given : CsvRecord) (kind : RowKind) (is : fault_by layout files most number given ≡ Some kind) where
   at : number + 0 ≡ number
@@ -57,43 +61,87 @@ pub alone : (layout : Layout) (files : List File) (most number : ℕ) (given : C
     → AreRowsOf layout files most number (given ∷ []) (joined (rows ∷ []))
 alone layout files most number given rows are = rows_followed layout files most number (given ∷ []) [] rows (joined []) rows.fault refl are (λ none. no_rows layout files most (number + 1))
 
--- and end as they do
-pub alone_ends : {W : Type 0} (contents : W → Option (List ℕ)) (old new : Counts W) (log log' : Option (List RowNote)) (layout : Layout) (files : List File) (most number : ℕ) (given : CsvRecord) (rows : RowsOf)
-    → AreRowsOf layout files most number (given ∷ []) rows → (why : RunStop) → EndsInPieces contents old new log log' number (rows ∷ []) why
-    → EndsInRows contents old new log log' layout files most number (given ∷ []) (joined (rows ∷ [])) why
-alone_ends contents old new log log' layout files most number given rows are (stop.Row row kind) h = h
-alone_ends contents old new log log' layout files most number given rows are stop.WriteFailed (zero, fails, noted) = record {
-  done = [];
-  more = given ∷ [];
-  parts = refl;
-  front = joined [];
-  are = no_rows layout files most number;
-  fails = fails;
-  noted = noted;
-}
-alone_ends contents old new log log' layout files most number given rows are stop.WriteFailed (suc zero, fails, noted) = record {
-  done = given ∷ [];
-  more = [];
-  parts = refl;
-  front = joined (rows ∷ []);
-  are = alone layout files most number given rows are;
-  fails = fails;
-  noted = noted;
-}
-alone_ends contents old new log log' layout files most number given rows are stop.WriteFailed (suc (suc i), fails, noted) = record {
-  done = given ∷ [];
-  more = [];
-  parts = refl;
-  front = joined (rows ∷ []);
-  are = alone layout files most number given rows are;
-  fails = fails;
-  noted = noted;
-}
-alone_ends contents old new log log' layout files most number given rows are (stop.Source fault) h = absurd h
-alone_ends contents old new log log' layout files most number given rows are stop.ReadFailed h = absurd h
-alone_ends contents old new log log' layout files most number given rows are stop.ColumnTooLong h = absurd h
-alone_ends contents old new log log' layout files most number given rows are stop.Memory h = absurd h
-alone_ends contents old new log log' layout files most number given rows are stop.NoThread h = absurd h
+-- and end as they do, where they have few faults
+module _ {W : Type 0} (contents : W → Option (List ℕ)) (old new : Counts W) (log log' : Option (List RowNote)) (layout : Layout) (files : List File) (most : ℕ) (limit : Option ℕ) (number : ℕ) (given : CsvRecord)
+    (rows : RowsOf) (are : AreRowsOf layout files most number (given ∷ []) rows) where
+  pub alone_ends : (why : RunStop) → AreFew limit (joined (rows ∷ [])).faults → EndsInPieces contents old new log log' number (rows ∷ []) why
+      → EndsInRows contents old new log log' layout files most limit number (given ∷ []) (joined (rows ∷ [])) why
+  alone_ends (stop.Row row kind) few h = inl (h, few)
+  alone_ends stop.WriteFailed few (zero, fails, noted) = record {
+    done = [];
+    more = given ∷ [];
+    parts = refl;
+    front = joined [];
+    are = no_rows layout files most number;
+    fails = fails;
+    noted = noted;
+    few = none_few limit;
+  }
+  alone_ends stop.WriteFailed few (suc zero, fails, noted) = record {
+    done = given ∷ [];
+    more = [];
+    parts = refl;
+    front = joined (rows ∷ []);
+    are = alone layout files most number given rows are;
+    fails = fails;
+    noted = noted;
+    few = few;
+  }
+  alone_ends stop.WriteFailed few (suc (suc i), fails, noted) = record {
+    done = given ∷ [];
+    more = [];
+    parts = refl;
+    front = joined (rows ∷ []);
+    are = alone layout files most number given rows are;
+    fails = fails;
+    noted = noted;
+    few = few;
+  }
+  alone_ends (stop.Source fault) few h = absurd h
+  alone_ends stop.ReadFailed few h = absurd h
+  alone_ends stop.ColumnTooLong few h = absurd h
+  alone_ends stop.Memory few h = absurd h
+  alone_ends stop.NoThread few h = absurd h
+
+  -- a row alone that has one fault too many is the first, and nothing is written
+  module _ (row : ℕ) (kind : RowKind) (before : List RowNote) (many : IsOneTooMany limit (joined (rows ∷ [])).faults row kind before) where
+    all : AreRowsOf layout files most number (given ∷ []) (joined (rows ∷ []))
+    all = alone layout files most number given rows are
+
+    pub alone_stops : (why : RunStop) → IsStopAt contents old new row kind why → EndsInRecords layout files most limit number (given ∷ []) contents old new log log why
+    alone_stops (stop.Row at fault) is =
+        let first = one_noted layout files most number given before many.after _ (sym all.faults ∙ many.parts) in
+        inr (joined (rows ∷ []), all, inr (record {
+          front = [];
+          rest = all.texts;
+          come = all.come;
+          before = [];
+          too_many = rw (is.0, is.1) (subst (λ (l : List RowNote). IsOneTooMany limit (joined (rows ∷ [])).faults row kind l) first.0 many);
+          number = omega (arith, is.0, first.1);
+          wrote = is.2;
+          noted = notes_none log;
+        }))
+    alone_stops stop.WriteFailed is = inr (joined (rows ∷ []), all, record {
+      done = [];
+      more = given ∷ [];
+      parts = refl;
+      front = joined [];
+      are = no_rows layout files most number;
+      fails = record {
+        part = is.part;
+        starts = starts_later [] [] is.part (joined (rows ∷ [])).text is.starts;
+        least = refl;
+        wrote = is.wrote;
+        failed = is.failed;
+      };
+      noted = notes_none log;
+      few = none_few limit;
+    })
+    alone_stops (stop.Source fault) is = absurd is
+    alone_stops stop.ReadFailed is = absurd is
+    alone_stops stop.ColumnTooLong is = absurd is
+    alone_stops stop.Memory is = absurd is
+    alone_stops stop.NoThread is = absurd is
 
 -- the text of an open line that doesn't end the run is its own bytes, unless it is put aside
 pub open_text : (layout : Layout) (files : List File) (most number : ℕ) (kind : RowKind) (own : List ℕ) → fault_by layout files most number (open_record own) ≡ Some kind → ending layout.at_fault layout.records (Some kind) ≡ None

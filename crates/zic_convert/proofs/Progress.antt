@@ -25,15 +25,17 @@ use Rattle.zic_base.specs.declared.row_fault.RowKind.{RowKind}
 use Rattle.zic_base.specs.declared.run_stop.RunStop.{RunStop}
 use Rattle.zic_base.specs.declared.run_stop.RunStop.TheVariants as stop
 use Rattle.zic_convert.specs.LayoutRows.{RecordsConvertBy, faults_by}
-use Rattle.zic_convert.specs.Run.{EndsAfterLines, EndsAtRow, Notes, WritesRows}
+use Rattle.zic_convert.specs.Run.{AreFew, EndsAfterLines, EndsAtFaults, EndsAtRow, IsOneTooMany, Notes, WritesRows}
 use Rattle.zic_convert.specs.code.Progress.{ComeNext, IsSoFar, Takes, longest_of, output}
 use Rattle.zic_convert.specs.code.Row.{AreRowsOf, RowsOf, empty_rows, records_in, taken_rows}
+use Rattle.zic_convert.specs.code.Written.{IsLeft}
 use Rattle.zic_convert.proofs.Bytes.{starts_later}
 use Rattle.zic_convert.proofs.Coming.{all_texts, come_after, come_more, faults_after, faults_more, no_rows}
 use Rattle.zic_convert.proofs.Fronts.{faults_front, front_texts, take_after}
 use Rattle.zic_convert.proofs.Logs.{notes_more, notes_none}
 use Rattle.zic_convert.proofs.Options.{for_some, if_some}
 use Rattle.zic_convert.proofs.Sounds.{all_known}
+use Rattle.zic_convert.proofs.TooMany.{all_left, faults_begin, left_few, left_then, more_few, none_few, too_many_of_more, too_many_then}
 use Rattle.zic_convert.proofs.Totals.{more_than}
 use Rattle.zic_convert.proofs.PieceRecords.{all_put}
 
@@ -70,10 +72,10 @@ long_comes_next layout left long bytes e = by_records (records_by layout.records
 pub taken_come_next : (layout : Layout) (old new : Option (List ℕ)) (rs : List CsvRecord) → Takes layout old new rs → ComeNext layout old rs
 taken_come_next layout old new rs takes = if_some old _ (λ bytes e. (let t = for_some old _ bytes takes e in (records_in layout t.0, t.2)))
 
-module _ (layout : Layout) (files : List File) (most : ℕ) (all : List CsvRecord) where
+module _ (layout : Layout) (files : List File) (most : ℕ) (limit : Option ℕ) (all : List CsvRecord) where
   -- nothing yet
   pub at_start : (known held : Option (List ℕ)) (log : Option (List RowNote)) (bytes : List ℕ) → known ≡ Some bytes → all ≡ records_in layout bytes
-      → IsSoFar layout files most all known 0 (output held held log log)
+      → IsSoFar layout files most limit all known 0 limit (output held held log log)
   at_start known held log bytes is same = record {
     row_records = [];
     texts = [];
@@ -84,12 +86,13 @@ module _ (layout : Layout) (files : List File) (most : ℕ) (all : List CsvRecor
     counted = refl;
     wrote = appends-none held;
     noted = notes_none log;
+    few = all_left limit;
   }
 
   -- what is left changes, where no record was taken
-  pub none_taken : (left next : Option (List ℕ)) (n : ℕ) (old new : Option (List ℕ)) (log now : Option (List RowNote)) → Takes layout left next []
-      → IsSoFar layout files most all left n (output old new log now) → IsSoFar layout files most all next n (output old new log now)
-  none_taken left next n old new log now takes far =
+  pub none_taken : (left next : Option (List ℕ)) (n : ℕ) (more : Option ℕ) (old new : Option (List ℕ)) (log now : Option (List RowNote)) → Takes layout left next []
+      → IsSoFar layout files most limit all left n more (output old new log now) → IsSoFar layout files most limit all next n more (output old new log now)
+  none_taken left next n more old new log now takes far =
       let t = for_some left _ far.rest takes far.bytes in
       record {
         row_records = far.row_records;
@@ -101,12 +104,13 @@ module _ (layout : Layout) (files : List File) (most : ℕ) (all : List CsvRecor
         counted = far.counted;
         wrote = far.wrote;
         noted = far.noted;
+        few = far.few;
       }
 
   -- no record is left, and what the writer held back is passed on
-  pub all_written : (left : Option (List ℕ)) (n : ℕ) (old mid new : Option (List ℕ)) (log now : Option (List RowNote)) → IsSoFar layout files most all left n (output old mid log now)
-      → HasNoRecord layout.records left → Appends mid new [] → WritesRows layout files most [] all n (output old new log now)
-  all_written left n old mid new log now far none flushed =
+  pub all_written : (left : Option (List ℕ)) (n : ℕ) (more : Option ℕ) (old mid new : Option (List ℕ)) (log now : Option (List RowNote)) → IsSoFar layout files most limit all left n more (output old mid log now)
+      → HasNoRecord layout.records left → Appends mid new [] → WritesRows layout files most limit [] all n (output old new log now)
+  all_written left n more old mid new log now far none flushed =
       let last : records_in layout far.rest ≡ [] = ap (map (exchanged_record layout.delimiter)) (for_some left _ far.rest none far.bytes) in
       let same = far.goes_on ∙ ap (λ (r : List CsvRecord). far.row_records ++ r) last ∙ append-nil far.row_records in (
         record {
@@ -116,9 +120,10 @@ module _ (layout : Layout) (files : List File) (most : ℕ) (all : List CsvRecor
           wrote = subst (λ (l : List ℕ). Appends old new l) (append-nil (concat far.texts)) (appends-more old mid new (concat far.texts) [] far.wrote flushed);
         },
         subst (λ (r : List CsvRecord). Notes log now (faults_by layout files most 1 r)) (sym same) far.noted,
+        subst (λ (r : List CsvRecord). AreFew limit (faults_by layout files most 1 r)) (sym same) (left_few limit more (faults_by layout files most 1 far.row_records) far.few),
       )
 
-  module _ (left : Option (List ℕ)) (n : ℕ) (old mid new : Option (List ℕ)) (log now last : Option (List RowNote)) (far : IsSoFar layout files most all left n (output old mid log now)) where
+  module _ (left : Option (List ℕ)) (n : ℕ) (more : Option ℕ) (old mid new : Option (List ℕ)) (log now last : Option (List RowNote)) (far : IsSoFar layout files most limit all left n more (output old mid log now)) where
     number : n + 1 ≡ 1 + length far.texts
     number = omega (arith, far.counted)
 
@@ -146,10 +151,14 @@ module _ (layout : Layout) (files : List File) (most : ℕ) (all : List CsvRecor
       noted_on noted = subst (λ (l : List RowNote). Notes log last l) (ap (λ (l : List RowNote). faults_by layout files most 1 far.row_records ++ l) are.faults ∙ sym (faults_on rs))
           (notes_more log now last _ rows.faults far.noted noted)
 
+      few_on : (more' : Option ℕ) → IsLeft more rows.faults more' → IsLeft limit (faults_by layout files most 1 (far.row_records ++ rs)) more'
+      few_on more' is = subst (λ (l : List RowNote). IsLeft limit l more') (ap (λ (l : List RowNote). faults_by layout files most 1 far.row_records ++ l) are.faults ∙ sym (faults_on rs))
+          (left_then limit more more' (faults_by layout files most 1 far.row_records) rows.faults far.few is)
+
       -- more rows
-      pub later : (next : Option (List ℕ)) → rows.fault ≡ None → Takes layout left next rs → Appends mid new rows.text → Notes now last rows.faults
-          → IsSoFar layout files most all next (n + rows.count) (output old new log last)
-      later next none takes wrote noted =
+      pub later : (next : Option (List ℕ)) (more' : Option ℕ) → rows.fault ≡ None → Takes layout left next rs → Appends mid new rows.text → Notes now last rows.faults → IsLeft more rows.faults more'
+          → IsSoFar layout files most limit all next (n + rows.count) more' (output old new log last)
+      later next more' none takes wrote noted is =
           let t = for_some left _ far.rest takes far.bytes in
           record {
             row_records = far.row_records ++ rs;
@@ -161,35 +170,68 @@ module _ (layout : Layout) (files : List File) (most : ℕ) (all : List CsvRecor
             counted = omega (arith, far.counted, are.count, length-append far.texts are.texts);
             wrote = wrote_on are.texts rows.text are.text wrote;
             noted = noted_on noted;
+            few = few_on more' is;
           }
 
       module _ (come : ComeNext layout left rs) where
         -- the rows up to one that ends the run
-        pub up_to_row : (kind : RowKind) → rows.fault ≡ Some kind → Appends mid new rows.text → Notes now last rows.faults
-            → EndsAtRow layout files most [] all (n + 1 + rows.count) kind (output old new log last)
-        up_to_row kind some wrote noted =
-            let (more, next) = for_some left _ far.rest come far.bytes in
+        pub up_to_row : (kind : RowKind) → rows.fault ≡ Some kind → Appends mid new rows.text → Notes now last rows.faults → AreFew more rows.faults
+            → EndsAtRow layout files most limit [] all (n + 1 + rows.count) kind (output old new log last)
+        up_to_row kind some wrote noted few =
+            let (others, next) = for_some left _ far.rest come far.bytes in
             let row_record = far.goes_on ∙ ap (λ (r : List CsvRecord). far.row_records ++ r) next in
             let ends = rw some at are.come in
-            let same = ap (faults_by layout files most 1) row_record ∙ faults_on (rs ++ more)
-            ∙ ap (λ (l : List RowNote). faults_by layout files most 1 far.row_records ++ l) (faults_more layout files most (n + 1) rs more are.texts kind ends) ∙ sym (faults_on rs) in (
+            let same = ap (faults_by layout files most 1) row_record ∙ faults_on (rs ++ others)
+            ∙ ap (λ (l : List RowNote). faults_by layout files most 1 far.row_records ++ l) (faults_more layout files most (n + 1) rs others are.texts kind ends ∙ sym are.faults) in (
               record {
                 texts = far.texts ++ are.texts;
-                converts = rw row_record (come_on (rs ++ more) are.texts (Some kind) (come_more layout files most (n + 1) rs more are.texts kind ends));
+                converts = rw row_record (come_on (rs ++ others) are.texts (Some kind) (come_more layout files most (n + 1) rs others are.texts kind ends));
                 number = omega (arith, far.counted, are.count, length-append far.texts are.texts);
                 wrote = wrote_on are.texts rows.text are.text wrote;
               },
-              subst (λ (l : List RowNote). Notes log last l) (sym same) (noted_on noted),
+              subst (λ (l : List RowNote). Notes log last l) (sym same) (notes_more log now last _ rows.faults far.noted noted),
+              subst (λ (l : List RowNote). AreFew limit l) (sym same) (more_few limit more _ rows.faults far.few few),
             )
+
+        -- the rows up to one with one fault too many
+        pub up_to_fault : (once : FilesAnswerOnce) → AreSoundFiles files → (row : ℕ) (kind : RowKind) (front rest : List (List ℕ)) → RecordsConvertBy layout files most (n + 1) rs (front ++ rest) rows.fault
+            → (before : List RowNote) → IsOneTooMany more rows.faults row kind before → row ≡ n + 1 + length front → Appends mid new (concat front) → Notes now last before
+            → EndsAtFaults layout files most limit [] all row kind (output old new log last)
+        up_to_fault once sound row kind front rest comes before many number wrote noted =
+            let (others, next) = for_some left _ far.rest come far.bytes in
+            let row_record = far.goes_on ∙ ap (λ (r : List CsvRecord). far.row_records ++ r) next in
+            let made : RowsOf = record { text = concat (front ++ rest); count = length (front ++ rest); fault = rows.fault; faults = rows.faults } in
+            let are_made : AreRowsOf layout files most (n + 1) rs made = record { texts = front ++ rest; come = comes; text = refl; count = refl; faults = are.faults } in
+            let (texts, end, all_come, later, longer) = more_than layout files most (all_known files sound once) (n + 1) rs others made are_made in
+            let so_far = faults_by layout files most 1 far.row_records in
+            let (tail, begin) = faults_begin layout files most (n + 1) rs others in
+            let faults : faults_by layout files most 1 all ≡ (so_far ++ rows.faults) ++ tail =
+            ap (faults_by layout files most 1) row_record ∙ faults_on (rs ++ others) ∙ ap (λ (l : List RowNote). so_far ++ l) (begin ∙ ap (λ (l : List RowNote). l ++ tail) (sym are.faults))
+            ∙ sym (append_assoc so_far rows.faults tail) in
+            let split : far.texts ++ texts ≡ (far.texts ++ front) ++ (rest ++ later) =
+            ap (λ (l : List (List ℕ)). far.texts ++ l) (longer ∙ append_assoc front rest later) ∙ sym (append_assoc far.texts front (rest ++ later)) in
+            let long : row - 1 ≡ length (far.texts ++ front) = omega (arith, number, far.counted, length-append far.texts front) in
+            let firsts : take (row - 1) (far.texts ++ texts) ≡ far.texts ++ front =
+            ap₂ (λ (k : ℕ) (l : List (List ℕ)). take k l) long split ∙ take-append_seam (far.texts ++ front) (rest ++ later) in
+            record {
+              texts = far.texts ++ texts;
+              fault = end;
+              come = rw row_record (come_on (rs ++ others) texts end all_come);
+              before = so_far ++ before;
+              too_many = subst (λ (l : List RowNote). IsOneTooMany limit l row kind (so_far ++ before)) (sym faults)
+                  (too_many_of_more limit (so_far ++ rows.faults) tail row kind (so_far ++ before) (too_many_then limit more so_far rows.faults row kind before far.few many));
+              wrote = subst (λ (l : List (List ℕ)). Appends old new (concat l)) (sym firsts) (wrote_on front (concat front) refl wrote);
+              noted = notes_more log now last so_far before far.noted noted;
+            }
 
         -- The rows of the first of these records, and perhaps a beginning of the text of the others, after which nothing was noted.
         pub ends_after : (once : FilesAnswerOnce) → AreSoundFiles files → (done others : List CsvRecord) → rs ≡ done ++ others → (front : RowsOf) → AreRowsOf layout files most (n + 1) done front
             → (part : List ℕ) → StartsWith rows.text part → StartsWith part front.text → (why : RunStop) → (part ≡ front.text) ⊎ (why ≡ stop.WriteFailed) → Appends mid new part
-            → Notes now last front.faults → EndsAfterLines layout files most [] all why (output old new log last)
-        ends_after once sound done others parts front are_front part starts least why exact wrote noted =
-            let (more, next) = for_some left _ far.rest come far.bytes in
+            → Notes now last front.faults → AreFew more front.faults → EndsAfterLines layout files most limit [] all why (output old new log last)
+        ends_after once sound done others parts front are_front part starts least why exact wrote noted few =
+            let (beyond, next) = for_some left _ far.rest come far.bytes in
             let row_record = far.goes_on ∙ ap (λ (r : List CsvRecord). far.row_records ++ r) next in
-            let (texts, end, comes, later, longer) = more_than layout files most (all_known files sound once) (n + 1) rs more rows are in
+            let (texts, end, comes, later, longer) = more_than layout files most (all_known files sound once) (n + 1) rs beyond rows are in
             let (rest, front_first) = front_texts once layout files most sound (n + 1) rs done others parts rows are front are_front in
             let m = length are_front.texts in
             let base = concat far.texts in
@@ -204,18 +246,18 @@ module _ (layout : Layout) (files : List File) (most : ℕ) (all : List CsvRecor
             ap₂ (λ (k : ℕ) (l : List (List ℕ)). take k l) long split ∙ take-append_seam (far.texts ++ are_front.texts) (rest ++ later) in
             let lines : concat (take (suc (n + m)) ([] ∷ (far.texts ++ texts))) ≡ base ++ front.text =
             ap concat firsts ∙ concat-append far.texts are_front.texts ∙ ap (λ (l : List ℕ). base ++ l) (sym are_front.text) in
-            let regroup : all ≡ far.row_records ++ (done ++ (others ++ more)) = row_record ∙ ap (λ (l : List CsvRecord). far.row_records ++ l) (ap (λ (l : List CsvRecord). l ++ more) parts ∙ append_assoc done others more) in
+            let regroup : all ≡ far.row_records ++ (done ++ (others ++ beyond)) = row_record ∙ ap (λ (l : List CsvRecord). far.row_records ++ l) (ap (λ (l : List CsvRecord). l ++ beyond) parts ∙ append_assoc done others beyond) in
             let upto : suc (n + m) - 1 ≡ length far.row_records + m = omega (arith, many) in
-            let taken : take (suc (n + m) - 1) all ≡ far.row_records ++ take m (done ++ (others ++ more)) =
-            ap₂ (λ (k : ℕ) (l : List CsvRecord). take k l) upto regroup ∙ take_after far.row_records (done ++ (others ++ more)) m in
+            let taken : take (suc (n + m) - 1) all ≡ far.row_records ++ take m (done ++ (others ++ beyond)) =
+            ap₂ (λ (k : ℕ) (l : List CsvRecord). take k l) upto regroup ∙ take_after far.row_records (done ++ (others ++ beyond)) m in
             let faults : faults_by layout files most 1 (take (suc (n + m) - 1) all) ≡ faults_by layout files most 1 far.row_records ++ front.faults =
-            ap (faults_by layout files most 1) taken ∙ faults_on (take m (done ++ (others ++ more)))
+            ap (faults_by layout files most 1) taken ∙ faults_on (take m (done ++ (others ++ beyond)))
             ∙ ap (λ (l : List RowNote). faults_by layout files most 1 far.row_records ++ l)
-            (faults_front layout files most (n + 1) done (others ++ more) are_front.texts front.fault are_front.come ∙ sym are_front.faults) in
+            (faults_front layout files most (n + 1) done (others ++ beyond) are_front.texts front.fault are_front.come ∙ sym are_front.faults) in
             record {
               texts = far.texts ++ texts;
               fault = end;
-              come = rw row_record (come_on (rs ++ more) texts end comes);
+              come = rw row_record (come_on (rs ++ beyond) texts end comes);
               lines = suc (n + m);
               part = base ++ part;
               starts = subst (λ (l : List ℕ). StartsWith l (base ++ part)) joined (starts_later base rows.text part (concat later) starts);
@@ -227,13 +269,14 @@ module _ (layout : Layout) (files : List File) (most : ℕ) (all : List CsvRecor
               ];
               wrote = appends-more old mid new base part far.wrote wrote;
               noted = subst (λ (l : List RowNote). Notes log last l) (sym faults) (notes_more log now last _ front.faults far.noted noted);
+              few = subst (λ (l : List RowNote). AreFew limit l) (sym faults) (more_few limit more _ front.faults far.few few);
             }
 
   -- nothing more was written, or the writer failed as it passed on what it held back
-  pub ends_here : (once : FilesAnswerOnce) → AreSoundFiles files → (left : Option (List ℕ)) (n : ℕ) (old mid new : Option (List ℕ)) (log now : Option (List RowNote))
-      → IsSoFar layout files most all left n (output old mid log now) → (why : RunStop) (part : List ℕ) → StartsWith [] part → (part ≡ []) ⊎ (why ≡ stop.WriteFailed) → Appends mid new part
-      → EndsAfterLines layout files most [] all why (output old new log now)
-  ends_here once sound left n old mid new log now far why part starts exact wrote =
+  pub ends_here : (once : FilesAnswerOnce) → AreSoundFiles files → (left : Option (List ℕ)) (n : ℕ) (more : Option ℕ) (old mid new : Option (List ℕ)) (log now : Option (List RowNote))
+      → IsSoFar layout files most limit all left n more (output old mid log now) → (why : RunStop) (part : List ℕ) → StartsWith [] part → (part ≡ []) ⊎ (why ≡ stop.WriteFailed) → Appends mid new part
+      → EndsAfterLines layout files most limit [] all why (output old new log now)
+  ends_here once sound left n more old mid new log now far why part starts exact wrote =
       let come : ComeNext layout left [] = if_some left _ (λ bytes e. (records_in layout bytes, refl)) in
       let none = no_rows layout files most (n + 1) in
-      ends_after left n old mid new log now now far [] empty_rows none come once sound [] [] refl empty_rows none part starts refl why exact wrote (notes_none now)
+      ends_after left n more old mid new log now now far [] empty_rows none come once sound [] [] refl empty_rows none part starts refl why exact wrote (notes_none now) (none_few more)

@@ -20,79 +20,80 @@ use Rattle.zic_convert.specs.code.Halt.{stop_of}
 use Rattle.zic_convert.specs.code.Progress.{ComeNext, ConvertsRest, EndsAtTaking, EndsInRest, IsSoFar, Takes, longest_of, output}
 use Rattle.zic_convert.specs.code.Row.{RowsOf, records_in}
 use Rattle.zic_convert.specs.code.Written.{EndsInRecords, EndsInRows, WritesRecords, Wrote}
+use Rattle.zic_convert.specs.declared.tally.Tally.{Tally}
 use Rattle.zic_convert.specs.declared.halt.Halt.{Halt}
 use Rattle.zic_convert.specs.declared.halt.Halt.TheVariants as halt
 use Rattle.zic_convert.proofs.Halts.{ends_at_flush, ends_in_rows, ends_still}
 use Rattle.zic_convert.proofs.Options.{if_some}
 use Rattle.zic_convert.proofs.Progress.{all_written, at_start, later, long_comes_next, none_taken, taken_come_next}
-use Rattle.zic_convert.proofs.Staying.{IsKnownZone, rows_same}
+use Rattle.zic_convert.proofs.Staying.{IsKnownZone, come_same, rows_same}
 
 -- how far a conversion of bytes, where they are known, has come by these files
-abbrev pub IsFarBy : Layout → ℕ → Option (List ℕ) → Option (List ℕ) → ℕ → Option (List ℕ) → Option (List ℕ) → Option (List RowNote) → Option (List RowNote) → List File → Type 0
-IsFarBy layout most known left n held now log noted files =
-    (bytes : List ℕ) → known ≡ Some bytes → IsSoFar layout files most (records_in layout bytes) left n (output held now log noted)
+abbrev pub IsFarBy : Layout → ℕ → Option ℕ → Option (List ℕ) → Option (List ℕ) → ℕ → Option ℕ → Option (List ℕ) → Option (List ℕ) → Option (List RowNote) → Option (List RowNote) → List File → Type 0
+IsFarBy layout most limit known left n more held now log noted files =
+    (bytes : List ℕ) → known ≡ Some bytes → IsSoFar layout files most limit (records_in layout bytes) left n more (output held now log noted)
 
-pub far_at_start : (layout : Layout) (most : ℕ) (known held : Option (List ℕ)) (log : Option (List RowNote)) (files : List File) → IsFarBy layout most known known 0 held held log log files
-far_at_start layout most known held log files bytes e = at_start layout files most (records_in layout bytes) known held log bytes e refl
+pub far_at_start : (layout : Layout) (most : ℕ) (limit : Option ℕ) (known held : Option (List ℕ)) (log : Option (List RowNote)) (files : List File) → IsFarBy layout most limit known known 0 limit held held log log files
+far_at_start layout most limit known held log files bytes e = at_start layout files most limit (records_in layout bytes) known held log bytes e refl
 
-module _ {W : Type 0} (contents : W → Option (List ℕ)) (once : FilesAnswerOnce) (layout : Layout) (plan : Limits) (known left : Option (List ℕ)) (n : ℕ) (held : Option (List ℕ)) (mid : Counts W)
-    (log now : Option (List RowNote)) (files : List File) (sound : AreSoundFiles files) (far : IsFarBy layout plan.max_rows known left n held (contents mid.inner) log now files) where
+module _ {W : Type 0} (contents : W → Option (List ℕ)) (once : FilesAnswerOnce) (layout : Layout) (plan : Limits) (limit : Option ℕ) (known left : Option (List ℕ)) (n : ℕ) (more : Option ℕ) (held : Option (List ℕ)) (mid : Counts W)
+    (log now : Option (List RowNote)) (files : List File) (sound : AreSoundFiles files) (far : IsFarBy layout plan.max_rows limit known left n more held (contents mid.inner) log now files) where
   -- the column can't be read on
-  unread_ends : EndsInRest layout plan.max_rows known stop.ReadFailed (output held (contents mid.inner) log now) files
+  unread_ends : EndsInRest layout plan.max_rows limit known stop.ReadFailed (output held (contents mid.inner) log now) files
   unread_ends = if_some known _ (λ bytes e.
-      ends_still once layout files plan.max_rows sound (records_in layout bytes) left n held (contents mid.inner) log now (far bytes e) stop.ReadFailed)
+      ends_still once layout files plan.max_rows limit sound (records_in layout bytes) left n more held (contents mid.inner) log now (far bytes e) stop.ReadFailed)
 
   -- memory was refused
-  memory_ends : EndsInRest layout plan.max_rows known stop.Memory (output held (contents mid.inner) log now) files
+  memory_ends : EndsInRest layout plan.max_rows limit known stop.Memory (output held (contents mid.inner) log now) files
   memory_ends = if_some known _ (λ bytes e.
-      ends_still once layout files plan.max_rows sound (records_in layout bytes) left n held (contents mid.inner) log now (far bytes e) stop.Memory)
+      ends_still once layout files plan.max_rows limit sound (records_in layout bytes) left n more held (contents mid.inner) log now (far bytes e) stop.Memory)
 
   -- some records were taken
   module _ (rs : List CsvRecord) (next : Option (List ℕ)) (taken : Takes layout left next rs) (new : Counts W) (last : Option (List RowNote)) where
     -- their rows were written
-    far_after_round : (count : ℕ) → WritesRecords layout files plan.max_rows (n + 1) rs contents mid new now last count
-        → IsFarBy layout plan.max_rows known next (n + count) held (contents new.inner) log last files
-    far_after_round count (rows, are, wrote) bytes e =
-        rw wrote.1 (later layout files plan.max_rows (records_in layout bytes) left n held (contents mid.inner) (contents new.inner) log now last (far bytes e)
-        rs rows are next wrote.0 taken wrote.2.0 wrote.3)
+    far_after_round : (tally : Tally) → WritesRecords layout files plan.max_rows more (n + 1) rs contents mid new now last tally
+        → IsFarBy layout plan.max_rows limit known next (n + tally.rows) tally.left held (contents new.inner) log last files
+    far_after_round tally (rows, are, wrote, left_is) bytes e =
+        rw wrote.1 (later layout files plan.max_rows limit (records_in layout bytes) left n more held (contents mid.inner) (contents new.inner) log now last (far bytes e)
+        rs rows are next tally.left wrote.0 taken wrote.2.0 wrote.3 left_is)
 
     -- or the conversion ended in them
-    ends_in_round : (why : RunStop) → EndsInRecords layout files plan.max_rows (n + 1) rs contents mid new now last why
-        → EndsInRest layout plan.max_rows known why (output held (contents new.inner) log last) files
+    ends_in_round : (why : RunStop) → EndsInRecords layout files plan.max_rows more (n + 1) rs contents mid new now last why
+        → EndsInRest layout plan.max_rows limit known why (output held (contents new.inner) log last) files
     ends_in_round why (inl memory) = rw (memory.0, memory.1, memory.2) memory_ends
     ends_in_round why (inr (rows, are, ends)) = if_some known _ (λ bytes e.
-        ends_in_rows contents once layout files plan.max_rows sound (records_in layout bytes) left n held mid new log now last (far bytes e)
+        ends_in_rows contents once layout files plan.max_rows limit sound (records_in layout bytes) left n more held mid new log now last (far bytes e)
         rs (taken_come_next layout left next rs taken) rows are why ends)
 
   -- the next record has too many bytes
   ends_at_record : (next : Option (List ℕ)) → Takes layout left next [] → IsNextTooLong (longest_of layout) layout.records next → (new : Counts W) (why : RunStop)
-      → ((given : CsvRecord) → may_have (longest_of layout) (length given.own) ≡ false → EndsInRecords layout files plan.max_rows (n + 1) (given ∷ []) contents mid new now now why)
-      → EndsInRest layout plan.max_rows known why (output held (contents new.inner) log now) files
+      → ((given : CsvRecord) → may_have (longest_of layout) (length given.own) ≡ false → EndsInRecords layout files plan.max_rows more (n + 1) (given ∷ []) contents mid new now now why)
+      → EndsInRest layout plan.max_rows limit known why (output held (contents new.inner) log now) files
   ends_at_record next none long new why ends = if_some known _ (λ bytes e.
       let all = records_in layout bytes in
-      let far_next = none_taken layout files plan.max_rows all left next n held (contents mid.inner) log now none (far bytes e) in
+      let far_next = none_taken layout files plan.max_rows limit all left next n more held (contents mid.inner) log now none (far bytes e) in
       let (given, over, others, same) = long_comes_next layout next long far_next.rest far_next.bytes in
       let come : ComeNext layout next (given ∷ []) = subst (λ (o : Option (List ℕ)). ComeNext layout o (given ∷ [])) (sym far_next.bytes) (others, same) in
       ended all next far_next given come (ends given over))
     where
-      ended : (all : List CsvRecord) (next : Option (List ℕ)) → IsSoFar layout files plan.max_rows all next n (output held (contents mid.inner) log now) → (given : CsvRecord) → ComeNext layout next (given ∷ [])
-          → EndsInRecords layout files plan.max_rows (n + 1) (given ∷ []) contents mid new now now why → EndsIn layout files plan.max_rows [] all why (output held (contents new.inner) log now)
-      ended all next far_next given come (inl memory) = rw (memory.0, memory.1) (ends_still once layout files plan.max_rows sound all next n held (contents mid.inner) log now far_next stop.Memory)
+      ended : (all : List CsvRecord) (next : Option (List ℕ)) → IsSoFar layout files plan.max_rows limit all next n more (output held (contents mid.inner) log now) → (given : CsvRecord) → ComeNext layout next (given ∷ [])
+          → EndsInRecords layout files plan.max_rows more (n + 1) (given ∷ []) contents mid new now now why → EndsIn layout files plan.max_rows limit [] all why (output held (contents new.inner) log now)
+      ended all next far_next given come (inl memory) = rw (memory.0, memory.1) (ends_still once layout files plan.max_rows limit sound all next n more held (contents mid.inner) log now far_next stop.Memory)
       ended all next far_next given come (inr (rows, are, then)) =
-          ends_in_rows contents once layout files plan.max_rows sound all next n held mid new log now now far_next (given ∷ []) come rows are why then
+          ends_in_rows contents once layout files plan.max_rows limit sound all next n more held mid new log now now far_next (given ∷ []) come rows are why then
 
   -- the writer failed in the end
-  flush_ends : (new : Counts W) → FailsWithin contents mid new [] → EndsInRest layout plan.max_rows known stop.WriteFailed (output held (contents new.inner) log now) files
+  flush_ends : (new : Counts W) → FailsWithin contents mid new [] → EndsInRest layout plan.max_rows limit known stop.WriteFailed (output held (contents new.inner) log now) files
   flush_ends new fails = if_some known _ (λ bytes e.
-      ends_at_flush contents once layout files plan.max_rows sound (records_in layout bytes) left n held mid new log now (far bytes e) fails)
+      ends_at_flush contents once layout files plan.max_rows limit sound (records_in layout bytes) left n more held mid new log now (far bytes e) fails)
 
   -- no record is left, and all rows are written and flushed
   all_done : (next : Option (List ℕ)) → Takes layout left next [] → HasNoRecord layout.records next → (new : Counts W) → Wrote contents mid new []
-      → ConvertsRest layout plan.max_rows known n (output held (contents new.inner) log now) files
+      → ConvertsRest layout plan.max_rows limit known n (output held (contents new.inner) log now) files
   all_done next none end new flushed = if_some known _ (λ bytes e.
       let all = records_in layout bytes in
-      let end_far = none_taken layout files plan.max_rows all left next n held (contents mid.inner) log now none (far bytes e) in
-      all_written layout files plan.max_rows all next n held (contents mid.inner) (contents new.inner) log now end_far end flushed.0)
+      let end_far = none_taken layout files plan.max_rows limit all left next n more held (contents mid.inner) log now none (far bytes e) in
+      all_written layout files plan.max_rows limit all next n more held (contents mid.inner) (contents new.inner) log now end_far end flushed.0)
 
 -- what holds of the elements of a list holds of the first of them
 all_front : (P : CsvRecord → Type 0) (xs ys : List CsvRecord) → All P (xs ++ ys) → All P xs
@@ -100,14 +101,24 @@ all_front P xs ys all = λ k d lt. subst P (get_or_append_left xs ys d k lt) (al
 
 -- ---- a round by the files that are known, and by all that may be
 
-module _ (layout : Layout) (most : ℕ) (rs : List CsvRecord) (first : ℕ) (known files : List File) (still : (file : File) → Contains known file → Contains files file)
+module _ (layout : Layout) (most : ℕ) (limit : Option ℕ) (rs : List CsvRecord) (first : ℕ) (known files : List File) (still : (file : File) → Contains known file → Contains files file)
     (differ : AllPairs (λ (file other : File). file.name ≢ other.name) files) (only : All (IsKnownZone layout.zone known files) rs) {W : Type 0} (contents : W → Option (List ℕ)) (held now : Counts W) (log log' : Option (List RowNote)) where
-  written_alike : (count : ℕ) → WritesRecords layout known most first rs contents held now log log' count → WritesRecords layout files most first rs contents held now log log' count
-  written_alike count (rows, are, wrote) = (rows, rows_same known files still differ layout most first rs rows only are, wrote)
+  written_alike : (tally : Tally) → WritesRecords layout known most limit first rs contents held now log log' tally → WritesRecords layout files most limit first rs contents held now log log' tally
+  written_alike tally (rows, are, wrote) = (rows, rows_same known files still differ layout most first rs rows only are, wrote)
 
-  rows_end_alike : (rows : RowsOf) (why : RunStop) → EndsInRows contents held now log log' layout known most first rs rows why
-      → EndsInRows contents held now log log' layout files most first rs rows why
-  rows_end_alike rows (stop.Row row kind) h = h
+  rows_end_alike : (rows : RowsOf) (why : RunStop) → EndsInRows contents held now log log' layout known most limit first rs rows why
+      → EndsInRows contents held now log log' layout files most limit first rs rows why
+  rows_end_alike rows (stop.Row row kind) (inl h) = inl h
+  rows_end_alike rows (stop.Row row kind) (inr h) = inr (record {
+    front = h.front;
+    rest = h.rest;
+    come = come_same known files still differ layout most first rs (h.front ++ h.rest) rows.fault only h.come;
+    before = h.before;
+    too_many = h.too_many;
+    number = h.number;
+    wrote = h.wrote;
+    noted = h.noted;
+  })
   rows_end_alike rows stop.WriteFailed h = record {
     done = h.done;
     more = h.more;
@@ -116,6 +127,7 @@ module _ (layout : Layout) (most : ℕ) (rs : List CsvRecord) (first : ℕ) (kno
     are = rows_same known files still differ layout most first h.done h.front (all_front (IsKnownZone layout.zone known files) h.done h.more (rw h.parts at only)) h.are;
     fails = h.fails;
     noted = h.noted;
+    few = h.few;
   }
   rows_end_alike rows (stop.Source fault) h = absurd h
   rows_end_alike rows stop.ReadFailed h = absurd h
@@ -123,7 +135,7 @@ module _ (layout : Layout) (most : ℕ) (rs : List CsvRecord) (first : ℕ) (kno
   rows_end_alike rows stop.Memory h = absurd h
   rows_end_alike rows stop.NoThread h = absurd h
 
-  ends_alike : (why : RunStop) → EndsInRecords layout known most first rs contents held now log log' why → EndsInRecords layout files most first rs contents held now log log' why
+  ends_alike : (why : RunStop) → EndsInRecords layout known most limit first rs contents held now log log' why → EndsInRecords layout files most limit first rs contents held now log log' why
   ends_alike why (inl memory) = inl memory
   ends_alike why (inr (rows, are, ends)) = inr (rows, rows_same known files still differ layout most first rs rows only are, rows_end_alike rows why ends)
 
@@ -133,23 +145,23 @@ module _ (layout : Layout) (most : ℕ) (rs : List CsvRecord) (first : ℕ) (kno
 module _ {Z : Type 0} (known_of : Z → List File) (settled : Z → List ℕ → Type 0) (may_be : Z → List File → Type 0) (grown broken : Z → Z → Type 0)
     (same : (z : Z) → grown z z) (joins : (a b c : Z) → grown a b → grown b c → grown a c) (narrows : (a b : Z) (files : List File) → grown a b → may_be b files → may_be a files)
     (agrees : (z : Z) (files : List File) → may_be z files → Agree (settled z) (known_of z) files)
-    {W : Type 0} (contents : W → Option (List ℕ)) (once : FilesAnswerOnce) (layout : Layout) (plan : Limits) (known left : Option (List ℕ)) (n : ℕ) (held : Option (List ℕ)) (mid : Counts W)
+    {W : Type 0} (contents : W → Option (List ℕ)) (once : FilesAnswerOnce) (layout : Layout) (plan : Limits) (limit : Option ℕ) (known left : Option (List ℕ)) (n : ℕ) (more : Option ℕ) (held : Option (List ℕ)) (mid : Counts W)
     (log now : Option (List RowNote)) (begun zones : Z) (grew : grown begun zones)
-    (far : (files : List File) → may_be zones files → IsFarBy layout plan.max_rows known left n held (contents mid.inner) log now files) where
+    (far : (files : List File) → may_be zones files → IsFarBy layout plan.max_rows limit known left n more held (contents mid.inner) log now files) where
   -- no round could be taken
   pub no_round : (new : Z) (why : Halt) → EndsAtTaking broken zones new why
-      → EndsByZones grown broken may_be begun new (stop_of why) (EndsInRest layout plan.max_rows known (stop_of why) (output held (contents mid.inner) log now))
+      → EndsByZones grown broken may_be begun new (stop_of why) (EndsInRest layout plan.max_rows limit known (stop_of why) (output held (contents mid.inner) log now))
   no_round new halt.Unread is = record {
     then = zones;
     grown = grew;
     ends = inl is;
-    by = λ files may. unread_ends contents once layout plan known left n held mid log now files (agrees zones files may).sound (far files may);
+    by = λ files may. unread_ends contents once layout plan limit known left n more held mid log now files (agrees zones files may).sound (far files may);
   }
   no_round new (halt.Stop stop.Memory) is = record {
     then = zones;
     grown = grew;
     ends = inr (refl, is);
-    by = λ files may. memory_ends contents once layout plan known left n held mid log now files (agrees zones files may).sound (far files may);
+    by = λ files may. memory_ends contents once layout plan limit known left n more held mid log now files (agrees zones files may).sound (far files may);
   }
   no_round new (halt.Stop (stop.Row row kind)) is = absurd is
   no_round new (halt.Stop (stop.Source fault)) is = absurd is
@@ -165,49 +177,49 @@ module _ {Z : Type 0} (known_of : Z → List File) (settled : Z → List ℕ →
 
     -- the writer failed in the end
     pub flush_fails : (new : Counts W) → FailsWithin contents mid new []
-        → EndsByZones grown broken may_be begun then stop.WriteFailed (EndsInRest layout plan.max_rows known stop.WriteFailed (output held (contents new.inner) log now))
+        → EndsByZones grown broken may_be begun then stop.WriteFailed (EndsInRest layout plan.max_rows limit known stop.WriteFailed (output held (contents new.inner) log now))
     flush_fails new fails = record {
       then = then;
       grown = joins begun zones then grew grows;
       ends = inl refl;
-      by = λ files may. flush_ends contents once layout plan known left n held mid log now files (agrees then files may).sound (far files (narrows zones then files grows may)) new fails;
+      by = λ files may. flush_ends contents once layout plan limit known left n more held mid log now files (agrees then files may).sound (far files (narrows zones then files grows may)) new fails;
     }
 
     -- the next record has too many bytes
     pub long_ends : Takes layout left next [] → IsNextTooLong (longest_of layout) layout.records next → (new : Counts W) (why : RunStop)
-        → ((files : List File) (given : CsvRecord) → may_have (longest_of layout) (length given.own) ≡ false → EndsInRecords layout files plan.max_rows (n + 1) (given ∷ []) contents mid new now now why)
-        → EndsByZones grown broken may_be begun then why (EndsInRest layout plan.max_rows known why (output held (contents new.inner) log now))
+        → ((files : List File) (given : CsvRecord) → may_have (longest_of layout) (length given.own) ≡ false → EndsInRecords layout files plan.max_rows more (n + 1) (given ∷ []) contents mid new now now why)
+        → EndsByZones grown broken may_be begun then why (EndsInRest layout plan.max_rows limit known why (output held (contents new.inner) log now))
     long_ends none long new why ends = record {
       then = then;
       grown = joins begun zones then grew grows;
       ends = inl refl;
-      by = λ files may. ends_at_record contents once layout plan known left n held mid log now files (agrees then files may).sound (far files (narrows zones then files grows may)) next none long new why (ends files);
+      by = λ files may. ends_at_record contents once layout plan limit known left n more held mid log now files (agrees then files may).sound (far files (narrows zones then files grows may)) next none long new why (ends files);
     }
 
     -- no record was left
     pub rounds_done : Takes layout left next [] → HasNoRecord layout.records next → (new : Counts W) → Wrote contents mid new [] → (files : List File) → may_be then files
-        → ConvertsRest layout plan.max_rows known n (output held (contents new.inner) log now) files
+        → ConvertsRest layout plan.max_rows limit known n (output held (contents new.inner) log now) files
     rounds_done none end new flushed files may =
-        all_done contents once layout plan known left n held mid log now files (agrees then files may).sound (far files (narrows zones then files grows may)) next none end new flushed
+        all_done contents once layout plan limit known left n more held mid log now files (agrees then files may).sound (far files (narrows zones then files grows may)) next none end new flushed
 
     module _ (only : (files : List File) → may_be then files → All (IsKnownZone layout.zone (known_of then) files) rs) (new : Counts W) (last : Option (List RowNote)) where
       -- their rows were written
-      pub far_on : (count : ℕ) → WritesRecords layout (known_of then) plan.max_rows (n + 1) rs contents mid new now last count → (files : List File) → may_be then files
-          → IsFarBy layout plan.max_rows known next (n + count) held (contents new.inner) log last files
-      far_on count writes files may =
-          far_after_round contents once layout plan known left n held mid log now files (agrees then files may).sound (far files (narrows zones then files grows may)) rs next takes new last count
-          (written_alike layout plan.max_rows rs (n + 1) (known_of then) files (agrees then files may).still (agrees then files may).sound.names_differ (only files may) contents mid new now last count writes)
+      pub far_on : (tally : Tally) → WritesRecords layout (known_of then) plan.max_rows more (n + 1) rs contents mid new now last tally → (files : List File) → may_be then files
+          → IsFarBy layout plan.max_rows limit known next (n + tally.rows) tally.left held (contents new.inner) log last files
+      far_on tally writes files may =
+          far_after_round contents once layout plan limit known left n more held mid log now files (agrees then files may).sound (far files (narrows zones then files grows may)) rs next takes new last tally
+          (written_alike layout plan.max_rows more rs (n + 1) (known_of then) files (agrees then files may).still (agrees then files may).sound.names_differ (only files may) contents mid new now last tally writes)
 
       -- or the conversion ended in them
-      pub round_ends : (why : RunStop) → EndsInRecords layout (known_of then) plan.max_rows (n + 1) rs contents mid new now last why
-          → EndsByZones grown broken may_be begun then why (EndsInRest layout plan.max_rows known why (output held (contents new.inner) log last))
+      pub round_ends : (why : RunStop) → EndsInRecords layout (known_of then) plan.max_rows more (n + 1) rs contents mid new now last why
+          → EndsByZones grown broken may_be begun then why (EndsInRest layout plan.max_rows limit known why (output held (contents new.inner) log last))
       round_ends why ends = record {
         then = then;
         grown = joins begun zones then grew grows;
         ends = inl refl;
         by = λ files may.
-            ends_in_round contents once layout plan known left n held mid log now files (agrees then files may).sound (far files (narrows zones then files grows may)) rs next takes new last why
-            (ends_alike layout plan.max_rows rs (n + 1) (known_of then) files (agrees then files may).still (agrees then files may).sound.names_differ (only files may) contents mid new now last why ends);
+            ends_in_round contents once layout plan limit known left n more held mid log now files (agrees then files may).sound (far files (narrows zones then files grows may)) rs next takes new last why
+            (ends_alike layout plan.max_rows more rs (n + 1) (known_of then) files (agrees then files may).still (agrees then files may).sound.names_differ (only files may) contents mid new now last why ends);
       }
 
 -- what follows where a conversion ends by zones

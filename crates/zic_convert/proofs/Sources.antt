@@ -31,6 +31,7 @@ use Rattle.zic_convert.proofs.Bytes.{starts_later}
 use Rattle.zic_convert.proofs.Options.{for_some, if_some}
 use Rattle.zic_convert.proofs.Plain.{come_plainly}
 use Rattle.zic_convert.proofs.Sounds.{all_known}
+use Rattle.zic_convert.proofs.TooMany.{none_too_many}
 use Rattle.zic_convert.proofs.Totals.{all_come}
 use Rattle.zic_convert.proofs.PieceRecords.{comma_fields_in}
 
@@ -51,7 +52,7 @@ module _ (alike : PlainColumnsConvertAlike) (layout : Layout) (plain : HasPlainR
 
   -- all of a column was converted
   pub source_converts : (known : Option (List ℕ)) (held held' : Option (List ℕ)) (log log' : Option (List RowNote)) (n : ℕ)
-      → IfSome known (λ column. (row_records : List CsvRecord) × AreRowRecords layout column row_records × WritesRows layout files most (header_text layout column) row_records n (output held held' log log'))
+      → IfSome known (λ column. (row_records : List CsvRecord) × AreRowRecords layout column row_records × WritesRows layout files most None (header_text layout column) row_records n (output held held' log log'))
       → IfSome known (λ column. WritesAll files most column n held held')
   source_converts known held held' log log' n all = if_some known _ (λ column e.
       let (row_records, are, w) = for_some known _ column all e in
@@ -63,7 +64,7 @@ module _ (alike : PlainColumnsConvertAlike) (layout : Layout) (plain : HasPlainR
       })
 
   lines_part : (column : List ℕ) (row_records : List CsvRecord) → AreRowRecords layout column row_records → (why : RunStop) {R W : Type 0} (run : Run R W)
-      → EndsAfterLines layout files most (header_text layout column) row_records why run.output → WritesPartOf [] (ConvertsTo files most column) run.output.held run.output.held'
+      → EndsAfterLines layout files most None (header_text layout column) row_records why run.output → WritesPartOf [] (ConvertsTo files most column) run.output.held run.output.held'
   lines_part column row_records are why run w = record {
     texts = w.texts;
     fault = w.fault;
@@ -74,13 +75,14 @@ module _ (alike : PlainColumnsConvertAlike) (layout : Layout) (plain : HasPlainR
   }
 
   ends_in : {R W : Type 0} (run : Run R W) (column : List ℕ) (row_records : List CsvRecord) → AreRowRecords layout column row_records → (why : RunStop)
-      → EndsIn layout files most (header_text layout column) row_records why run.output → WritesAt files most column why run.output.held run.output.held'
-  ends_in run column row_records are (stop.Row row kind) w = record {
+      → EndsIn layout files most None (header_text layout column) row_records why run.output → WritesAt files most column why run.output.held run.output.held'
+  ends_in run column row_records are (stop.Row row kind) (inl w) = record {
     texts = w.0.texts;
     converts = converts column row_records are w.0.texts (Some kind) w.0.converts;
     number = w.0.number;
     wrote = same_text column row_records are run.output.held run.output.held' w.0.texts w.0.wrote;
   }
+  ends_in run column row_records are (stop.Row row kind) (inr w) = absurd (none_too_many _ row kind w.before w.too_many)
   ends_in run column row_records are (stop.Source fault) w = absurd w
   ends_in run column row_records are stop.ReadFailed w = lines_part column row_records are stop.ReadFailed run w
   ends_in run column row_records are stop.WriteFailed w = lines_part column row_records are stop.WriteFailed run w
@@ -115,7 +117,7 @@ module _ (alike : PlainColumnsConvertAlike) (layout : Layout) (plain : HasPlainR
     -- the conversion ended early
     pub source_ends : {R W : Type 0} (run : Run R W) (why : RunStop) (zones zones' : List File) → zones ≡ files
         → (EndsAtNames layout why run × (zones' ≡ zones))
-        ⊎ EndsByZones (λ (a b : List File). b ≡ a) (λ (a b : List File). b ≡ a) (λ (z fs : List File). (fs ≡ z) × AreSoundFiles z) zones zones' why (EndsBy layout most why run)
+        ⊎ EndsByZones (λ (a b : List File). b ≡ a) (λ (a b : List File). b ≡ a) (λ (z fs : List File). (fs ≡ z) × AreSoundFiles z) zones zones' why (EndsBy layout most None why run)
         → IfSome run.column (λ column. WritesAt files most column why run.output.held run.output.held')
     source_ends run why zones zones' are (inl (ends, same_zones)) = rw ends.is (if_some run.column _ (λ column e.
         no_part column run.output.held run.output.held' ends.part (subst (λ (l : List ℕ). StartsWith l ends.part) no_names ends.starts) ends.wrote))

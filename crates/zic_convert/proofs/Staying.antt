@@ -127,7 +127,7 @@ module _ (known files : List File) (still : (file : File) → Contains known fil
     row_same (Some kind) row_record text is = is
 
     -- the outcome of records whose zones are known
-    come_same : (number : ℕ) (row_records : List CsvRecord) (texts : List (List ℕ)) (fault : Option RowKind) → All (IsKnownZone layout.zone known files) row_records
+    pub come_same : (number : ℕ) (row_records : List CsvRecord) (texts : List (List ℕ)) (fault : Option RowKind) → All (IsKnownZone layout.zone known files) row_records
         → RecordsConvertBy layout known most number row_records texts fault → RecordsConvertBy layout files most number row_records texts fault
     come_same number [] texts fault only come = come
     come_same number (w ∷ row_records) [] fault only come =

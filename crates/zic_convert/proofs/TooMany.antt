@@ -3,7 +3,6 @@ use Rattle.std.proofs.Common.{◌≡◌, ◌≤◌, ◌<◌, ◌+◌, ◌-◌, �
 use Rattle.std.specs.Prelude.{IsSome, is_some, option_map}
 use Rattle.std.specs.List.{concat}
 use Rattle.std.specs.Io.{StartsWith}
-use Rattle.std.proofs.Math.Seq.{take-append_seam}
 use Rattle.std.proofs.lemmas.Bool.{lt-leb}
 use Rattle.std.proofs.lemmas.List.{length-append, take-append-drop}
 use Rattle.std.proofs.lemmas.List.Folds.{concat-append}
@@ -101,16 +100,23 @@ not_none (Some kind) has none = absurd (cc none)
 -- ---- a lower greatest number of a row
 
 module _ (layout : Layout) (files : List File) where
-  -- records have no fewer faults than the first of them
-  pub front_fewer : (most number : ℕ) (xs ys : List CsvRecord) → length (faults_by layout files most number xs) ≤ length (faults_by layout files most number (xs ++ ys))
-  front_fewer most number [] ys = omega arith
-  front_fewer most number (x ∷ xs) ys = by_end (ends_by layout files most number x) refl where
+  -- the faults of records begin with those of the first of them
+  pub faults_begin : (most number : ℕ) (xs ys : List CsvRecord) → (more : List RowNote) × (faults_by layout files most number (xs ++ ys) ≡ faults_by layout files most number xs ++ more)
+  faults_begin most number [] ys = (faults_by layout files most number ys, refl)
+  faults_begin most number (x ∷ xs) ys = by_end (ends_by layout files most number x) refl where
     by_end : (end : Option RowKind) → ends_by layout files most number x ≡ end
-        → length (faults_by layout files most number (x ∷ xs)) ≤ length (faults_by layout files most number (x ∷ (xs ++ ys)))
-    by_end (Some kind) e = rw e (omega arith)
+        → (more : List RowNote) × (faults_by layout files most number (x ∷ (xs ++ ys)) ≡ faults_by layout files most number (x ∷ xs) ++ more)
+    by_end (Some kind) e = ([], rw e refl)
     by_end None e =
         let here = noted layout.at_fault number x.own (fault_by layout files most number x) in
-        rw e (omega (arith, front_fewer most (number + 1) xs ys, length-append here (faults_by layout files most (number + 1) xs), length-append here (faults_by layout files most (number + 1) (xs ++ ys))))
+        let rest = faults_begin most (number + 1) xs ys in
+        (rest.0, rw e (ap (λ (l : List RowNote). here ++ l) rest.1 ∙ sym (append_assoc here (faults_by layout files most (number + 1) xs) rest.0)))
+
+  -- of which there are no fewer
+  pub front_fewer : (most number : ℕ) (xs ys : List CsvRecord) → length (faults_by layout files most number xs) ≤ length (faults_by layout files most number (xs ++ ys))
+  front_fewer most number xs ys =
+      let begin = faults_begin most number xs ys in
+      omega (arith, ap (length {A = RowNote}) begin.1, length-append (faults_by layout files most number xs) begin.0)
 
   -- a row that may be by a lower greatest number has the fault that it has by a higher
   fault_low : (most low number : ℕ) (x : CsvRecord) → number ≤ low → low ≤ most → fault_by layout files low number x ≡ fault_by layout files most number x
@@ -193,6 +199,17 @@ module _ (layout : Layout) (files : List File) where
         | inr then ↦ let rest = noted_within (number + 1) xs then.others after note then.parts in (omega (arith, rest.0), rest.1)
       ]
 
+    -- the one record has the note
+    pub one_noted : (number : ℕ) (x : CsvRecord) (before after : List RowNote) (note : RowNote) → faults_by layout files most number (x ∷ []) ≡ before ++ note ∷ after
+        → (before ≡ []) × (note.fault.row ≡ number)
+    one_noted number x before after note e = by_end (ends_by layout files most number x) refl where
+      by_end : (end : Option RowKind) → ends_by layout files most number x ≡ end → (before ≡ []) × (note.fault.row ≡ number)
+      by_end (Some kind) is = absurd (no_note before after note (rw is at e))
+      by_end None is = elim (either number x [] before after note (rw is at e)) [
+        | inl here ↦ here
+        | inr then ↦ absurd (no_note then.others after note then.parts)
+      ]
+
     -- the rows of records up to a lower greatest number, which is that of the row before a noted one
     pub record IsCut (low number : ℕ) (xs : List CsvRecord) (texts cut : List (List ℕ)) (fault end : Option RowKind) (before : List RowNote) : Type 0 where
       pub ended : end ≡ Some kinds.TooManyRows
@@ -245,6 +262,13 @@ module _ (layout : Layout) (files : List File) where
             (λ cut low_rest. is_cut (number + 1) xs texts cut then.others come.2 low_rest then.parts)
       ]
 
+-- rows of the first of some records have few faults where all have
+pub few_of_front : (layout : Layout) (files : List File) (most : ℕ) (limit : Option ℕ) (first : ℕ) (rs done more : List CsvRecord) → rs ≡ done ++ more → (rows : RowsOf)
+    → AreRowsOf layout files most first rs rows → (front : RowsOf) → AreRowsOf layout files most first done front → AreFew limit rows.faults → AreFew limit front.faults
+few_of_front layout files most limit first rs done more parts rows are front are_front few =
+    let all : rows.faults ≡ faults_by layout files most first (done ++ more) = are.faults ∙ ap (faults_by layout files most first) parts in
+    fewer limit front.faults rows.faults (omega (arith, ap (length {A = RowNote}) are_front.faults, front_fewer layout files most first done more, ap (length {A = RowNote}) all)) few
+
 -- ---- rows that are made once more, up to one with one fault too many
 
 module _ (layout : Layout) (files : List File) (most : ℕ) (limit : Option ℕ) (first : ℕ) (rs : List CsvRecord) (rows : RowsOf) (are : AreRowsOf layout files most first rs rows)
@@ -285,13 +309,13 @@ module _ (layout : Layout) (files : List File) (most : ℕ) (limit : Option ℕ)
       pub stops_before : (at_row : ℕ) (end : RowKind) → StopsAtRow contents old new log log' first cut at_row end
           → StopsAtFault contents old new log log' layout files most limit first rs rows_on row kind
       stops_before at_row end h = record {
-        texts = texts_on;
+        front = are_cut.texts;
+        rest = drop (length are_cut.texts) are.texts;
         come = is.come;
         before = before;
         too_many = many;
-        done = length are_cut.texts;
         number = omega (arith, at, is.long);
-        wrote = subst (λ (l : List ℕ). Wrote contents old new l) (are_cut.text ∙ ap concat (sym (take-append_seam are_cut.texts (drop (length are_cut.texts) are.texts)))) h.2;
+        wrote = subst (λ (l : List ℕ). Wrote contents old new l) are_cut.text h.2;
         noted = subst (λ (l : List RowNote). Notes log log' l) (are_cut.faults ∙ is.noted) h.3;
       }
 

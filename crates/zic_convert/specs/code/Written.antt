@@ -89,13 +89,13 @@ pub record FailsInRows {W : Type 0} (contents : W → Option (List ℕ)) (old ne
 -- the rows of these records before one with one fault too many were written, and the faults before it noted
 pub record StopsAtFault {W : Type 0} (contents : W → Option (List ℕ)) (old new : Counts W) (log log' : Option (List RowNote))
     (layout : Layout) (files : List File) (most : ℕ) (limit : Option ℕ) (first : ℕ) (row_records : List CsvRecord) (rows : RowsOf) (row : ℕ) (kind : RowKind) : Type 0 where
-  pub texts : List (List ℕ)
-  pub come : RecordsConvertBy layout files most first row_records texts rows.fault
+  pub front : List (List ℕ)
+  pub rest : List (List ℕ)
+  pub come : RecordsConvertBy layout files most first row_records (front ++ rest) rows.fault
   pub before : List RowNote
   pub too_many : IsOneTooMany limit rows.faults row kind before
-  pub done : ℕ
-  pub number : row ≡ first + done
-  pub wrote : Wrote contents old new (concat (take done texts))
+  pub number : row ≡ first + length front
+  pub wrote : Wrote contents old new (concat front)
   pub noted : Notes log log' before
 
 -- the rows of records were written up to one that ends the run, or up to where the writer failed
