@@ -1,10 +1,9 @@
 -- The rows of the pieces of a round, put together.
-use Rattle.std.proofs.Common.{◌≡◌, ◌≤◌, ◌<◌, ◌+◌, ◌*◌, ℕ, zero, suc, false, List, [], ◌∷◌, ◌++◌, length, take, drop, get_or, Option, Some, None, Result, Ok, Err, inl, inr, refl, sym, ap, subst, ◌∙◌, append_assoc, arith}
+use Rattle.std.proofs.Common.{◌≡◌, ◌≤◌, ◌<◌, ◌+◌, ◌-◌, ◌*◌, ℕ, zero, suc, false, List, [], ◌∷◌, ◌++◌, length, take, drop, get_or, Option, Some, None, Result, Ok, Err, inl, inr, refl, sym, ap, subst, ◌∙◌, append_assoc, arith}
 use Rattle.std.specs.Prelude.{slice_get, IfErr, IfOk, IfSome, IsSome}
 use Rattle.std.proofs.lemmas.List.{append-nil, length-append, length-take, take-append-drop}
 use Rattle.std.proofs.lemmas.Option.{same_Some, slice_get-get_or}
 use Rattle.std.proofs.lemmas.Grind.{flat_map-append}
-use Rattle.std.proofs.Math.Seq.{take-length}
 use mathlib.Core.Option.{some}
 use lib.ListN.{get_elem?}
 use Rattle.zic_columns.specs.Round.{ArePiecesOf, records_of}
@@ -29,7 +28,7 @@ use Rattle.zic_convert.specs.Run.{AreFew}
 use Rattle.zic_convert.specs.declared.tally.Tally.{Tally}
 use Rattle.zic_convert.proofs.Coming.{come_more, faults_more, no_rows, rows_followed}
 use Rattle.zic_convert.proofs.PieceRecords.{as_many_in, as_many_of_all}
-use Rattle.zic_convert.proofs.TooMany.{few_of_front, row_within}
+use Rattle.zic_convert.proofs.TooMany.{are_on, cut_ends, fails_before, few_of_front, row_within, rows_on, stops_before}
 
 module _ (layout : Layout) (files : List File) (most size : ℕ) where
   -- the rows of pieces, by those of each
@@ -154,7 +153,7 @@ few_records p sound = omega (arith, as_many_of_all p.layout.delimiter p.pieces, 
 pub small_number : (p : Pieces) (i : ℕ) → ArePieces p → i < length p.pieces → p.first + i * p.size ≤ 281475076710657
 small_number p i sound lt = omega (arith, product i p.size (omega (arith, lt, sound.few)) sound.small, sound.first)
 
--- ---- the pieces up to one, or up to a row
+-- ---- the pieces up to one
 
 -- the first pieces of a round are pieces
 front_cut : (size n : ℕ) (pieces : List (List ℕ)) → 1 ≤ size → ArePiecesOf size pieces → ArePiecesOf size (take n pieces)
@@ -174,17 +173,6 @@ front_sound p i sound = record {
   least = sound.least;
   first = sound.first;
 }
-
--- all pieces are the first of as many
-pub before_sound : (p : Pieces) (most : ℕ) → ArePieces p → ArePieces (record p { pieces = take (length p.pieces) p.pieces; most = most; stops = false })
-before_sound p most sound = rw (take-length p.pieces) (record {
-  some = sound.some;
-  small = sound.small;
-  cut = sound.cut;
-  few = sound.few;
-  least = sound.least;
-  first = sound.first;
-})
 
 -- a row with one fault too many has a number of its own
 pub row_positive : (p : Pieces) (limit : Option ℕ) (fault : RowFault) → ArePieces p → HasOneTooMany p limit fault → 1 ≤ fault.row
@@ -314,6 +302,67 @@ module _ (p : Pieces) (i : ℕ) (found : RowsOf) (sound : ArePieces p) (lt : i <
     pub again_err : (why : RunStop) → EndsInRound (record p { pieces = take (i + 1) p.pieces; stops = false }) limit contents old new log log' why → EndsInRound p limit contents old new log log' why
     again_err why (inl memory) = inl memory
     again_err why (inr ends) = by_fault ends.0 ends.0.fault refl ends.1 why ends.2
+
+-- ---- a round that is converted again up to a row with one fault too many
+
+module _ (p : Pieces) (sound : ArePieces p) (fault : RowFault) where
+  -- its pieces
+  abbrev pub low_of : Pieces
+  low_of = record p { most = fault.row - 1; stops = false }
+
+  pub sound_low : ArePieces low_of
+  sound_low = record {
+    some = sound.some;
+    small = sound.small;
+    cut = sound.cut;
+    few = sound.few;
+    least = sound.least;
+    first = sound.first;
+  }
+
+  module _ (values : List RowsOf) (are : AreValues (IsOutcomeOf low_of) (length p.pieces) values) where
+    pub joined_low : AreRowsOf p.layout p.files (fault.row - 1) p.first (records_of_all p.layout.delimiter p.pieces) (joined values)
+    joined_low = joined_round low_of values sound_low are
+
+    module _ (limit : Option ℕ) (many : HasOneTooMany p limit fault) where
+      at : fault.row - 1 + 1 ≡ fault.row
+      at = omega (arith, row_positive p limit fault sound many)
+
+      -- it ends at that row
+      pub low_ends : (joined values).fault ≡ None → ⊥
+      low_ends none =
+          let (rows, are_rows, before, one) = many in
+          cut_ends p.layout p.files p.most limit p.first (records_of_all p.layout.delimiter p.pieces) rows are_rows fault.row fault.kind before one (fault.row - 1) at (joined values) joined_low none
+
+      module _ {W : Type 0} (contents : W → Option (List ℕ)) (old new : Counts W) (log log' : Option (List RowNote)) where
+        pub low_stops : (row : ℕ) (kind : RowKind) → EndsInPieces contents old new log log' p.first values (stop.Row row kind)
+            → EndsInRound p limit contents old new log log' (stop.Row fault.row fault.kind)
+        low_stops row kind h =
+            let (rows, are_rows, before, one) = many in
+            let rs = records_of_all p.layout.delimiter p.pieces in
+            inr (
+              rows_on p.layout p.files p.most limit p.first rs rows are_rows fault.row fault.kind before one (fault.row - 1) at (joined values) joined_low,
+              are_on p.layout p.files p.most limit p.first rs rows are_rows fault.row fault.kind before one (fault.row - 1) at (joined values) joined_low,
+              inr (stops_before p.layout p.files p.most limit p.first rs rows are_rows fault.row fault.kind before one (fault.row - 1) at (joined values) joined_low contents old new log log' row kind h),
+            )
+
+        -- or the writer fails before it
+        pub low_fails : (why : RunStop) → ((row : ℕ) (kind : RowKind) → why ≡ stop.Row row kind → ⊥) → EndsInPieces contents old new log log' p.first values why → EndsInRound p limit contents old new log log' why
+        low_fails (stop.Row row kind) other h = absurd (other row kind refl)
+        low_fails stop.WriteFailed other h =
+            let (rows, are_rows, before, one) = many in
+            let rs = records_of_all p.layout.delimiter p.pieces in
+            inr (
+              rows_on p.layout p.files p.most limit p.first rs rows are_rows fault.row fault.kind before one (fault.row - 1) at (joined values) joined_low,
+              are_on p.layout p.files p.most limit p.first rs rows are_rows fault.row fault.kind before one (fault.row - 1) at (joined values) joined_low,
+              fails_before p.layout p.files p.most limit p.first rs rows are_rows fault.row fault.kind before one (fault.row - 1) at (joined values) joined_low contents old new log log'
+                  (pieces_end contents old new log log' low_of None values sound_low are tt stop.WriteFailed h),
+            )
+        low_fails (stop.Source fault) other h = absurd h
+        low_fails stop.ReadFailed other h = absurd h
+        low_fails stop.ColumnTooLong other h = absurd h
+        low_fails stop.Memory other h = absurd h
+        low_fails stop.NoThread other h = absurd h
 
 -- what holds of a value where more does
 pub on_ok : {X E : Type 0} (r : Result X E) (P Q : X → Type 0) → ((x : X) → P x → Q x) → IfOk r P → IfOk r Q

@@ -1,8 +1,9 @@
 -- Rows up to one with one fault too many.
-use Rattle.std.proofs.Common.{◌≡◌, ◌≤◌, ◌<◌, ◌+◌, ◌-◌, ◌⊎◌, ℕ, suc, List, [], ◌∷◌, ◌++◌, length, take, drop, Option, Some, None, inl, inr, refl, sym, ap, ap₂, subst, ◌∙◌, append_assoc, le-leb, arith}
+use Rattle.std.proofs.Common.{◌≡◌, ◌≤◌, ◌<◌, ◌+◌, ◌⊎◌, ℕ, suc, List, [], ◌∷◌, ◌++◌, length, length-take-le, get_or, take, drop, Option, Some, None, inl, inr, refl, sym, ap, ap₂, subst, ◌∙◌, append_assoc, le-leb, arith}
 use Rattle.std.specs.Prelude.{IsSome, is_some, option_map}
 use Rattle.std.specs.List.{concat}
 use Rattle.std.specs.Io.{StartsWith}
+use Rattle.std.proofs.Math.Seq.{drop-cons}
 use Rattle.std.proofs.lemmas.Bool.{lt-leb}
 use Rattle.std.proofs.lemmas.List.{length-append, take-append-drop}
 use Rattle.std.proofs.lemmas.List.Folds.{concat-append}
@@ -11,6 +12,7 @@ use Rattle.zic_counted.specs.Counts.{Counts}
 use Rattle.zic_files.specs.File.{File}
 use Rattle.zic_plan.specs.declared.layout.Layout.{Layout}
 use Rattle.zic_plan.specs.Noted.{RowNote}
+use Rattle.zic_base.specs.declared.row_fault.RowFault.{RowFault}
 use Rattle.zic_base.specs.declared.row_fault.RowKind.{RowKind}
 use Rattle.zic_base.specs.declared.row_fault.RowKind.TheVariants as kinds
 use Rattle.zic_convert.specs.LayoutRows.{RecordsConvertBy, IsRowAt, ending, ends_by, fault_by, faults_by, if_aside, noted}
@@ -51,7 +53,9 @@ more_few (Some most) (Some left) faults others is few =
 -- before any all are left
 pub all_left : (limit : Option ℕ) → IsLeft limit [] limit
 all_left None = refl
-all_left (Some most) = refl
+all_left (Some most) =
+    let none : most ≡ 0 + most = omega arith in
+    ap Some none
 
 -- after some, and then others
 pub left_then : (limit mid left : Option ℕ) (faults others : List RowNote) → IsLeft limit faults mid → IsLeft mid others left → IsLeft limit (faults ++ others) left
@@ -83,6 +87,18 @@ too_many_of_more limit faults more row kind before many =
       full = many.full;
     }
 
+-- the one after as many as the limit says is one too many
+pub one_at : (faults : List RowNote) (n : ℕ) (note : RowNote) → n < length faults → note ≡ get_or faults n note → (fault : RowFault) → fault ≡ note.fault
+    → (before : List RowNote) × IsOneTooMany (Some n) faults fault.row fault.kind before
+one_at faults n note lt is fault same =
+    let whole : note ≡ record { fault = record { row = fault.row; kind = fault.kind }; own = note.own } = rw same refl in
+    (take n faults, record {
+      own = note.own;
+      after = drop (suc n) faults;
+      parts = sym (take-append-drop n faults) ∙ ap (λ (l : List RowNote). take n faults ++ l) (drop-cons faults n note lt ∙ ap (λ (x : RowNote). x ∷ drop (suc n) faults) (sym is ∙ whole));
+      full = ap Some (sym (length-take-le n faults (omega (arith, lt))));
+    })
+
 -- nothing is one too many without a limit
 pub none_too_many : (faults : List RowNote) (row : ℕ) (kind : RowKind) (before : List RowNote) → IsOneTooMany None faults row kind before → ⊥
 none_too_many faults row kind before many = absurd (cc many.full)
@@ -103,13 +119,13 @@ module _ (layout : Layout) (files : List File) where
   -- the faults of records begin with those of the first of them
   pub faults_begin : (most number : ℕ) (xs ys : List CsvRecord) → (more : List RowNote) × (faults_by layout files most number (xs ++ ys) ≡ faults_by layout files most number xs ++ more)
   faults_begin most number [] ys = (faults_by layout files most number ys, refl)
-  faults_begin most number (x ∷ xs) ys = by_end (ends_by layout files most number x) refl where
+  faults_begin most number (x ∷ xs) ys = by_end (ends_by layout files most number x) refl (faults_begin most (number + 1) xs ys) where
     by_end : (end : Option RowKind) → ends_by layout files most number x ≡ end
+        → ((more : List RowNote) × (faults_by layout files most (number + 1) (xs ++ ys) ≡ faults_by layout files most (number + 1) xs ++ more))
         → (more : List RowNote) × (faults_by layout files most number (x ∷ (xs ++ ys)) ≡ faults_by layout files most number (x ∷ xs) ++ more)
-    by_end (Some kind) e = ([], rw e refl)
-    by_end None e =
+    by_end (Some kind) e rest = ([], rw e refl)
+    by_end None e rest =
         let here = noted layout.at_fault number x.own (fault_by layout files most number x) in
-        let rest = faults_begin most (number + 1) xs ys in
         (rest.0, rw e (ap (λ (l : List RowNote). here ++ l) rest.1 ∙ sym (append_assoc here (faults_by layout files most (number + 1) xs) rest.0)))
 
   -- of which there are no fewer
@@ -191,13 +207,17 @@ module _ (layout : Layout) (files : List File) where
     pub noted_within : (number : ℕ) (xs : List CsvRecord) (before after : List RowNote) (note : RowNote) → faults_by layout files most number xs ≡ before ++ note ∷ after
         → (number ≤ note.fault.row) × (note.fault.row ≤ most)
     noted_within number [] before after note e = absurd (no_note before after note e)
-    noted_within number (x ∷ xs) before after note e = by_end (ends_by layout files most number x) refl where
-      by_end : (end : Option RowKind) → ends_by layout files most number x ≡ end → (number ≤ note.fault.row) × (note.fault.row ≤ most)
-      by_end (Some kind) is = absurd (no_note before after note (rw is at e))
-      by_end None is = elim (either number x xs before after note (rw is at e)) [
-        | inl here ↦ (omega (arith, here.1), omega (arith, here.1, within layout files most number x is))
-        | inr then ↦ let rest = noted_within (number + 1) xs then.others after note then.parts in (omega (arith, rest.0), rest.1)
-      ]
+    noted_within number (x ∷ xs) before after note e =
+        by_end (ends_by layout files most number x) refl (λ others later. noted_within (number + 1) xs others after note later)
+      where
+        by_end : (end : Option RowKind) → ends_by layout files most number x ≡ end
+            → ((others : List RowNote) → faults_by layout files most (number + 1) xs ≡ others ++ note ∷ after → (number + 1 ≤ note.fault.row) × (note.fault.row ≤ most))
+            → (number ≤ note.fault.row) × (note.fault.row ≤ most)
+        by_end (Some kind) is rest = absurd (no_note before after note (rw is at e))
+        by_end None is rest = elim (either number x xs before after note (rw is at e)) [
+          | inl here ↦ (omega (arith, here.1), omega (arith, here.1, within layout files most number x is))
+          | inr then ↦ let later = rest then.others then.parts in (omega (arith, later.0), later.1)
+        ]
 
     -- the one record has the note
     pub one_noted : (number : ℕ) (x : CsvRecord) (before after : List RowNote) (note : RowNote) → faults_by layout files most number (x ∷ []) ≡ before ++ note ∷ after

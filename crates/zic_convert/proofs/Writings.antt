@@ -1,5 +1,6 @@
 -- The rows of pieces, one piece after another.
 use Rattle.std.proofs.Common.{◌≡◌, ◌<◌, ◌≤◌, ◌+◌, ℕ, suc, List, [], ◌∷◌, ◌++◌, length, get_or, drop, take, Option, Some, None, refl, sym, ap, ◌∙◌, append_assoc, arith}
+use Rattle.std.specs.Prelude.{IsSome}
 use Rattle.std.proofs.Math.Seq.{take-suc}
 use Rattle.std.proofs.lemmas.List.{append-nil, take-append-drop}
 use Rattle.zic_plan.specs.Noted.{RowNote}
@@ -58,6 +59,16 @@ module _ (pieces : List RowsOf) (i : ℕ) where
   count_more rows others None = omega arith
   count_more rows others (Some kind) = omega arith
 
+  faults_more : (rows others : RowsOf) (fault : Option RowKind) → (more : List RowNote) × ((followed_by rows others fault).faults ≡ rows.faults ++ more)
+  faults_more rows others None = (others.faults, refl)
+  faults_more rows others (Some kind) = ([], sym (append-nil rows.faults))
+
+  -- and so do their faults
+  pub front_faults : (more : List RowNote) × ((joined pieces).faults ≡ (joined (take i pieces)).faults ++ more)
+  front_faults =
+      let more = faults_more (joined (take i pieces)) (joined (drop i pieces)) (joined (take i pieces)).fault in
+      (more.0, ap (λ (r : RowsOf). r.faults) all_parts ∙ more.1)
+
   -- there are no more of the first than of all
   pub front_few : (joined (take i pieces)).count ≤ (joined pieces).count
   front_few =
@@ -68,6 +79,13 @@ module _ (pieces : List RowsOf) (i : ℕ) where
   -- the first are all, where one of them ends the run
   pub front_ends : (kind : RowKind) → (joined (take i pieces)).fault ≡ Some kind → joined pieces ≡ joined (take i pieces)
   front_ends kind some = all_parts ∙ ap (followed_by (joined (take i pieces)) (joined (drop i pieces))) some
+
+  ends_by_fault : (fault : Option RowKind) → (joined (take i pieces)).fault ≡ fault → IsSome fault → joined pieces ≡ joined (take i pieces)
+  ends_by_fault None e has = absurd (cc has)
+  ends_by_fault (Some kind) e has = front_ends kind e
+
+  pub front_is_all : IsSome (joined (take i pieces)).fault → joined pieces ≡ joined (take i pieces)
+  front_is_all has = ends_by_fault (joined (take i pieces)).fault refl has
 
   -- one piece more
   module _ (rows : RowsOf) (lt : i < length pieces) (is : rows ≡ get_or pieces i rows) (goes_on : (joined (take i pieces)).fault ≡ None) where

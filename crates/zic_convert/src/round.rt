@@ -72,14 +72,17 @@ fn end_at_fault<T: Threads + Wait + Sync, W: Write, G: Gate + Sync, L: RowLog>(
         Ok(rows) => rows,
         Err(stop) => return stop,
     };
-    match write_rows(writer, first, &rows, log) {
+    let stop = match write_rows(writer, first, &rows, log) {
         Ok(_) => unreachable!(),
-        Err(RunStop::Row { .. }) => RunStop::Row {
+        Err(stop) => stop,
+    };
+    if let RunStop::Row { .. } = stop {
+        return RunStop::Row {
             row: fault.row,
             kind: fault.kind,
-        },
-        Err(stop) => stop,
+        };
     }
+    stop
 }
 
 /// Writes the rows of a round, by those of its pieces, and notes their faults, of which this many are
@@ -97,7 +100,7 @@ fn write_round<T: Threads + Wait + Sync, W: Write, G: Gate + Sync, L: RowLog>(
     writer: &mut Counted<W>,
     log: &mut L,
 ) -> Result<Tally, RunStop>
-    requires { AreValues (IsOutcomeOf pieces.now) (length pieces.now.pieces) rows.now }
+    requires values { AreValues (IsOutcomeOf pieces.now) (length pieces.now.pieces) rows.now }
     ensures ok { IfOk result (WritesRound pieces.now left W.contents writer.old writer.new
         (L.noted log.old) (L.noted log.new)) }
     ensures stop { IfErr result (EndsInRound pieces.now left W.contents writer.old writer.new

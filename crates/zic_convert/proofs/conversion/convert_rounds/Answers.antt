@@ -16,7 +16,7 @@ rounds-init g c = record {
   failures = refl;
   grown = g.met.Z.Zones.same c.args.zones.now;
   far = λ files may.
-      far_at_start c.args.conversion.now.layout.now c.args.conversion.now.plan.now.max_rows (unread g.R.Read.remaining c.args.column.now) (g.W.Write.contents c.args.writer.now.inner)
+      far_at_start c.args.conversion.now.layout.now c.args.conversion.now.plan.now.max_rows c.args.conversion.now.max_faults (unread g.R.Read.remaining c.args.column.now) (g.W.Write.contents c.args.writer.now.inner)
       (g.L.RowLog.noted c.args.log.now) files;
 }
 
@@ -25,6 +25,7 @@ returns-in_err-taken-clause-halt g c =
     let l = c.rounds in
     let layout = c.args.conversion.now.layout.now in
     let plan = c.args.conversion.now.plan.now in
+    let limit = c.args.conversion.now.max_faults in
     let contents = g.W.Write.contents in
     let known = unread g.R.Read.remaining c.args.column.now in
     let left = unread g.R.Read.remaining l.column in
@@ -33,14 +34,15 @@ returns-in_err-taken-clause-halt g c =
     let now = g.L.RowLog.noted l.log in
     let p = err_from_is_err_and c.from_residual.result c.from_residual.ensures.1 in
     rw (p.1, p.2) (no_round g.Z.Zones.known g.Z.Zones.settled g.Z.Zones.may_be g.Z.Zones.grown g.Z.Zones.broken g.met.Z.Zones.same g.met.Z.Zones.then g.met.Z.Zones.narrows g.met.Z.Zones.agrees contents
-    c.files_answer_once.ensures layout plan known left l.count held l.writer log now c.args.zones.now l.zones l.invariant.grown l.invariant.far
+    c.files_answer_once.ensures layout plan limit known left l.count l.left held l.writer log now c.args.zones.now l.zones l.invariant.grown l.invariant.far
     c.next_round.new.zones c.in_err-taken.field-0.0 c.in_err-taken.ensures.halt)
 
-pub returns-in_err-count-clause-halt : goal.returns-in_err-count-clause-halt
-returns-in_err-count-clause-halt g c =
+pub returns-in_err-tally-clause-halt : goal.returns-in_err-tally-clause-halt
+returns-in_err-tally-clause-halt g c =
     let l = c.rounds in
     let layout = c.args.conversion.now.layout.now in
     let plan = c.args.conversion.now.plan.now in
+    let limit = c.args.conversion.now.max_faults in
     let contents = g.W.Write.contents in
     let known = unread g.R.Read.remaining c.args.column.now in
     let left = unread g.R.Read.remaining l.column in
@@ -55,17 +57,18 @@ returns-in_err-count-clause-halt g c =
     let rs = taken_rows layout.delimiter taken pieces in
     let rows_next = rows_taken layout l.column.by l.invariant.by left next taken pieces takes.takes in
     let grows = c.in_ok-taken.ensures.grown in
-    let ends = rw c.round-round.ensures at c.in_err-count.ensures.stop in
-    let p = err_from_is_err_and c.from_residual-in_err-count.result c.from_residual-in_err-count.ensures.1 in
+    let ends = rw c.round-round.ensures at c.in_err-tally.ensures.stop in
+    let p = err_from_is_err_and c.from_residual-in_err-tally.result c.from_residual-in_err-tally.ensures.1 in
     rw (p.1, p.2) (round_ends g.Z.Zones.known g.Z.Zones.settled g.Z.Zones.may_be g.Z.Zones.grown g.Z.Zones.broken g.met.Z.Zones.same g.met.Z.Zones.then g.met.Z.Zones.narrows g.met.Z.Zones.agrees contents
-    c.files_answer_once.ensures layout plan known left l.count held l.writer log now c.args.zones.now l.zones l.invariant.grown l.invariant.far
-    then grows rs next rows_next (λ files may. taken_known layout.delimiter c.byte.ensures.sound (g.Z.Zones.settled then) (g.Z.Zones.known then) files (g.met.Z.Zones.agrees then files may) layout.zone taken pieces c.in_ok-taken.ensures.settled) c.convert_ready.new.writer (g.L.RowLog.noted c.convert_ready.new.log) c.in_err-count.field-0.0 ends)
+    c.files_answer_once.ensures layout plan limit known left l.count l.left held l.writer log now c.args.zones.now l.zones l.invariant.grown l.invariant.far
+    then grows rs next rows_next (λ files may. taken_known layout.delimiter c.byte.ensures.sound (g.Z.Zones.settled then) (g.Z.Zones.known then) files (g.met.Z.Zones.agrees then files may) layout.zone taken pieces c.in_ok-taken.ensures.settled) c.convert_ready.new.writer (g.L.RowLog.noted c.convert_ready.new.log) c.in_err-tally.field-0.0 ends)
 
 pub overflow_add-count-in-rounds : goal.overflow_add-count-in-rounds
 overflow_add-count-in-rounds g c =
     let l = c.rounds in
     let layout = c.args.conversion.now.layout.now in
     let plan = c.args.conversion.now.plan.now in
+    let limit = c.args.conversion.now.max_faults in
     let contents = g.W.Write.contents in
     let known = unread g.R.Read.remaining c.args.column.now in
     let left = unread g.R.Read.remaining l.column in
@@ -80,9 +83,9 @@ overflow_add-count-in-rounds g c =
     let rs = taken_rows layout.delimiter taken pieces in
     let rows_next = rows_taken layout l.column.by l.invariant.by left next taken pieces takes.takes in
     let grows = c.in_ok-taken.ensures.grown in
-    let (rows, are, wrote) = rw c.round-round.ensures at c.in_ok-count.ensures.ok in
+    let (rows, are, wrote, left_is) = rw c.round-round.ensures at c.in_ok-tally.ensures.ok in
     let within = no_more layout (g.Z.Zones.known then) plan.max_rows l.count rs rows are wrote.0 l.invariant.within in
-    let fits : l.count + c.in_ok-count.field-0 < 18446744073709551616 = omega (arith, wrote.1, within, c.max_rows.ensures.plan.max_rows) in
+    let fits : l.count + c.in_ok-tally.tally.rows < 18446744073709551616 = omega (arith, wrote.1, within, c.max_rows.ensures.plan.max_rows) in
     search (rules, fits)
 
 pub rounds-smaller : goal.rounds-smaller
@@ -90,6 +93,7 @@ rounds-smaller g c =
     let l = c.rounds in
     let layout = c.args.conversion.now.layout.now in
     let plan = c.args.conversion.now.plan.now in
+    let limit = c.args.conversion.now.max_faults in
     let contents = g.W.Write.contents in
     let known = unread g.R.Read.remaining c.args.column.now in
     let left = unread g.R.Read.remaining l.column in
@@ -104,7 +108,7 @@ rounds-smaller g c =
     let rs = taken_rows layout.delimiter taken pieces in
     let rows_next = rows_taken layout l.column.by l.invariant.by left next taken pieces takes.takes in
     let grows = c.in_ok-taken.ensures.grown in
-    let (rows, are, wrote) = rw c.round-round.ensures at c.in_ok-count.ensures.ok in
+    let (rows, are, wrote, left_is) = rw c.round-round.ensures at c.in_ok-tally.ensures.ok in
     let many = as_many layout (g.Z.Zones.known then) plan.max_rows (l.count + 1) rs rows are wrote.0 in
     let filled = taken_some layout.delimiter plan.row_piece taken pieces c.in_default.not-End c.in_default-taken.not-TooLong takes.some.0 (omega (arith, c.max_rows.ensures.plan.row_piece.0)) takes.cut in
     omega (arith, wrote.1, many, filled, l.invariant.within)
@@ -114,6 +118,7 @@ rounds-preserved g c =
     let l = c.rounds in
     let layout = c.args.conversion.now.layout.now in
     let plan = c.args.conversion.now.plan.now in
+    let limit = c.args.conversion.now.max_faults in
     let contents = g.W.Write.contents in
     let known = unread g.R.Read.remaining c.args.column.now in
     let left = unread g.R.Read.remaining l.column in
@@ -128,8 +133,8 @@ rounds-preserved g c =
     let rs = taken_rows layout.delimiter taken pieces in
     let rows_next = rows_taken layout l.column.by l.invariant.by left next taken pieces takes.takes in
     let grows = c.in_ok-taken.ensures.grown in
-    let ok = rw c.round-round.ensures at c.in_ok-count.ensures.ok in
-    let (rows, are, wrote) = ok in
+    let ok = rw c.round-round.ensures at c.in_ok-tally.ensures.ok in
+    let (rows, are, wrote, left_is) = ok in
     let within = no_more layout (g.Z.Zones.known then) plan.max_rows l.count rs rows are wrote.0 l.invariant.within in
     record {
       by = takes.by ∙ l.invariant.by;
@@ -137,15 +142,16 @@ rounds-preserved g c =
       failures = wrote.2.1 ∙ l.invariant.failures;
       grown = g.met.Z.Zones.then c.args.zones.now l.zones then l.invariant.grown grows;
       far = far_on g.Z.Zones.known g.Z.Zones.settled g.Z.Zones.may_be g.Z.Zones.grown g.Z.Zones.broken g.met.Z.Zones.same g.met.Z.Zones.then g.met.Z.Zones.narrows g.met.Z.Zones.agrees contents
-          c.files_answer_once.ensures layout plan known left l.count held l.writer log now c.args.zones.now l.zones l.invariant.grown l.invariant.far
-          then grows rs next rows_next (λ files may. taken_known layout.delimiter c.byte.ensures.sound (g.Z.Zones.settled then) (g.Z.Zones.known then) files (g.met.Z.Zones.agrees then files may) layout.zone taken pieces c.in_ok-taken.ensures.settled) c.convert_ready.new.writer (g.L.RowLog.noted c.convert_ready.new.log) c.in_ok-count.field-0 ok;
+          c.files_answer_once.ensures layout plan limit known left l.count l.left held l.writer log now c.args.zones.now l.zones l.invariant.grown l.invariant.far
+          then grows rs next rows_next (λ files may. taken_known layout.delimiter c.byte.ensures.sound (g.Z.Zones.settled then) (g.Z.Zones.known then) files (g.met.Z.Zones.agrees then files may) layout.zone taken pieces c.in_ok-taken.ensures.settled) c.convert_ready.new.writer (g.L.RowLog.noted c.convert_ready.new.log) c.in_ok-tally.tally ok;
     }
 
-pub rounds-preserved-in_ok-count : goal.rounds-preserved-in_ok-count
-rounds-preserved-in_ok-count g c =
+pub rounds-preserved-in_ok-tally : goal.rounds-preserved-in_ok-tally
+rounds-preserved-in_ok-tally g c =
     let l = c.rounds in
     let layout = c.args.conversion.now.layout.now in
     let plan = c.args.conversion.now.plan.now in
+    let limit = c.args.conversion.now.max_faults in
     let contents = g.W.Write.contents in
     let known = unread g.R.Read.remaining c.args.column.now in
     let left = unread g.R.Read.remaining l.column in
@@ -160,8 +166,8 @@ rounds-preserved-in_ok-count g c =
     let rs = taken_rows layout.delimiter taken pieces in
     let rows_next = rows_taken layout l.column.by l.invariant.by left next taken pieces takes.takes in
     let grows = c.in_ok-taken.ensures.grown in
-    let ok = rw c.round-round.ensures at c.in_ok-count.ensures.ok in
-    let (rows, are, wrote) = ok in
+    let ok = rw c.round-round.ensures at c.in_ok-tally.ensures.ok in
+    let (rows, are, wrote, left_is) = ok in
     let within = no_more layout (g.Z.Zones.known then) plan.max_rows l.count rs rows are wrote.0 l.invariant.within in
     record {
       by = takes.by ∙ l.invariant.by;
@@ -169,8 +175,8 @@ rounds-preserved-in_ok-count g c =
       failures = wrote.2.1 ∙ l.invariant.failures;
       grown = g.met.Z.Zones.then c.args.zones.now l.zones then l.invariant.grown grows;
       far = far_on g.Z.Zones.known g.Z.Zones.settled g.Z.Zones.may_be g.Z.Zones.grown g.Z.Zones.broken g.met.Z.Zones.same g.met.Z.Zones.then g.met.Z.Zones.narrows g.met.Z.Zones.agrees contents
-          c.files_answer_once.ensures layout plan known left l.count held l.writer log now c.args.zones.now l.zones l.invariant.grown l.invariant.far
-          then grows rs next rows_next (λ files may. taken_known layout.delimiter c.byte.ensures.sound (g.Z.Zones.settled then) (g.Z.Zones.known then) files (g.met.Z.Zones.agrees then files may) layout.zone taken pieces c.in_ok-taken.ensures.settled) c.convert_ready.new.writer (g.L.RowLog.noted c.convert_ready.new.log) c.in_ok-count.field-0 ok;
+          c.files_answer_once.ensures layout plan limit known left l.count l.left held l.writer log now c.args.zones.now l.zones l.invariant.grown l.invariant.far
+          then grows rs next rows_next (λ files may. taken_known layout.delimiter c.byte.ensures.sound (g.Z.Zones.settled then) (g.Z.Zones.known then) files (g.met.Z.Zones.agrees then files may) layout.zone taken pieces c.in_ok-taken.ensures.settled) c.convert_ready.new.writer (g.L.RowLog.noted c.convert_ready.new.log) c.in_ok-tally.tally ok;
     }
 
 pub returns-in_err-flush-clause-halt : goal.returns-in_err-flush-clause-halt
@@ -178,6 +184,7 @@ returns-in_err-flush-clause-halt g c =
     let l = c.rounds in
     let layout = c.args.conversion.now.layout.now in
     let plan = c.args.conversion.now.plan.now in
+    let limit = c.args.conversion.now.max_faults in
     let contents = g.W.Write.contents in
     let known = unread g.R.Read.remaining c.args.column.now in
     let left = unread g.R.Read.remaining l.column in
@@ -194,7 +201,7 @@ returns-in_err-flush-clause-halt g c =
     let grows = c.in_ok-taken.ensures.grown in
     let p = err_from_is_err_and c.from_residual-in_err-flush.result c.from_residual-in_err-flush.ensures.1 in
     rw (p.1, p.2, c.in_err-flush.ensures.err.0) (flush_fails g.Z.Zones.known g.Z.Zones.settled g.Z.Zones.may_be g.Z.Zones.grown g.Z.Zones.broken g.met.Z.Zones.same g.met.Z.Zones.then g.met.Z.Zones.narrows g.met.Z.Zones.agrees contents
-    c.files_answer_once.ensures layout plan known left l.count held l.writer log now c.args.zones.now l.zones l.invariant.grown l.invariant.far
+    c.files_answer_once.ensures layout plan limit known left l.count l.left held l.writer log now c.args.zones.now l.zones l.invariant.grown l.invariant.far
     then grows rs next rows_next c.flush.new.writer c.in_err-flush.ensures.err.1)
 
 pub returns-clause-grown : goal.returns-clause-grown
@@ -205,6 +212,7 @@ returns-clause-all g c =
     let l = c.rounds in
     let layout = c.args.conversion.now.layout.now in
     let plan = c.args.conversion.now.plan.now in
+    let limit = c.args.conversion.now.max_faults in
     let contents = g.W.Write.contents in
     let known = unread g.R.Read.remaining c.args.column.now in
     let left = unread g.R.Read.remaining l.column in
@@ -222,7 +230,7 @@ returns-clause-all g c =
     let nothing = rw c.in-End.is at rows_next in
     let end = rw l.invariant.by at (takes.end c.in-End.is) in
     rounds_done g.Z.Zones.known g.Z.Zones.settled g.Z.Zones.may_be g.Z.Zones.grown g.Z.Zones.broken g.met.Z.Zones.same g.met.Z.Zones.then g.met.Z.Zones.narrows g.met.Z.Zones.agrees contents
-    c.files_answer_once.ensures layout plan known left l.count held l.writer log now c.args.zones.now l.zones l.invariant.grown l.invariant.far
+    c.files_answer_once.ensures layout plan limit known left l.count l.left held l.writer log now c.args.zones.now l.zones l.invariant.grown l.invariant.far
     then grows rs next rows_next nothing end c.flush.new.writer c.in_ok-flush.ensures.ok
 
 pub returns-in-TooLong-clause-halt : goal.returns-in-TooLong-clause-halt
@@ -230,6 +238,7 @@ returns-in-TooLong-clause-halt g c =
     let l = c.rounds in
     let layout = c.args.conversion.now.layout.now in
     let plan = c.args.conversion.now.plan.now in
+    let limit = c.args.conversion.now.max_faults in
     let contents = g.W.Write.contents in
     let known = unread g.R.Read.remaining c.args.column.now in
     let left = unread g.R.Read.remaining l.column in
@@ -247,6 +256,6 @@ returns-in-TooLong-clause-halt g c =
     let nothing = rw c.in-TooLong.is at rows_next in
     let long = rw l.invariant.by at (takes.long c.in-TooLong.is) in
     long_ends g.Z.Zones.known g.Z.Zones.settled g.Z.Zones.may_be g.Z.Zones.grown g.Z.Zones.broken g.met.Z.Zones.same g.met.Z.Zones.then g.met.Z.Zones.narrows g.met.Z.Zones.agrees contents
-    c.files_answer_once.ensures layout plan known left l.count held l.writer log now c.args.zones.now l.zones l.invariant.grown l.invariant.far
+    c.files_answer_once.ensures layout plan limit known left l.count l.left held l.writer log now c.args.zones.now l.zones l.invariant.grown l.invariant.far
     then grows rs next rows_next nothing long c.end_at_long.new.writer c.end_at_long.result
-    (λ files given over. rw c.max_rows-most.ensures.rows at (c.end_at_long.ensures.stop layout files given now over))
+    (λ files given over. rw c.max_rows-most.ensures.rows at (c.end_at_long.ensures.stop layout files l.left given now over))

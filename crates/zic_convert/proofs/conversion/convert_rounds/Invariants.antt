@@ -11,7 +11,7 @@ invariant-rounds g l = record {
   failures : l.writer.failures ≡ l.fn.writer.failures;
   grown : g.Z.Zones.grown l.fn.zones l.zones;
   far : (files : List File) → g.Z.Zones.may_be l.zones files
-      → IsFarBy l.fn.conversion.layout.now l.fn.conversion.plan.now.max_rows (unread g.R.Read.remaining l.fn.column) (unread g.R.Read.remaining l.column) l.count (g.W.Write.contents l.fn.writer.inner)
+      → IsFarBy l.fn.conversion.layout.now l.fn.conversion.plan.now.max_rows l.fn.conversion.max_faults (unread g.R.Read.remaining l.fn.column) (unread g.R.Read.remaining l.column) l.count l.left (g.W.Write.contents l.fn.writer.inner)
       (g.W.Write.contents l.writer.inner) (g.L.RowLog.noted l.fn.log) (g.L.RowLog.noted l.log) files;
 }
 
