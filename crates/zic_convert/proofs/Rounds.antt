@@ -104,7 +104,7 @@ all_front P xs ys all = λ k d lt. subst P (get_or_append_left xs ys d k lt) (al
 module _ (layout : Layout) (most : ℕ) (limit : Option ℕ) (rs : List CsvRecord) (first : ℕ) (known files : List File) (still : (file : File) → Contains known file → Contains files file)
     (differ : AllPairs (λ (file other : File). file.name ≢ other.name) files) (only : All (IsKnownZone layout.zone known files) rs) {W : Type 0} (contents : W → Option (List ℕ)) (held now : Counts W) (log log' : Option (List RowNote)) where
   written_alike : (tally : Tally) → WritesRecords layout known most limit first rs contents held now log log' tally → WritesRecords layout files most limit first rs contents held now log log' tally
-  written_alike tally (rows, are, wrote) = (rows, rows_same known files still differ layout most first rs rows only are, wrote)
+  written_alike tally (rows, are, wrote, left_is) = (rows, rows_same known files still differ layout most first rs rows only are, wrote, left_is)
 
   rows_end_alike : (rows : RowsOf) (why : RunStop) → EndsInRows contents held now log log' layout known most limit first rs rows why
       → EndsInRows contents held now log log' layout files most limit first rs rows why

@@ -3,8 +3,8 @@ use Rattle.zic_columns.specs.Lines.{open_record, exchanged_record}
 use Rattle.zic_columns.specs.Own.{CsvRecord}
 use Rattle.zic_convert.specs.code.Pieces.{joined}
 use Rattle.zic_convert.proofs.Halts.{few}
-use Rattle.zic_convert.proofs.Joining.{on_err, on_ok}
-use Rattle.zic_convert.proofs.OpenLines.{alone, alone_ends}
+use Rattle.zic_convert.proofs.OpenLines.{alone, alone_ends, alone_stops}
+use Rattle.zic_convert.proofs.TooMany.{left_few}
 use Rattle.zic_convert.proofs.opened.write_open_line.Goals as goal
 
 pub write_rows-requires : goal.write_rows-requires
@@ -15,29 +15,28 @@ write_rows-requires g c =
     let all = alone layout [] most c.args.number given c.in-Ok.row (c.in-Ok.ensures []) in
     omega (arith, few layout [] most c.args.number (given ∷ []) (joined (c.in-Ok.row ∷ [])) all, c.requires)
 
-pub returns-clause-ok : goal.returns-clause-ok
-returns-clause-ok g c =
+pub returns-in-Ok-left_after-clause-stop : goal.returns-in-Ok-left_after-clause-stop
+returns-in-Ok-left_after-clause-stop g c = λ files.
     let layout = c.args.conversion.now.layout.now in
     let most = c.args.conversion.now.plan.now.max_rows in
     let given : CsvRecord = exchanged_record layout.delimiter (open_record c.args.line.now) in
-    on_ok c.write_rows.result _ _
-    (λ count wrote files. (joined (c.in-Ok.row ∷ []), alone layout files most c.args.number given c.in-Ok.row (rw c.max_rows-most.ensures.rows at (c.in-Ok.ensures files)), wrote))
-    c.write_rows.ensures.ok
-
-pub returns-clause-stop : goal.returns-clause-stop
-returns-clause-stop g c =
-    let layout = c.args.conversion.now.layout.now in
-    let most = c.args.conversion.now.plan.now.max_rows in
-    let given : CsvRecord = exchanged_record layout.delimiter (open_record c.args.line.now) in
-    let contents = g.W.Write.contents in
-    let log = g.L.RowLog.noted c.args.log.now in
-    let log' = g.L.RowLog.noted c.write_rows.new.log in
-    on_err c.write_rows.result _ _
-    (λ why ends files.
+    let row = c.in-Ok.row in
     let are = rw c.max_rows-most.ensures.rows at (c.in-Ok.ensures files) in
     inr (
-      joined (c.in-Ok.row ∷ []),
-      alone layout files most c.args.number given c.in-Ok.row are,
-      alone_ends contents c.args.writer.now c.write_rows.new.writer log log' layout files most c.args.number given c.in-Ok.row are why ends,
-    ))
-    c.write_rows.ensures.err
+      joined (row ∷ []),
+      alone layout files most c.args.number given row are,
+      alone_ends g.W.Write.contents c.args.writer.now c.write_rows.new.writer (g.L.RowLog.noted c.args.log.now) (g.L.RowLog.noted c.write_rows.new.log) layout files most c.args.left c.args.number given row are
+          c.in-Err-write_rows.stop (left_few c.args.left c.in-Ok-left_after.left (joined (row ∷ [])).faults c.in-Ok-left_after.ensures.ok) c.in-Err-write_rows.ensures.err,
+    )
+
+pub returns-clause-stop : goal.returns-clause-stop
+returns-clause-stop g c = λ files.
+    let layout = c.args.conversion.now.layout.now in
+    let most = c.args.conversion.now.plan.now.max_rows in
+    let given : CsvRecord = exchanged_record layout.delimiter (open_record c.args.line.now) in
+    let row = c.in-Ok.row in
+    let fault = c.in-Err.fault in
+    let are = rw c.max_rows-most.ensures.rows at (c.in-Ok.ensures files) in
+    let (before, many) = c.in-Err.ensures.err in
+    let log = g.L.RowLog.noted c.args.log.now in
+    alone_stops g.W.Write.contents c.args.writer.now c.stop_at.new.writer log log layout files most c.args.left c.args.number given row are fault.row fault.kind before many c.stop_at.result c.stop_at.ensures
