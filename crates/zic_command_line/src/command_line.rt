@@ -153,6 +153,8 @@ pub struct Conversion {
     pub faults: Option<String>,
     /// The path of the file for the records of these rows, if they are put aside.
     pub rejects: Option<String>,
+    /// The most rows with a fault after which a run goes on, where that is limited.
+    pub max_faults: Option<u64>,
     /// Whether the number of rows so far is printed.
     pub progress: bool,
     /// Whether the release of the zones is printed.
@@ -429,6 +431,7 @@ fn convert(alloc: Global, matches: &ArgMatches<'_>) -> Result<Request, NoRequest
         names: fields.names(),
         faults: optional(alloc, matches, "faults")?,
         rejects: optional(alloc, matches, "rejects")?,
+        max_faults: max_faults(alloc, matches)?,
         progress: matches.get_flag("progress"),
         shows_release: matches.get_flag("show-release"),
     }))

@@ -1,5 +1,5 @@
 -- The output of `convert` by texts, and why it gives up.
-use Rattle.std.specs.Prelude.{◌≡◌, ◌⊎◌, ℕ, List}
+use Rattle.std.specs.Prelude.{◌≡◌, ◌⊎◌, ℕ, List, Option}
 use Rattle.zic_base.specs.declared.run_stop.RunStop.{RunStop}
 use Rattle.zic_compile.specs.Build.{AreFilesOfTexts}
 use Rattle.zic_convert.specs.Convert.{IsCauseOf}
@@ -14,35 +14,35 @@ use Rattle.zic_plan.specs.declared.layout.Layout.{Layout}
 use Rattle.zic_source_commands.specs.Failing.{IsFailureOfTexts}
 
 -- the texts have files, and all rows of the column are written by them
-pub record ConvertsBySource {R W : Type 0} (texts : List (List ℕ)) (layout : Layout) (most n : ℕ) (run : Run R W) : Type 0 where
+pub record ConvertsBySource {R W : Type 0} (texts : List (List ℕ)) (layout : Layout) (most : ℕ) (limit : Option ℕ) (n : ℕ) (run : Run R W) : Type 0 where
   pub files : List File
   pub are_files : AreFilesOfTexts texts files
-  pub converts : Converts layout most n run files
+  pub converts : Converts layout most limit n run files
 
 -- the conversion of the column by these files ended early
-pub record IsFailureOfRowsBy {R W : Type 0} (plan : Limits) (layout : Layout) (run : Run R W) (files : List File) (failure : Failure) : Type 0 where
+pub record IsFailureOfRowsBy {R W : Type 0} (plan : Limits) (limit : Option ℕ) (layout : Layout) (run : Run R W) (files : List File) (failure : Failure) : Type 0 where
   pub has_zone : HasZone files layout.zone
   pub stop : RunStop
   pub is : failure ≡ run_failure stop 1
   pub cause : IsCauseOf plan.max_bytes run.reader run.reader' run.writer run.writer' stop
-  pub ends : EndsBy layout plan.max_rows stop run files
+  pub ends : EndsBy layout plan.max_rows limit stop run files
 
 -- why these files don't convert a column by a layout: memory ran out or they lack the zone for all rows, and nothing is touched, or the
 -- line of names can't be written, or the conversion ends early
-abbrev pub IsFailureByFiles : {R W : Type 0} → Limits → Layout → Run R W → List File → Failure → Type 0
-IsFailureByFiles plan layout run files failure =
+abbrev pub IsFailureByFiles : {R W : Type 0} → Limits → Option ℕ → Layout → Run R W → List File → Failure → Type 0
+IsFailureByFiles plan limit layout run files failure =
     (IsUntouched run × ((failure ≡ failures.Memory) ⊎ IsFailureOfZone files layout.zone failure))
     ⊎ (HasZone files layout.zone × FailsAtNames layout run failure)
-    ⊎ IsFailureOfRowsBy plan layout run files failure
+    ⊎ IsFailureOfRowsBy plan limit layout run files failure
 
 -- the texts have files, and these don't convert the column
-pub record IsFailureAfterTexts {R W : Type 0} (texts : List (List ℕ)) (plan : Limits) (layout : Layout) (run : Run R W) (failure : Failure) : Type 0 where
+pub record IsFailureAfterTexts {R W : Type 0} (texts : List (List ℕ)) (plan : Limits) (limit : Option ℕ) (layout : Layout) (run : Run R W) (failure : Failure) : Type 0 where
   pub files : List File
   pub are_files : AreFilesOfTexts texts files
-  pub by_files : IsFailureByFiles plan layout run files failure
+  pub by_files : IsFailureByFiles plan limit layout run files failure
 
 -- why texts don't convert a column by a layout: they have no files, and nothing is touched, or their files don't convert it
-abbrev pub IsFailureOfConvertSource : {R W : Type 0} → List (List ℕ) → Limits → Layout → Run R W → Failure → Type 0
-IsFailureOfConvertSource texts plan layout run failure =
+abbrev pub IsFailureOfConvertSource : {R W : Type 0} → List (List ℕ) → Limits → Option ℕ → Layout → Run R W → Failure → Type 0
+IsFailureOfConvertSource texts plan limit layout run failure =
     (IsUntouched run × IsFailureOfTexts texts failure)
-    ⊎ IsFailureAfterTexts texts plan layout run failure
+    ⊎ IsFailureAfterTexts texts plan limit layout run failure

@@ -34,7 +34,7 @@ pub fn convert_source<T: Threads + Wait + Sync, G: Gate + Sync, R: Read, W: Writ
     log: &mut L,
 ) -> Result<u64, Failure>
     ensures ok { IfOk result (λ rows. ConvertsBySource (texts_of texts.now)
-        conversion.now.layout.now conversion.now.plan.now.max_rows rows
+        conversion.now.layout.now conversion.now.plan.now.max_rows conversion.now.max_faults rows
         (run_of R.remaining W.contents L.noted reader.old reader.new writer.old writer.new
         log.old log.new)) }
     ensures within { IfOk result
@@ -42,7 +42,7 @@ pub fn convert_source<T: Threads + Wait + Sync, G: Gate + Sync, R: Read, W: Writ
     ensures unfailed { IfOk result (λ _. HasFailedSince reader.new reader.old.failures → ⊥) }
     ensures flushed { IfOk result (λ _. writer.new.failures ≡ writer.old.failures) }
     ensures err { IfErr result (IsFailureOfConvertSource (texts_of texts.now)
-        conversion.now.plan.now conversion.now.layout.now
+        conversion.now.plan.now conversion.now.max_faults conversion.now.layout.now
         (run_of R.remaining W.contents L.noted reader.old reader.new writer.old writer.new
         log.old log.new)) }
 {

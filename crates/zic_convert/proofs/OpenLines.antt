@@ -1,5 +1,5 @@
 -- The rows of open lines.
-use Rattle.std.proofs.Common.{◌≡◌, ◌+◌, ◌<◌, ◌≤◌, ◌∙◌, ℕ, zero, suc, List, [], ◌∷◌, ◌++◌, length, Option, Some, None, inl, inr, refl, sym, ap, subst, arith}
+use Rattle.std.proofs.Common.{◌≡◌, ◌+◌, ◌∙◌, ℕ, zero, suc, List, [], ◌∷◌, ◌++◌, length, Option, Some, None, inl, inr, refl, sym, ap, subst, arith}
 use Rattle.std.specs.Prelude.{nat_le}
 use Rattle.std.proofs.lemmas.Bool.{cases_Bool}
 use Rattle.zic_columns.specs.Lines.{open_record}
@@ -15,11 +15,11 @@ use Rattle.zic_base.specs.declared.run_stop.RunStop.{RunStop}
 use Rattle.zic_base.specs.declared.run_stop.RunStop.TheVariants as stop
 use Rattle.zic_convert.specs.LayoutRows.{ending, fault_by, faulty_text, if_aside, unless_aside}
 use Rattle.zic_convert.specs.code.Pieces.{joined}
-use Rattle.zic_convert.specs.code.Row.{AreNext, AreRowsOf, RowsOf, empty_rows}
+use Rattle.zic_convert.specs.code.Row.{AreRowsOf, RowsOf, empty_rows}
 use Rattle.zic_convert.specs.Run.{AreFew, IsOneTooMany}
 use Rattle.zic_convert.specs.code.Written.{EndsInPieces, EndsInRecords, EndsInRows, IsStopAt}
 use Rattle.zic_convert.proofs.Bytes.{starts_later}
-use Rattle.zic_convert.proofs.Coming.{no_rows, one_fault, rows_followed, too_many_ends}
+use Rattle.zic_convert.proofs.Coming.{no_rows, rows_followed, too_many_ends}
 use Rattle.zic_convert.proofs.MoreRows.{end_added, row_added}
 use Rattle.zic_convert.proofs.Logs.{notes_none}
 use Rattle.zic_convert.proofs.NextRows.{next_end, next_faulty}
@@ -111,32 +111,40 @@ module _ {W : Type 0} (contents : W → Option (List ℕ)) (old new : Counts W) 
     pub alone_stops : (why : RunStop) → IsStopAt contents old new row kind why → EndsInRecords layout files most limit number (given ∷ []) contents old new log log why
     alone_stops (stop.Row at fault) is =
         let first = one_noted layout files most number given before many.after _ (sym all.faults ∙ many.parts) in
-        inr (joined (rows ∷ []), all, inr (record {
-          front = [];
-          rest = all.texts;
-          come = all.come;
-          before = [];
-          too_many = rw (is.0, is.1) (subst (λ (l : List RowNote). IsOneTooMany limit (joined (rows ∷ [])).faults row kind l) first.0 many);
-          number = omega (arith, is.0, first.1);
-          wrote = is.2;
-          noted = notes_none log;
-        }))
-    alone_stops stop.WriteFailed is = inr (joined (rows ∷ []), all, record {
-      done = [];
-      more = given ∷ [];
-      parts = refl;
-      front = joined [];
-      are = no_rows layout files most number;
-      fails = record {
-        part = is.part;
-        starts = starts_later [] [] is.part (joined (rows ∷ [])).text is.starts;
-        least = refl;
-        wrote = is.wrote;
-        failed = is.failed;
-      };
-      noted = notes_none log;
-      few = none_few limit;
-    })
+        inr (
+          joined (rows ∷ []),
+          all,
+          inr (record {
+            front = [];
+            rest = all.texts;
+            come = all.come;
+            before = [];
+            too_many = rw (is.0, is.1) (subst (λ (l : List RowNote). IsOneTooMany limit (joined (rows ∷ [])).faults row kind l) first.0 many);
+            number = omega (arith, is.0, first.1);
+            wrote = is.2;
+            noted = notes_none log;
+          }),
+        )
+    alone_stops stop.WriteFailed is = inr (
+      joined (rows ∷ []),
+      all,
+      record {
+        done = [];
+        more = given ∷ [];
+        parts = refl;
+        front = joined [];
+        are = no_rows layout files most number;
+        fails = record {
+          part = is.part;
+          starts = starts_later [] [] is.part (joined (rows ∷ [])).text is.starts;
+          least = refl;
+          wrote = is.wrote;
+          failed = is.failed;
+        };
+        noted = notes_none log;
+        few = none_few limit;
+      },
+    )
     alone_stops (stop.Source fault) is = absurd is
     alone_stops stop.ReadFailed is = absurd is
     alone_stops stop.ColumnTooLong is = absurd is

@@ -1,6 +1,6 @@
 -- Rows up to one with one fault too many.
 use Rattle.std.proofs.Common.{◌≡◌, ◌≤◌, ◌<◌, ◌+◌, ◌⊎◌, ℕ, suc, List, [], ◌∷◌, ◌++◌, length, length-take-le, get_or, take, drop, Option, Some, None, inl, inr, refl, sym, ap, ap₂, subst, ◌∙◌, append_assoc, le-leb, arith}
-use Rattle.std.specs.Prelude.{IsSome, is_some, option_map}
+use Rattle.std.specs.Prelude.{IsSome, option_map}
 use Rattle.std.specs.List.{concat}
 use Rattle.std.specs.Io.{StartsWith}
 use Rattle.std.proofs.Math.Seq.{drop-cons}
@@ -91,13 +91,15 @@ too_many_of_more limit faults more row kind before many =
 pub one_at : (faults : List RowNote) (n : ℕ) (note : RowNote) → n < length faults → note ≡ get_or faults n note → (fault : RowFault) → fault ≡ note.fault
     → (before : List RowNote) × IsOneTooMany (Some n) faults fault.row fault.kind before
 one_at faults n note lt is fault same =
-    let whole : note ≡ record { fault = record { row = fault.row; kind = fault.kind }; own = note.own } = rw same refl in
-    (take n faults, record {
-      own = note.own;
-      after = drop (suc n) faults;
-      parts = sym (take-append-drop n faults) ∙ ap (λ (l : List RowNote). take n faults ++ l) (drop-cons faults n note lt ∙ ap (λ (x : RowNote). x ∷ drop (suc n) faults) (sym is ∙ whole));
-      full = ap Some (sym (length-take-le n faults (omega (arith, lt))));
-    })
+    let whole : note ≡ record { fault = record { row = fault.row; kind = fault.kind }; own = note.own } = rw same refl in (
+      take n faults,
+      record {
+        own = note.own;
+        after = drop (suc n) faults;
+        parts = sym (take-append-drop n faults) ∙ ap (λ (l : List RowNote). take n faults ++ l) (drop-cons faults n note lt ∙ ap (λ (x : RowNote). x ∷ drop (suc n) faults) (sym is ∙ whole));
+        full = ap Some (sym (length-take-le n faults (omega (arith, lt))));
+      },
+    )
 
 -- nothing is one too many without a limit
 pub none_too_many : (faults : List RowNote) (row : ℕ) (kind : RowKind) (before : List RowNote) → IsOneTooMany None faults row kind before → ⊥

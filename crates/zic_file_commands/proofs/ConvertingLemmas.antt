@@ -1,5 +1,5 @@
 -- A conversion by zones, after they were asked for the one that all rows are to be in.
-use Rattle.std.proofs.Common.{◌≡◌, ◌∙◌, ℕ, List, ap, refl, sym, subst}
+use Rattle.std.proofs.Common.{◌≡◌, ◌∙◌, ℕ, List, Option, ap, refl, sym, subst}
 use Rattle.zic_base.specs.declared.run_stop.RunStop.{RunStop}
 use Rattle.zic_convert.specs.Convert.{IsCauseOf}
 use Rattle.zic_convert.specs.Run.{EndsAtNames, EndsBy, EndsByZones, Run}
@@ -27,9 +27,9 @@ module _ {Z : Type 0} (grown broken : Z → Z → Type 0) (requests : Z → List
   }
 
   -- the conversion ends early
-  pub rows_fail : (plan : Limits) → IsCauseOf plan.max_bytes run.reader run.reader' run.writer run.writer' why
-      → EndsByZones grown broken may_be mid new why (EndsBy layout plan.max_rows why run) → IsFailureOfRows plan layout run (zones_of grown broken requests may_be zones new) failure
-  rows_fail plan cause rows = record {
+  pub rows_fail : (plan : Limits) (limit : Option ℕ) → IsCauseOf plan.max_bytes run.reader run.reader' run.writer run.writer' why
+      → EndsByZones grown broken may_be mid new why (EndsBy layout plan.max_rows limit why run) → IsFailureOfRows plan limit layout run (zones_of grown broken requests may_be zones new) failure
+  rows_fail plan limit cause rows = record {
     stop = why;
     is = is;
     cause = cause;

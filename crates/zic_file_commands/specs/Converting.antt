@@ -1,5 +1,5 @@
 -- The output of `convert` by zones, and why it gives up.
-use Rattle.std.specs.Prelude.{◌≡◌, ◌⊎◌, ℕ, true, false, List, string_bytes}
+use Rattle.std.specs.Prelude.{◌≡◌, ◌⊎◌, ℕ, true, false, List, Option, string_bytes}
 use Rattle.zic_base.specs.declared.run_stop.RunStop.{RunStop}
 use Rattle.zic_base.specs.declared.run_stop.RunStop.TheVariants as stop
 use Rattle.zic_convert.specs.Convert.{IsCauseOf}
@@ -26,11 +26,11 @@ IsFailureOfZone files (zone.Field index) failure = ⊥
 IsFailureOfZone files (zone.Name name) failure =
     (is_named files (string_bytes name) ≡ false) × ((failure ≡ failures.Memory) ⊎ IsUnknownZone (string_bytes name) failure)
 
--- These files have the zone for all rows, if there is to be one. By them, all rows of the column were written, there are n, and their faults
--- were noted.
-pub record Converts {R W : Type 0} (layout : Layout) (most n : ℕ) (run : Run R W) (files : List File) : Type 0 where
+-- These files have the zone for all rows, if there is to be one. By them, all rows of the column were written, there are n, and their faults,
+-- which are few, were noted.
+pub record Converts {R W : Type 0} (layout : Layout) (most : ℕ) (limit : Option ℕ) (n : ℕ) (run : Run R W) (files : List File) : Type 0 where
   pub has_zone : HasZone files layout.zone
-  pub rows : ConvertsAllBy layout most n run files
+  pub rows : ConvertsAllBy layout most limit n run files
 
 -- nothing was read of the column, nothing was written, and no fault was noted
 pub record IsUntouched {R W : Type 0} (run : Run R W) : Type 0 where
@@ -84,15 +84,15 @@ pub record IsFailureOfNames {R W Z : Type 0} (layout : Layout) (run : Run R W) (
   pub fails : FailsAtNames layout run failure
 
 -- The conversion of the column ended early. It never ends for a fault of a source, so the number of texts doesn't matter.
-pub record IsFailureOfRows {R W Z : Type 0} (plan : Limits) (layout : Layout) (run : Run R W) (requested : ZonesRequested Z) (failure : Failure) : Type 0 where
+pub record IsFailureOfRows {R W Z : Type 0} (plan : Limits) (limit : Option ℕ) (layout : Layout) (run : Run R W) (requested : ZonesRequested Z) (failure : Failure) : Type 0 where
   pub stop : RunStop
   pub is : failure ≡ run_failure stop 1
   pub cause : IsCauseOf plan.max_bytes run.reader run.reader' run.writer run.writer' stop
-  pub ends : EndsByZones requested.grown requested.broken requested.may_be requested.zones requested.zones' stop (λ files. HasZone files layout.zone × EndsBy layout plan.max_rows stop run files)
+  pub ends : EndsByZones requested.grown requested.broken requested.may_be requested.zones requested.zones' stop (λ files. HasZone files layout.zone × EndsBy layout plan.max_rows limit stop run files)
 
 -- why zones don't convert a column by a layout
-abbrev pub IsFailureOfConvert : {R W Z : Type 0} → Limits → Layout → Run R W → ZonesRequested Z → Failure → Type 0
-IsFailureOfConvert plan layout run requested failure =
+abbrev pub IsFailureOfConvert : {R W Z : Type 0} → Limits → Option ℕ → Layout → Run R W → ZonesRequested Z → Failure → Type 0
+IsFailureOfConvert plan limit layout run requested failure =
     IsFailureWithoutZone layout run requested failure
     ⊎ IsFailureOfNames layout run requested failure
-    ⊎ IsFailureOfRows plan layout run requested failure
+    ⊎ IsFailureOfRows plan limit layout run requested failure

@@ -28,7 +28,8 @@ use zic_zones::Zones;
 ///   column then, and nothing is written.
 /// - `CannotWriteRows` before the column is read where the line of names can't be written.
 /// - The first fault of a row that ends the run; a column that can't be read or is too long; rows that
-///   can't be written; or memory ran out. All rows before one that has a fault are written.
+///   can't be written; or memory ran out. All rows before one that has a fault are written. Where the run
+///   goes on after a number of faults, that is the first fault after them.
 pub fn convert<T: Threads + Wait + Sync, G: Gate + Sync, Z: Zones, R: Read, W: Write, L: RowLog>(
     conversion: &Conversion<'_, T, G>,
     zones: &mut Z,
@@ -38,14 +39,16 @@ pub fn convert<T: Threads + Wait + Sync, G: Gate + Sync, Z: Zones, R: Read, W: W
 ) -> Result<u64, Failure>
     ensures grown { IfOk result (λ _. Z.grown zones.old zones.new) }
     ensures ok { (files : List File) → Z.may_be zones.new files → IfOk result (λ rows.
-        Converts conversion.now.layout.now conversion.now.plan.now.max_rows rows
+        Converts conversion.now.layout.now conversion.now.plan.now.max_rows
+        conversion.now.max_faults rows
         (run_of R.remaining W.contents L.noted reader.old reader.new writer.old writer.new
         log.old log.new) files) }
     ensures within { IfOk result
         (λ _. reader.new.taken ≤ reader.old.taken + conversion.now.plan.now.max_bytes) }
     ensures unfailed { IfOk result (λ _. HasFailedSince reader.new reader.old.failures → ⊥) }
     ensures flushed { IfOk result (λ _. writer.new.failures ≡ writer.old.failures) }
-    ensures err { IfErr result (IsFailureOfConvert conversion.now.plan.now conversion.now.layout.now
+    ensures err { IfErr result (IsFailureOfConvert conversion.now.plan.now conversion.now.max_faults
+        conversion.now.layout.now
         (run_of R.remaining W.contents L.noted reader.old reader.new writer.old writer.new
         log.old log.new)
         (zones_of Z.grown Z.broken Z.requests Z.may_be zones.old zones.new)) }

@@ -87,6 +87,7 @@ fn order_by_header<R: Read + Drop>(
         names,
         faults,
         rejects,
+        max_faults,
         progress,
         shows_release,
     } = order;
@@ -98,6 +99,7 @@ fn order_by_header<R: Read + Drop>(
         names,
         faults,
         rejects,
+        max_faults,
         progress,
         shows_release,
     })

@@ -612,19 +612,15 @@ fn faults_of<W: Write>(at_fault: AtFault, list: &FaultList<W>) -> Result<(), Fai
     }
 }
 
-/// Returns the faults of rows after which a run went on, where more rows or bytes than there may be, or a
-/// record of more bytes, ended it.
+/// Returns the faults of rows after which a run went on, where a row ended it, or more bytes than there may
+/// be.
 fn faults_before<W: Write>(
     at_fault: AtFault,
     converted: &Result<(), Failure>,
     list: &FaultList<W>,
 ) -> Option<Failure> {
     match converted {
-        Err(Failure::ColumnTooLong) => faults_of(at_fault, list).err(),
-        Err(Failure::Row { kind, .. })
-            if matches!(kind, RowKind::TooManyRows | RowKind::RowTooLong) => {
-            faults_of(at_fault, list).err()
-        }
+        Err(Failure::ColumnTooLong | Failure::Row { .. }) => faults_of(at_fault, list).err(),
         _ => None,
     }
 }
@@ -679,6 +675,7 @@ fn convert_column<
         plan: &order.plan,
         layout: &order.layout,
         gate: &Open,
+        max_faults: order.max_faults,
     };
     match &order.zones {
         Zones::Source(_) => {

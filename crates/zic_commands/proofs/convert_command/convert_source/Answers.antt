@@ -24,12 +24,12 @@ returns-in_err-zones-clause-err g c =
 pub returns-clause-ok : goal.returns-clause-ok
 returns-clause-ok g c =
     let run = run_of g.R.Read.remaining g.W.Write.contents g.L.RowLog.noted c.args.reader.now c.convert.new.reader c.args.writer.now c.convert.new.writer c.args.log.now c.convert.new.log in
-    all_by_source c.in_ok-files-2.files c.len.ensures.sound c.args.conversion.now.plan.now c.args.conversion.now.layout.now run c.in_ok-zones.zones c.convert.new.zones c.in_ok-zones.ensures _
+    all_by_source c.in_ok-files-2.files c.len.ensures.sound c.args.conversion.now.plan.now c.args.conversion.now.max_faults c.args.conversion.now.layout.now run c.in_ok-zones.zones c.convert.new.zones c.in_ok-zones.ensures _
     (subst (AreFilesOfTexts (texts_of c.args.texts.now)) (sym c.in_ok-files-2.ensures.ok) c.in_ok-files.ensures.ok) c.convert.result c.convert.ensures.grown c.convert.ensures.ok
 
 pub returns-clause-err : goal.returns-clause-err
 returns-clause-err g c =
     let run = run_of g.R.Read.remaining g.W.Write.contents g.L.RowLog.noted c.args.reader.now c.convert.new.reader c.args.writer.now c.convert.new.writer c.args.log.now c.convert.new.log in
     on_err c.convert.result _ _ (λ e after. inr after)
-    (fails_after_texts c.in_ok-files-2.files c.len.ensures.sound c.args.conversion.now.plan.now c.args.conversion.now.layout.now run c.in_ok-zones.zones c.convert.new.zones c.in_ok-zones.ensures _
+    (fails_after_texts c.in_ok-files-2.files c.len.ensures.sound c.args.conversion.now.plan.now c.args.conversion.now.max_faults c.args.conversion.now.layout.now run c.in_ok-zones.zones c.convert.new.zones c.in_ok-zones.ensures _
     (subst (AreFilesOfTexts (texts_of c.args.texts.now)) (sym c.in_ok-files-2.ensures.ok) c.in_ok-files.ensures.ok) c.convert.result c.convert.ensures.err)

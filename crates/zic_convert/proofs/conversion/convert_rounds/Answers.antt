@@ -1,4 +1,4 @@
-use Rattle.std.proofs.Common.{◌<◌, ◌+◌, ◌∙◌, length, rules, arith, refl}
+use Rattle.std.proofs.Common.{◌<◌, ◌+◌, ◌∙◌, rules, arith, refl}
 use Rattle.std.proofs.lemmas.Result.{err_from_is_err_and}
 use Rattle.zic_columns.specs.Round.{unread}
 use Rattle.zic_convert.specs.code.Row.{taken_rows}

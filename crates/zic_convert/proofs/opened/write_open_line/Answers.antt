@@ -1,4 +1,4 @@
-use Rattle.std.proofs.Common.{◌∷◌, [], List, inr, arith}
+use Rattle.std.proofs.Common.{◌∷◌, [], inr, arith}
 use Rattle.zic_columns.specs.Lines.{open_record, exchanged_record}
 use Rattle.zic_columns.specs.Own.{CsvRecord}
 use Rattle.zic_convert.specs.code.Pieces.{joined}

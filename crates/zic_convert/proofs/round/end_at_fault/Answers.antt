@@ -2,7 +2,7 @@ use Rattle.std.proofs.Common.{◌+◌, ◌<◌, arith}
 use Rattle.zic_convert.specs.code.Pieces.{joined}
 use Rattle.zic_convert.specs.code.Row.{records_of_all}
 use Rattle.zic_convert.proofs.Halts.{few}
-use Rattle.zic_convert.proofs.Joining.{few_records, joined_low, low_ends, low_fails, low_of, low_stops, row_positive}
+use Rattle.zic_convert.proofs.Joining.{few_records, joined_low, low_ends, low_fails, low_stops, row_positive}
 use Rattle.zic_convert.proofs.round.end_at_fault.Goals as goal
 
 pub before-before-requires : goal.before-before-requires

@@ -1,4 +1,4 @@
-use Rattle.std.proofs.Common.{◌≡◌, ◌<◌, ◌+◌, ◌++◌, ◌∙◌, List, Option, Some, None, length, length-append, take, ap, arith, subst, sym}
+use Rattle.std.proofs.Common.{◌≡◌, ◌<◌, ◌+◌, ◌++◌, ◌∙◌, List, Option, Some, length, length-append, take, ap, arith, subst, sym}
 use Rattle.std.specs.Prelude.{IsSome}
 use Rattle.std.proofs.lemmas.Result.{err_from_is_err_and}
 use Rattle.zic_base.specs.declared.row_fault.RowKind.{RowKind}
@@ -28,8 +28,11 @@ returns-in_err-few-clause-err c =
     let fault = c.in_err-few.field-0.0 in
     let (before, many) = c.in_err-few.ensures.err in
     let p = err_from_is_err_and c.from_residual.result c.from_residual.ensures.1 in
-    rw (p.1, p.2) (front ++ before, subst (λ (l : List RowNote). IsOneTooMany limit l fault.row fault.kind (front ++ before)) (sym all)
-    (too_many_of_more limit (front ++ rows.faults) more fault.row fault.kind (front ++ before) (too_many_then limit (Some few) front rows.faults fault.row fault.kind before left many)))
+    rw (p.1, p.2) (
+      front ++ before,
+      subst (λ (l : List RowNote). IsOneTooMany limit l fault.row fault.kind (front ++ before)) (sym all)
+          (too_many_of_more limit (front ++ rows.faults) more fault.row fault.kind (front ++ before) (too_many_then limit (Some few) front rows.faults fault.row fault.kind before left many)),
+    )
 
 pub returns-then-is_some-clause-ok : goal.returns-then-is_some-clause-ok
 returns-then-is_some-clause-ok c =

@@ -34,5 +34,5 @@ returns-in-Err-clause-err g c =
       | inl names ↦ inr (inl (names_fail g.Z.Zones.grown g.Z.Zones.broken g.Z.Zones.requests g.Z.Zones.may_be g.met.Z.Zones.then g.met.Z.Zones.narrows zones mid new c.in_ok-find_zone.ensures.grown layout c.in_ok-find_zone.ensures.requested
           c.in_ok-find_zone.ensures.ok run c.in-Err.stop c.run_failure.result c.run_failure.ensures c.args.conversion.now.plan.now.max_bytes c.in-Err.ensures.cause names))
       | inr rows ↦ inr (inr (rows_fail g.Z.Zones.grown g.Z.Zones.broken g.Z.Zones.requests g.Z.Zones.may_be g.met.Z.Zones.then g.met.Z.Zones.narrows zones mid new c.in_ok-find_zone.ensures.grown layout c.in_ok-find_zone.ensures.requested
-          c.in_ok-find_zone.ensures.ok run c.in-Err.stop c.run_failure.result c.run_failure.ensures c.args.conversion.now.plan.now c.in-Err.ensures.cause rows))
+          c.in_ok-find_zone.ensures.ok run c.in-Err.stop c.run_failure.result c.run_failure.ensures c.args.conversion.now.plan.now c.args.conversion.now.max_faults c.in-Err.ensures.cause rows))
     ]
