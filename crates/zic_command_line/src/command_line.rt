@@ -3,7 +3,7 @@
 use crate::commands::commands;
 use crate::fields::{FieldNames, FieldWords};
 use crate::instant::{parse_instant_word, parse_local_word};
-use crate::layout::layout;
+use crate::layout::{layout, max_faults};
 use crate::no_request::NoRequest;
 use crate::release::is_release;
 use clap::error::ErrorKind;

@@ -75,6 +75,8 @@ enum Form {
     Records,
     /// An option that is a number of bytes, from 1.
     Bytes,
+    /// An option that is a number of rows, from 0.
+    Rows,
     /// An option that is an instant.
     Instant,
 }
@@ -264,7 +266,7 @@ static DIFF: [Word; 12] = [
     EXPLAIN,
 ];
 
-static CONVERT: [Word; 26] = [
+static CONVERT: [Word; 27] = [
     Word {
         name: "SOURCE",
         help: "A file of Rule, Zone and Link lines",
@@ -386,6 +388,11 @@ static CONVERT: [Word; 26] = [
         name: "rejects",
         help: "Where --keep-going puts the records of these rows",
         form: Form::Path,
+    },
+    Word {
+        name: "max-faults",
+        help: "The most of these rows after which the run goes on",
+        form: Form::Rows,
     },
     Word {
         name: "progress",
@@ -583,6 +590,7 @@ fn option<'a>(argument: Arg<'a>, form: &'a Form) -> Arg<'a> {
         Form::Bytes => argument
             .value_name("N")
             .value_parser(value_parser!(u64).range(1..=MAX_BYTES as i64)),
+        Form::Rows => argument.value_name("N").value_parser(value_parser!(u64)),
         _ => argument.action(ArgAction::SetTrue),
     }
 }

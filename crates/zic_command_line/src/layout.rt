@@ -150,6 +150,22 @@ fn at_fault(alloc: Global, matches: &ArgMatches<'_>) -> Result<AtFault, NoReques
     }
 }
 
+/// Returns the most rows with a fault after which a run goes on, where that is limited.
+///
+/// # Errors
+///
+/// The text of usage where a run doesn't go on after any, or memory ran out.
+pub(crate) fn max_faults(
+    alloc: Global,
+    matches: &ArgMatches<'_>,
+) -> Result<Option<u64>, NoRequest> {
+    let most = matches.get_one::<u64>("max-faults");
+    if most.is_some() && !matches.get_flag("keep-going") {
+        return Err(usage(alloc, "--max-faults has no meaning without --keep-going"));
+    }
+    Ok(most)
+}
+
 /// Returns how many fields a record has: those that are read, or at least up to the last of these.
 fn field_count(zone: &ZoneFrom, time: usize, may_have_more: bool) -> FieldCount {
     let last = match zone {

@@ -29,7 +29,7 @@ use std::rt::Env;
 use std::sync::Wait;
 use std::thread::Threads;
 use std::time::Clock;
-use zic_base::{RowFault, RowKind};
+use zic_base::RowFault;
 use zic_command_line::{Building, Conversion, Differences, Links, Request, Zones};
 use zic_commands::{
     Disk, Durability, Failure, LinkKind, LinkedFolder, Progress, ProgressLine, TreeZones,

@@ -33,6 +33,7 @@ fn converted<T: Threads + Wait + Sync + Abort>(
         plan: &plan(rt, 2),
         layout: &Layout::plain(header),
         gate: &Open,
+        max_faults: None,
     };
     let mut column = Counted::new(column);
     let texts = slice::from_ref(&source);
@@ -75,6 +76,7 @@ fn converted_to_a_failed_read<T: Threads + Wait + Sync + Abort>(
         plan: &plan(rt, 2),
         layout: &layout,
         gate: &Open,
+        max_faults: None,
     };
     let mut column = Counted::new(Device::new(FAULTY, 1, Err(ErrorKind::Other)));
     convert_source(
