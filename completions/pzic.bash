@@ -32,7 +32,7 @@ _pzic() {
     verify) options='--strict --workers --zone-piece --explain --help' ;;
     build) options='--links --sync --release --tables --workers --zone-piece --explain --help' ;;
     diff) options='--trees --from --to --ignore --summary --now --show-release --workers --zone-piece --explain --help' ;;
-    convert) options='--workers --zone-piece --row-piece --max-rows --max-bytes --max-record --tree --header --skip-header --zone --zone-field --time-field --delimiter --unit --from --ambiguous --style --records --append --keep-going --faults --rejects --progress --show-release --explain --help' ;;
+    convert) options='--workers --zone-piece --row-piece --max-rows --max-bytes --max-record --tree --header --skip-header --zone --zone-field --time-field --delimiter --unit --from --ambiguous --style --records --append --keep-going --faults --rejects --max-faults --progress --show-release --explain --help' ;;
     show) options='--local --explain --help' ;;
     dump) options='--from --to --explain --help' ;;
     explain)
