@@ -7,9 +7,9 @@ usage: layouts.py PROGRAM SOURCE FOLDER
 FOLDER has the folder `ours` with our files of SOURCE. Each column has the same 100,000 random instants of a fixed seed over all zones and
 links, near transitions and elsewhere, counted in the unit of the column, and in one of a hundred records quotes round each field, with
 delimiters and line ends within the fields that aren't read. With --keep-going one of fifty records has a fault, the first and the last
-among them, and --faults lists them. With --from rfc3339 Python's datetime writes the instants, by UT offsets at random, with a T or a space
-and without the zeros that end fractions. Each option is tried alone and with each other one, by 1 and 4 workers. Prints a line for each, and
-the first differences; the status is 1 if there is one.
+among them, and --faults lists them; with --max-faults the run ends after 700. With --from rfc3339 Python's datetime writes the instants, by
+UT offsets at random, with a T or a space and without the zeros that end fractions. Each option is tried alone and with each other one, by 1
+and 4 workers. Prints a line for each, and the first differences; the status is 1 if there is one.
 """
 import csv
 import functools
@@ -30,6 +30,7 @@ from rows import row
 Column = namedtuple("Column", "chosen delimiter digits text starts records counts")
 
 RECORDS = 100000
+MOST = 700                                                                              # faults after which a run goes on, in a second try
 NOWHERE = ["No,W\there", "No/Where", "Etc", "Etc/../Etc/UTC", "/Etc/UTC"]                # of no zone: some are paths of a tree
 FAULTY = [(NOWHERE, "0"), (["Etc/UTC"], '1,"5;\t'), None]                                # names and counts, or as they are
 UNITS = {"s": 0, "ms": 3, "us": 6, "ns": 9}
@@ -177,8 +178,9 @@ def row_by(column, zone, name, count, start):
     return column.delimiter.join([*([start] if "append" in column.chosen else [name, str(count)]), local, *rest])
 
 
-def rows_of(column, zones):
-    """the rows of a column by zoneinfo's zones, each with its line end, as one text, and the faults, each as --faults writes it"""
+def rows_of(column, zones, most=None):
+    """the rows of a column by zoneinfo's zones, each with its line end, as one text, and the faults, each as --faults writes it; where the
+    run goes on after this many, both up to the next, which has no row"""
     starts, names = iter(column.starts), ["zone", "instant", "local", "offset", "daylight", "abbreviation"]
     if "iso" in column.chosen:
         names.remove("offset")
@@ -189,6 +191,8 @@ def rows_of(column, zones):
     for number, ((name, count), start) in enumerate(zip(column.records, starts), 1):
         if fault := fault_of(column, zones, name, count):
             faults.append(f"{number},{fault}")
+            if most is not None and len(faults) > most:
+                break
             rows.append(faulty_row(column, name, count, start))
         else:
             rows.append(row_by(column, zones[name], name, column.counts[count], start))
@@ -215,18 +219,22 @@ def compare_texts(what, text, wanted):
         compare(what, text.split("\n"), wanted.split("\n"))
 
 
-def try_column(call, column, wanted, path):
+def try_column(call, column, wanted, path, most=None):
     """has the program convert a column by 1 and 4 workers, and compares the rows and faults with those that are wanted. The call is the
-    program and the words that say where its zones are, and the path is one for a list of faults"""
+    program and the words that say where its zones are, and the path is one for a list of faults. Where the run goes on after a number of
+    them, the last of those that are wanted ends it"""
     rows, faults = wanted
+    limit, end = [], ""
+    if most is not None:
+        limit, end, faults = ["--max-faults", str(most)], f"row {faults[-1].replace(',', ': ')}\n", faults[:-1]
     for workers in "1", "4":
-        words = ["--workers", workers, *words_of(column.chosen, path), *call[1:]]
+        words = ["--workers", workers, *words_of(column.chosen, path), *limit, *call[1:]]
         with open(path, "w", encoding="ascii"):
             """nothing is left of an earlier run"""
         done = subprocess.run([call[0], "convert", *words], input=column.text.encode(), capture_output=True)
         what, told = " ".join(words), done.stderr.decode()
-        if done.returncode != bool(faults) or told != told_of(faults):
-            files.differ(f"{what}: status {done.returncode}, {told!r}, and not {told_of(faults)!r}")
+        if done.returncode != bool(faults) or told != end + told_of(faults):
+            files.differ(f"{what}: status {done.returncode}, {told!r}, and not {end + told_of(faults)!r}")
         compare_texts(what, done.stdout.decode(), rows)
         if "going" in column.chosen:
             with open(path, encoding="ascii") as file:
@@ -241,6 +249,8 @@ def main(program, source, folder):
     for chosen in [(option,) for option in OPTIONS] + pairs:
         column = column_of(moments, chosen)
         try_column([program, source], column, rows_of(column, zones), f"{folder}/faults")
+        if "going" in chosen:
+            try_column([program, source], column, rows_of(column, zones, MOST), f"{folder}/faults", MOST)
         files.report(f"{len(moments)} rows by {' and '.join(chosen)}, by 1 and 4 workers")
 
 
