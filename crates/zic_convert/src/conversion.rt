@@ -192,8 +192,8 @@ fn convert_rounds<T: Threads + Wait + Sync, G: Gate + Sync, Z: Zones, R: Read, W
     ensures flushed { IfOk result (λ _. writer.new.failures ≡ writer.old.failures) }
     ensures halt { IfErr result (λ halt. EndsByZones Z.grown Z.broken Z.may_be zones.old zones.new
         (stop_of halt) (EndsInRest conversion.now.layout.now conversion.now.plan.now.max_rows
-        conversion.now.max_faults (unread R.remaining column.old) (stop_of halt) (output_of W.contents L.noted writer.old
-        writer.new log.old log.new))) }
+        conversion.now.max_faults (unread R.remaining column.old) (stop_of halt)
+        (output_of W.contents L.noted writer.old writer.new log.old log.new))) }
     ensures cause { IfErr result (IsCauseOfHalt writer.old writer.new) }
 {
     // The rest of a column that can't be read on has rows too: each file answers every instant.
@@ -328,13 +328,12 @@ fn convert_rows<
     ensures grown { IfOk result (λ _. Z.grown zones.old zones.new) }
     ensures all { (files : List File) → Z.may_be zones.new files → IfOk result (λ n. ConvertsColumn
         conversion.now.layout.now conversion.now.plan.now.max_rows conversion.now.max_faults
-        (R.remaining reader) n
-        (output_of W.contents L.noted writer.old writer.new log.old log.new) files) }
+        (R.remaining reader) n (output_of W.contents L.noted writer.old writer.new log.old log.new) files) }
     ensures flushed { IfOk result (λ _. writer.new.failures ≡ writer.old.failures) }
     ensures halt { IfErr result (λ halt. EndsByZones Z.grown Z.broken Z.may_be zones.old zones.new
         (stop_of halt) (EndsInColumn conversion.now.layout.now conversion.now.plan.now.max_rows
-        conversion.now.max_faults (R.remaining reader) (stop_of halt) (output_of W.contents L.noted writer.old writer.new
-        log.old log.new))) }
+        conversion.now.max_faults (R.remaining reader) (stop_of halt)
+        (output_of W.contents L.noted writer.old writer.new log.old log.new))) }
     ensures cause { IfErr result (IsCauseOfHalt writer.old writer.new) }
 {
     // Also a column that can't be read has rows: each file answers every instant.
@@ -422,8 +421,8 @@ fn ended<R>(
 /// takes note of the fault, and of the record's own bytes where it is put aside. A header that is such a
 /// line is one as any other. Where each line is a record and the run goes on at faults, no more than four
 /// bytes of a line are read beyond the most that the layout allows, and the others are dropped: they
-/// are in no row and no note. Where the run goes on after a number of rows with a fault alone, as
-/// `max_faults` says, the next such row ends the conversion, as the first does where none may have one.
+/// are in no row and no note. Where `max_faults` is a number, the run goes on after this many rows with a
+/// fault, and the next ends the conversion.
 ///
 /// The column is read in rounds. Before a round is converted, its zones are made ready. The plan's
 /// workers convert the pieces of a round, which have the number of records that the plan says, and
@@ -440,7 +439,8 @@ fn ended<R>(
 ///   no instant or local time, a local time that no instant or more than one has, or a whole second out
 ///   of range. All rows before it were written and flushed, and no failure of the writer was counted.
 ///   Where rows with faults are written or their records put aside, only `TooManyRows` ends the
-///   conversion as `Row`, of records of CSV also `RowTooLong`, and each fault that is one too many.
+///   conversion as `Row`, of records of CSV also `RowTooLong`, and a fault that is one more than
+///   `max_faults`.
 /// - `ReadFailed` or `WriteFailed` where the reader or writer counted a failure. Each error of the
 ///   reader or writer ends the call, also one at which others try again, and so does a write that
 ///   takes no byte. A reader that ended is not read again. Where the line of names can't be written,

@@ -28,8 +28,7 @@ use zic_zones::Zones;
 ///   column then, and nothing is written.
 /// - `CannotWriteRows` before the column is read where the line of names can't be written.
 /// - The first fault of a row that ends the run; a column that can't be read or is too long; rows that
-///   can't be written; or memory ran out. All rows before one that has a fault are written. Where the run
-///   goes on after a number of faults, that is the first fault after them.
+///   can't be written; or memory ran out. All rows before one that has a fault are written.
 pub fn convert<T: Threads + Wait + Sync, G: Gate + Sync, Z: Zones, R: Read, W: Write, L: RowLog>(
     conversion: &Conversion<'_, T, G>,
     zones: &mut Z,
