@@ -233,7 +233,7 @@ def try_column(call, column, wanted, path, most=None):
             """nothing is left of an earlier run"""
         done = subprocess.run([call[0], "convert", *words], input=column.text.encode(), capture_output=True)
         what, told = " ".join(words), done.stderr.decode()
-        if done.returncode != bool(faults) or told != end + told_of(faults):
+        if done.returncode != bool(end or faults) or told != end + told_of(faults):
             files.differ(f"{what}: status {done.returncode}, {told!r}, and not {end + told_of(faults)!r}")
         compare_texts(what, done.stdout.decode(), rows)
         if "going" in column.chosen:
