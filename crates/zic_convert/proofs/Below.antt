@@ -29,32 +29,38 @@ module _ (layout : Layout) (files : List File) (most : ℕ) (limit : Option ℕ)
   rows_below n w = (record { texts = w.0.texts; converts = w.0.converts; count = w.0.count; wrote = appends-more old mid new head (concat w.0.texts) begun w.0.wrote }, w.1, w.2)
 
   module _ (why : RunStop) (w : EndsAfterLines layout files most limit [] row_records why (output mid new log last)) where
-    lines_with : (lines : ℕ) (text : List ℕ) → concat (take w.lines ([] ∷ w.texts)) ≡ text → concat (take lines (head ∷ w.texts)) ≡ head ++ text → lines - 1 ≡ w.lines - 1
-        → EndsAfterLines layout files most limit head row_records why (output old new log last)
-    lines_with lines text before after rows = record {
-      texts = w.texts;
-      fault = w.fault;
-      come = w.come;
-      lines = lines;
-      part = head ++ w.part;
-      starts = subst (λ (l : List ℕ). StartsWith l (head ++ w.part)) (append-nil (head ++ concat w.texts)) (starts_later head (concat w.texts) w.part [] w.starts);
-      least = subst (λ (l : List ℕ). StartsWith (head ++ w.part) l) (sym after)
-          (subst (λ (l : List ℕ). StartsWith l (head ++ text)) (append-nil (head ++ w.part)) (starts_later head w.part text [] (subst (StartsWith w.part) before w.least)));
-      exact = elim w.exact [
-        | inl same ↦ inl (ap (λ (l : List ℕ). head ++ l) (same ∙ before) ∙ sym after)
-        | inr failed ↦ inr failed
-      ];
-      wrote = appends-more old mid new head w.part begun w.wrote;
-      noted = subst (λ (k : ℕ). Notes log last (faults_by layout files most 1 (take k row_records))) (sym rows) w.noted;
-      few = subst (λ (k : ℕ). AreFew limit (faults_by layout files most 1 (take k row_records))) (sym rows) w.few;
-    }
-
-    by_lines : (lines : ℕ) → w.lines ≡ lines → EndsAfterLines layout files most limit head row_records why (output old new log last)
-    by_lines zero e = lines_with 1 [] (ap (λ (k : ℕ). concat (take k ([] ∷ w.texts))) e) refl (omega (arith, e))
-    by_lines (suc k) e = lines_with (suc k) (concat (take k w.texts)) (ap (λ (k : ℕ). concat (take k ([] ∷ w.texts))) e) refl (omega (arith, e))
+    -- the first lines, with the header before them
+    with_head : (k : ℕ) → concat (take (suc (k - 1)) (head ∷ w.texts)) ≡ head ++ concat (take k ([] ∷ w.texts))
+    with_head zero = refl
+    with_head (suc k) =
+        let same : suc k - 1 ≡ k = omega arith in
+        ap (λ (j : ℕ). concat (take (suc j) (head ∷ w.texts))) same
 
     pub lines_below : EndsAfterLines layout files most limit head row_records why (output old new log last)
-    lines_below = by_lines w.lines refl
+    lines_below =
+        let first = concat (take w.lines ([] ∷ w.texts)) in
+        let all = concat (take w.upto ([] ∷ w.texts)) in
+        let lines : suc (w.lines - 1) - 1 ≡ w.lines - 1 = omega arith in
+        let upto : suc (w.upto - 1) - 1 ≡ w.upto - 1 = omega arith in
+        record {
+          texts = w.texts;
+          fault = w.fault;
+          come = w.come;
+          lines = suc (w.lines - 1);
+          upto = suc (w.upto - 1);
+          part = head ++ w.part;
+          starts = subst (λ (l : List ℕ). StartsWith l (head ++ w.part)) (append-nil (head ++ all) ∙ sym (with_head w.upto)) (starts_later head all w.part [] w.starts);
+          least = subst (λ (l : List ℕ). StartsWith (head ++ w.part) l) (sym (with_head w.lines))
+              (subst (λ (l : List ℕ). StartsWith l (head ++ first)) (append-nil (head ++ w.part)) (starts_later head w.part first [] w.least));
+          exact = elim w.exact [
+            | inl same ↦ inl (ap (λ (l : List ℕ). head ++ l) same ∙ sym (with_head w.lines))
+            | inr failed ↦ inr failed
+          ];
+          wrote = appends-more old mid new head w.part begun w.wrote;
+          noted = subst (λ (k : ℕ). Notes log last (faults_by layout files most 1 (take k row_records))) (sym lines) w.noted;
+          few = subst (λ (k : ℕ). AreFew limit (faults_by layout files most 1 (take k row_records))) (sym lines) w.few;
+          may = subst (λ (k : ℕ). AreFew limit (faults_by layout files most 1 (take k row_records))) (sym upto) w.may;
+        }
 
   pub ends_below : (why : RunStop) → EndsIn layout files most limit [] row_records why (output mid new log last) → EndsIn layout files most limit head row_records why (output old new log last)
   ends_below (stop.Row row kind) (inl w) = inl
@@ -100,6 +106,7 @@ module _ (layout : Layout) (files : List File) (most : ℕ) (limit : Option ℕ)
       fault = w.fault;
       come = w.come;
       lines = w.lines;
+      upto = w.upto;
       part = w.part;
       starts = w.starts;
       least = w.least;
@@ -107,6 +114,7 @@ module _ (layout : Layout) (files : List File) (most : ℕ) (limit : Option ℕ)
       wrote = appends-more old mid new [] w.part (rw none at first) w.wrote;
       noted = w.noted;
       few = w.few;
+      may = w.may;
     })
 
     no_own : (names own : List ℕ) → Appends old mid names → own ≡ [] → EndsAfterLines layout files most limit own row_records why (output mid new log last)

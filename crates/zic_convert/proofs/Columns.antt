@@ -4,10 +4,9 @@ use Rattle.std.specs.Prelude.{All, IfSome, bytes_eq, option_map, slice_get, slic
 use Rattle.std.proofs.Math.ListN.{set}
 use Rattle.std.proofs.lemmas.Bool.{cases_Bool, cond_both, eqb-false, eqb-true}
 use Rattle.std.proofs.lemmas.List.{get_or-map, get_or-set_other, get_or-set_same, get_or-take, length-map, map-append, take_more, take_more_set}
-use Rattle.zic_columns.specs.Record.{IsSplit, field_text, record_at}
+use Rattle.zic_columns.specs.Record.{record_at}
 use Rattle.zic_columns.specs.declared.fields.Record.{Record}
 use Rattle.zic_files.specs.File.{File}
-use Rattle.zic_rows.specs.Count.{count_of}
 use Rattle.zic_base.specs.State.{Shown}
 use Rattle.zic_posix.specs.Instants.{Includes}
 use Rattle.zic_rows.specs.Count.{second_of}
@@ -15,7 +14,7 @@ use Rattle.zic_tzif.specs.Answer.{Answers, AnswersThroughout}
 use Rattle.zic_tzif.specs.States.{IsStateOfNumber}
 use Rattle.zic_zones.specs.Zones.{ShowsThroughout, number_of, zone_in}
 use Rattle.zic_zones.specs.declared.row_zones.RowSpan.{RowSpan}
-use Rattle.zic_convert.specs.code.Batch.{IsFile, IsStateFor, blank, count_at, wanted_by, zone_at}
+use Rattle.zic_convert.specs.code.Batch.{IsFile, IsStateFor, blank, zone_at}
 use Rattle.zic_convert.specs.declared.lookup.FoundState.TheVariants as found
 use Rattle.zic_convert.specs.declared.piece.Piece.{Piece}
 

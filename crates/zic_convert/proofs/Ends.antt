@@ -51,13 +51,15 @@ all_lines layout files most limit header row_records n why out w =
       fault = None;
       come = w.0.converts;
       lines = suc n;
+      upto = suc n;
       part = header ++ concat texts;
-      starts = take-length (header ++ concat texts);
+      starts = subst (λ (l : List ℕ). StartsWith l (header ++ concat texts)) (sym all) (take-length (header ++ concat texts));
       least = subst (λ (l : List ℕ). StartsWith (header ++ concat texts) l) (sym all) (take-length (header ++ concat texts));
       exact = inl (sym all);
       wrote = w.0.wrote;
       noted = subst (λ (l : List CsvRecord). Notes out.log out.log' (faults_by layout files most 1 l)) (sym row_record) w.1;
       few = subst (λ (l : List CsvRecord). AreFew limit (faults_by layout files most 1 l)) (sym row_record) w.2;
+      may = subst (λ (l : List CsvRecord). AreFew limit (faults_by layout files most 1 l)) (sym row_record) w.2;
     }
 
 -- where a read failed, other causes leave the same output
@@ -68,6 +70,7 @@ read_as layout files most limit header row_records why out w = record {
   fault = w.fault;
   come = w.come;
   lines = w.lines;
+  upto = w.upto;
   part = w.part;
   starts = w.starts;
   least = w.least;
@@ -78,6 +81,7 @@ read_as layout files most limit header row_records why out w = record {
   wrote = w.wrote;
   noted = w.noted;
   few = w.few;
+  may = w.may;
 }
 
 module _ (layout : Layout) (most : ℕ) (limit : Option ℕ) (known : Option (List ℕ)) (out : Output) (files : List File) where

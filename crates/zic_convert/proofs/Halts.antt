@@ -46,7 +46,7 @@ module _ {W : Type 0} (contents : W → Option (List ℕ)) (once : FilesAnswerOn
       h.number h.wrote.0 h.noted)
   ends_in_rows rs come rows are stop.WriteFailed h =
       ends_after layout files most limit all left n more old (contents mid.inner) (contents new.inner) log now last far rs rows are come once sound h.done h.more h.parts h.front h.are
-      h.fails.part h.fails.starts h.fails.least stop.WriteFailed (inr refl) h.fails.wrote h.noted h.few
+      h.reached h.beyond h.within h.upto h.are_upto h.fails.part h.fails.starts h.fails.least stop.WriteFailed (inr refl) h.fails.wrote h.noted h.few h.may
   ends_in_rows rs come rows are (stop.Source fault) h = absurd h
   ends_in_rows rs come rows are stop.ReadFailed h = absurd h
   ends_in_rows rs come rows are stop.ColumnTooLong h = absurd h

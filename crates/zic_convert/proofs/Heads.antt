@@ -3,7 +3,6 @@ use Rattle.std.proofs.Common.{◌≡◌, ◌∙◌, ◌⊎◌, ℕ, true, List, 
 use Rattle.std.proofs.lemmas.List.{append-nil, drop-map}
 use Rattle.std.specs.Io.{StartsWith}
 use Rattle.std.specs.Io.KnownBytes.{Appends}
-use Rattle.std.specs.List.{concat}
 use Rattle.std.specs.Prelude.{IfErr, IfOk, IfSome, Result, Ok, Err, option_map}
 use Rattle.csv.specs.Reading.{strip_bom}
 use Rattle.csv.proofs.WriteFacts.{appends-none}
@@ -88,13 +87,15 @@ no_line once layout files most limit sound head row_records why old new log part
       fault = fault;
       come = come;
       lines = 0;
+      upto = 1;
       part = part;
-      starts = starts_later [] head part (concat texts) starts;
+      starts = starts_later [] head part [] starts;
       least = refl;
       exact = exact;
       wrote = wrote;
       noted = notes_none log;
       few = none_few limit;
+      may = none_few limit;
     }
 
 -- a column was converted in which the delimiter and commas are exchanged

@@ -108,8 +108,14 @@ module _ {W : Type 0} (contents : W → Option (List ℕ)) (old new : Counts W) 
         parts = parts;
         front = joined (take i values);
         are = are_front;
+        reached = records_of_all p.layout.delimiter p.pieces;
+        beyond = [];
+        within = sym (append-nil (records_of_all p.layout.delimiter p.pieces));
+        upto = joined values;
+        are_upto = joined_round p values sound are;
         fails = fails;
         noted = noted;
+        may = few;
         few = few_of_front p.layout p.files p.most limit p.first (records_of_all p.layout.delimiter p.pieces) done more parts (joined values) (joined_round p values sound are) (joined (take i values)) are_front few;
       }
   pieces_end (stop.Source fault) h = absurd h
@@ -282,9 +288,15 @@ module _ (p : Pieces) (i : ℕ) (found : RowsOf) (sound : ArePieces p) (lt : i <
           parts = wholes_split d (i + 1) p.pieces ∙ ap (λ (l : List CsvRecord). l ++ rest) h.parts ∙ append_assoc h.done h.more rest;
           front = h.front;
           are = h.are;
+          reached = h.reached;
+          beyond = h.beyond ++ rest;
+          within = wholes_split d (i + 1) p.pieces ∙ ap (λ (l : List CsvRecord). l ++ rest) h.within ∙ append_assoc h.reached h.beyond rest;
+          upto = h.upto;
+          are_upto = h.are_upto;
           fails = h.fails;
           noted = h.noted;
           few = h.few;
+          may = h.may;
         }
     rows_again rows end e (stop.Source fault) h = absurd h
     rows_again rows end e stop.ReadFailed h = absurd h

@@ -49,9 +49,15 @@ module _ {W : Type 0} (contents : W → Option (List ℕ)) (old new : Counts W) 
       parts = refl;
       front = empty_rows;
       are = no_rows layout files most number;
+      reached = [];
+      beyond = given ∷ [];
+      within = refl;
+      upto = empty_rows;
+      are_upto = no_rows layout files most number;
       fails = record { part = is.part; starts = is.starts; least = refl; wrote = is.wrote; failed = is.failed };
       noted = notes_none log;
       few = none_few limit;
+      may = none_few limit;
     },
   )
   long_stops (stop.Source fault) is = absurd is

@@ -1,5 +1,5 @@
 -- The instant that is meant by the local time of a record.
-use Rattle.std.proofs.Common.{◌≡◌, ◌∙◌, ◌<◌, ℕ, ℤ, pos, ◌+ℤ◌, ◌*ℤ◌, List, length, Option, Some, Result, Ok, ap, sym}
+use Rattle.std.proofs.Common.{◌≡◌, ◌∙◌, ◌<◌, ℕ, ℤ, pos, ◌+ℤ◌, ◌*ℤ◌, List, length, Some, Result, Ok, ap, sym}
 use Rattle.std.specs.Prelude.{IfSome, slice_get}
 use Rattle.zic_base.proofs.Elements.{got}
 use Rattle.zic_base.proofs.Options.{if_at}

@@ -18,7 +18,6 @@ use Rattle.zic_convert.specs.code.Pieces.{joined}
 use Rattle.zic_convert.specs.code.Row.{AreRowsOf, RowsOf, empty_rows}
 use Rattle.zic_convert.specs.Run.{AreFew, IsOneTooMany}
 use Rattle.zic_convert.specs.code.Written.{EndsInPieces, EndsInRecords, EndsInRows, IsStopAt}
-use Rattle.zic_convert.proofs.Bytes.{starts_later}
 use Rattle.zic_convert.proofs.Coming.{no_rows, rows_followed, too_many_ends}
 use Rattle.zic_convert.proofs.MoreRows.{end_added, row_added}
 use Rattle.zic_convert.proofs.Logs.{notes_none}
@@ -73,9 +72,15 @@ module _ {W : Type 0} (contents : W → Option (List ℕ)) (old new : Counts W) 
     parts = refl;
     front = joined [];
     are = no_rows layout files most number;
+    reached = given ∷ [];
+    beyond = [];
+    within = refl;
+    upto = joined (rows ∷ []);
+    are_upto = alone layout files most number given rows are;
     fails = fails;
     noted = noted;
     few = none_few limit;
+    may = few;
   }
   alone_ends stop.WriteFailed few (suc zero, fails, noted) = record {
     done = given ∷ [];
@@ -83,9 +88,15 @@ module _ {W : Type 0} (contents : W → Option (List ℕ)) (old new : Counts W) 
     parts = refl;
     front = joined (rows ∷ []);
     are = alone layout files most number given rows are;
+    reached = given ∷ [];
+    beyond = [];
+    within = refl;
+    upto = joined (rows ∷ []);
+    are_upto = alone layout files most number given rows are;
     fails = fails;
     noted = noted;
     few = few;
+    may = few;
   }
   alone_ends stop.WriteFailed few (suc (suc i), fails, noted) = record {
     done = given ∷ [];
@@ -93,9 +104,15 @@ module _ {W : Type 0} (contents : W → Option (List ℕ)) (old new : Counts W) 
     parts = refl;
     front = joined (rows ∷ []);
     are = alone layout files most number given rows are;
+    reached = given ∷ [];
+    beyond = [];
+    within = refl;
+    upto = joined (rows ∷ []);
+    are_upto = alone layout files most number given rows are;
     fails = fails;
     noted = noted;
     few = few;
+    may = few;
   }
   alone_ends (stop.Source fault) few h = absurd h
   alone_ends stop.ReadFailed few h = absurd h
@@ -134,15 +151,21 @@ module _ {W : Type 0} (contents : W → Option (List ℕ)) (old new : Counts W) 
         parts = refl;
         front = joined [];
         are = no_rows layout files most number;
+        reached = [];
+        beyond = given ∷ [];
+        within = refl;
+        upto = joined [];
+        are_upto = no_rows layout files most number;
         fails = record {
           part = is.part;
-          starts = starts_later [] [] is.part (joined (rows ∷ [])).text is.starts;
+          starts = is.starts;
           least = refl;
           wrote = is.wrote;
           failed = is.failed;
         };
         noted = notes_none log;
         few = none_few limit;
+        may = none_few limit;
       },
     )
     alone_stops (stop.Source fault) is = absurd is

@@ -223,52 +223,65 @@ module _ (layout : Layout) (files : List File) (most : ℕ) (limit : Option ℕ)
               noted = notes_more log now last so_far before far.noted noted;
             }
 
-        -- The rows of the first of these records, and perhaps a beginning of the text of the others, after which nothing was noted.
-        pub ends_after : (once : FilesAnswerOnce) → AreSoundFiles files → (done others : List CsvRecord) → rs ≡ done ++ others → (front : RowsOf) → AreRowsOf layout files most (n + 1) done front
-            → (part : List ℕ) → StartsWith rows.text part → StartsWith part front.text → (why : RunStop) → (part ≡ front.text) ⊎ (why ≡ stop.WriteFailed) → Appends mid new part
-            → Notes now last front.faults → AreFew more front.faults → EndsAfterLines layout files most limit [] all why (output old new log last)
-        ends_after once sound done others parts front are_front part starts least why exact wrote noted few =
-            let (beyond, next) = for_some left _ far.rest come far.bytes in
-            let row_record = far.goes_on ∙ ap (λ (r : List CsvRecord). far.row_records ++ r) next in
-            let (texts, end, comes, later, longer) = more_than layout files most (all_known files sound once) (n + 1) rs beyond rows are in
+        -- the lines of the rows so far and of the first of these records, and the faults of these rows
+        record IsFrontOfAll (texts : List (List ℕ)) (front : RowsOf) : Type 0 where
+          pub lines : ℕ
+          pub shows : concat (take lines ([] ∷ (far.texts ++ texts))) ≡ concat far.texts ++ front.text
+          pub faults : faults_by layout files most 1 (take (lines - 1) all) ≡ faults_by layout files most 1 far.row_records ++ front.faults
+
+        front_of_all : (once : FilesAnswerOnce) → AreSoundFiles files → (beyond : List CsvRecord) → all ≡ far.row_records ++ (rs ++ beyond) → (texts later : List (List ℕ)) → texts ≡ are.texts ++ later
+            → (done others : List CsvRecord) → rs ≡ done ++ others → (front : RowsOf) → AreRowsOf layout files most (n + 1) done front → IsFrontOfAll texts front
+        front_of_all once sound beyond row_record texts later longer done others parts front are_front =
             let (rest, front_first) = front_texts once layout files most sound (n + 1) rs done others parts rows are front are_front in
             let m = length are_front.texts in
-            let base = concat far.texts in
-            let shown : concat texts ≡ rows.text ++ concat later = ap concat longer ∙ concat-append are.texts later ∙ ap (λ (l : List ℕ). l ++ concat later) (sym are.text) in
-            let joined : (base ++ rows.text) ++ concat later ≡ concat (far.texts ++ texts) =
-            append_assoc base rows.text (concat later) ∙ ap (λ (l : List ℕ). base ++ l) (sym shown) ∙ sym (concat-append far.texts texts) in
             let split : far.texts ++ texts ≡ (far.texts ++ are_front.texts) ++ (rest ++ later) =
             ap (λ (l : List (List ℕ)). far.texts ++ l) (longer ∙ ap (λ (l : List (List ℕ)). l ++ later) front_first ∙ append_assoc are_front.texts rest later)
             ∙ sym (append_assoc far.texts are_front.texts (rest ++ later)) in
             let long : n + m ≡ length (far.texts ++ are_front.texts) = omega (arith, far.counted, length-append far.texts are_front.texts) in
             let firsts : take (n + m) (far.texts ++ texts) ≡ far.texts ++ are_front.texts =
             ap₂ (λ (k : ℕ) (l : List (List ℕ)). take k l) long split ∙ take-append_seam (far.texts ++ are_front.texts) (rest ++ later) in
-            let lines : concat (take (suc (n + m)) ([] ∷ (far.texts ++ texts))) ≡ base ++ front.text =
-            ap concat firsts ∙ concat-append far.texts are_front.texts ∙ ap (λ (l : List ℕ). base ++ l) (sym are_front.text) in
             let regroup : all ≡ far.row_records ++ (done ++ (others ++ beyond)) = row_record ∙ ap (λ (l : List CsvRecord). far.row_records ++ l) (ap (λ (l : List CsvRecord). l ++ beyond) parts ∙ append_assoc done others beyond) in
             let upto : suc (n + m) - 1 ≡ length far.row_records + m = omega (arith, many) in
             let taken : take (suc (n + m) - 1) all ≡ far.row_records ++ take m (done ++ (others ++ beyond)) =
             ap₂ (λ (k : ℕ) (l : List CsvRecord). take k l) upto regroup ∙ take_after far.row_records (done ++ (others ++ beyond)) m in
-            let faults : faults_by layout files most 1 (take (suc (n + m) - 1) all) ≡ faults_by layout files most 1 far.row_records ++ front.faults =
-            ap (faults_by layout files most 1) taken ∙ faults_on (take m (done ++ (others ++ beyond)))
-            ∙ ap (λ (l : List RowNote). faults_by layout files most 1 far.row_records ++ l)
-            (faults_front layout files most (n + 1) done (others ++ beyond) are_front.texts front.fault are_front.come ∙ sym are_front.faults) in
+            record {
+              lines = suc (n + m);
+              shows = ap concat firsts ∙ concat-append far.texts are_front.texts ∙ ap (λ (l : List ℕ). concat far.texts ++ l) (sym are_front.text);
+              faults = ap (faults_by layout files most 1) taken ∙ faults_on (take m (done ++ (others ++ beyond)))
+                  ∙ ap (λ (l : List RowNote). faults_by layout files most 1 far.row_records ++ l)
+                      (faults_front layout files most (n + 1) done (others ++ beyond) are_front.texts front.fault are_front.come ∙ sym are_front.faults);
+            }
+
+        -- The rows of the first of these records, and perhaps a beginning of the text of others up to some record, after which nothing was noted.
+        pub ends_after : (once : FilesAnswerOnce) → AreSoundFiles files → (done others : List CsvRecord) → rs ≡ done ++ others → (front : RowsOf) → AreRowsOf layout files most (n + 1) done front
+            → (reached past : List CsvRecord) → rs ≡ reached ++ past → (upto : RowsOf) → AreRowsOf layout files most (n + 1) reached upto
+            → (part : List ℕ) → StartsWith upto.text part → StartsWith part front.text → (why : RunStop) → (part ≡ front.text) ⊎ (why ≡ stop.WriteFailed) → Appends mid new part
+            → Notes now last front.faults → AreFew more front.faults → AreFew more upto.faults → EndsAfterLines layout files most limit [] all why (output old new log last)
+        ends_after once sound done others parts front are_front reached past within upto are_upto part starts least why exact wrote noted few may =
+            let (beyond, next) = for_some left _ far.rest come far.bytes in
+            let row_record = far.goes_on ∙ ap (λ (r : List CsvRecord). far.row_records ++ r) next in
+            let (texts, end, comes, later, longer) = more_than layout files most (all_known files sound once) (n + 1) rs beyond rows are in
+            let of_front = front_of_all once sound beyond row_record texts later longer done others parts front are_front in
+            let of_upto = front_of_all once sound beyond row_record texts later longer reached past within upto are_upto in
+            let base = concat far.texts in
             record {
               texts = far.texts ++ texts;
               fault = end;
               come = rw row_record (come_on (rs ++ beyond) texts end comes);
-              lines = suc (n + m);
+              lines = of_front.lines;
+              upto = of_upto.lines;
               part = base ++ part;
-              starts = subst (λ (l : List ℕ). StartsWith l (base ++ part)) joined (starts_later base rows.text part (concat later) starts);
-              least = subst (λ (l : List ℕ). StartsWith (base ++ part) l) (sym lines)
+              starts = subst (λ (l : List ℕ). StartsWith l (base ++ part)) (append-nil (base ++ upto.text) ∙ sym of_upto.shows) (starts_later base upto.text part [] starts);
+              least = subst (λ (l : List ℕ). StartsWith (base ++ part) l) (sym of_front.shows)
                   (subst (λ (l : List ℕ). StartsWith l (base ++ front.text)) (append-nil (base ++ part)) (starts_later base part front.text [] least));
               exact = elim exact [
-                | inl same ↦ inl (ap (λ (l : List ℕ). base ++ l) same ∙ sym lines)
+                | inl same ↦ inl (ap (λ (l : List ℕ). base ++ l) same ∙ sym of_front.shows)
                 | inr failed ↦ inr failed
               ];
               wrote = appends-more old mid new base part far.wrote wrote;
-              noted = subst (λ (l : List RowNote). Notes log last l) (sym faults) (notes_more log now last _ front.faults far.noted noted);
-              few = subst (λ (l : List RowNote). AreFew limit l) (sym faults) (more_few limit more _ front.faults far.few few);
+              noted = subst (λ (l : List RowNote). Notes log last l) (sym of_front.faults) (notes_more log now last _ front.faults far.noted noted);
+              few = subst (λ (l : List RowNote). AreFew limit l) (sym of_front.faults) (more_few limit more _ front.faults far.few few);
+              may = subst (λ (l : List RowNote). AreFew limit l) (sym of_upto.faults) (more_few limit more _ upto.faults far.few may);
             }
 
   -- nothing more was written, or the writer failed as it passed on what it held back
@@ -278,4 +291,5 @@ module _ (layout : Layout) (files : List File) (most : ℕ) (limit : Option ℕ)
   ends_here once sound left n more old mid new log now far why part starts exact wrote =
       let come : ComeNext layout left [] = if_some left _ (λ bytes e. (records_in layout bytes, refl)) in
       let none = no_rows layout files most (n + 1) in
-      ends_after left n more old mid new log now now far [] empty_rows none come once sound [] [] refl empty_rows none part starts refl why exact wrote (notes_none now) (none_few more)
+      ends_after left n more old mid new log now now far [] empty_rows none come once sound [] [] refl empty_rows none [] [] refl empty_rows none part starts refl why exact wrote (notes_none now) (none_few more)
+      (none_few more)

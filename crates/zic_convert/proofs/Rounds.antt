@@ -125,9 +125,15 @@ module _ (layout : Layout) (most : ℕ) (limit : Option ℕ) (rs : List CsvRecor
     parts = h.parts;
     front = h.front;
     are = rows_same known files still differ layout most first h.done h.front (all_front (IsKnownZone layout.zone known files) h.done h.more (rw h.parts at only)) h.are;
+    reached = h.reached;
+    beyond = h.beyond;
+    within = h.within;
+    upto = h.upto;
+    are_upto = rows_same known files still differ layout most first h.reached h.upto (all_front (IsKnownZone layout.zone known files) h.reached h.beyond (rw h.within at only)) h.are_upto;
     fails = h.fails;
     noted = h.noted;
     few = h.few;
+    may = h.may;
   }
   rows_end_alike rows (stop.Source fault) h = absurd h
   rows_end_alike rows stop.ReadFailed h = absurd h

@@ -1,5 +1,5 @@
 -- The fault of a record's row, by what the record asks for.
-use Rattle.std.proofs.Common.{◌≡◌, ◌≤◌, ◌∙◌, ℕ, ℤ, Bool, true, false, List, ◌∷◌, ◌++◌, [], Option, Some, None, Result, Ok, Err, ap, append_assoc, arith, le-leb, refl, subst, suc, sym}
+use Rattle.std.proofs.Common.{◌≡◌, ◌≤◌, ◌∙◌, ℕ, ℤ, Bool, true, false, List, ◌∷◌, ◌++◌, [], Option, Some, None, Ok, Err, ap, append_assoc, arith, le-leb, refl, subst, suc, sym}
 use Rattle.std.specs.Prelude.{bytes_eq, int_le, length, option_map, slice_get, IfSome, if◌then◌else◌}
 use Rattle.std.specs.Cmp.Lexicographic.{bytes_decides}
 use Rattle.std.proofs.lemmas.Bool.{and_parts}

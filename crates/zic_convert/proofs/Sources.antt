@@ -1,5 +1,7 @@
 -- A plain column that is converted by the files of a source.
-use Rattle.std.proofs.Common.{◌≡◌, ◌∙◌, ◌++◌, ◌⊎◌, ℕ, List, [], Option, Some, None, inl, inr, refl, sym, subst}
+use Rattle.std.proofs.Common.{◌≡◌, ◌∙◌, ◌++◌, ◌⊎◌, ℕ, List, [], ◌∷◌, take, drop, Option, Some, None, inl, inr, refl, sym, ap, subst}
+use Rattle.std.proofs.lemmas.List.{take-append-drop}
+use Rattle.std.proofs.lemmas.List.Folds.{concat-append}
 use Rattle.std.specs.Io.{StartsWith}
 use Rattle.std.specs.Io.KnownBytes.{Appends}
 use Rattle.std.specs.List.{concat}
@@ -65,14 +67,20 @@ module _ (alike : PlainColumnsConvertAlike) (layout : Layout) (plain : HasPlainR
 
   lines_part : (column : List ℕ) (row_records : List CsvRecord) → AreRowRecords layout column row_records → (why : RunStop) {R W : Type 0} (run : Run R W)
       → EndsAfterLines layout files most None (header_text layout column) row_records why run.output → WritesPartOf [] (ConvertsTo files most column) run.output.held run.output.held'
-  lines_part column row_records are why run w = record {
-    texts = w.texts;
-    fault = w.fault;
-    converts = converts column row_records are w.texts w.fault w.come;
-    part = w.part;
-    starts = subst (λ (l : List ℕ). StartsWith (l ++ concat w.texts) w.part) (no_header column) w.starts;
-    wrote = w.wrote;
-  }
+  lines_part column row_records are why run w =
+      let lines : List (List ℕ) = header_text layout column ∷ w.texts in
+      let first = concat (take w.upto lines) in
+      let rest = concat (drop w.upto lines) in
+      let all : first ++ rest ≡ header_text layout column ++ concat w.texts = sym (concat-append (take w.upto lines) (drop w.upto lines)) ∙ ap concat (take-append-drop w.upto lines) in
+      record {
+        texts = w.texts;
+        fault = w.fault;
+        converts = converts column row_records are w.texts w.fault w.come;
+        part = w.part;
+        starts = subst (λ (l : List ℕ). StartsWith (l ++ concat w.texts) w.part) (no_header column)
+            (subst (λ (l : List ℕ). StartsWith l w.part) all (starts_later [] first w.part rest w.starts));
+        wrote = w.wrote;
+      }
 
   ends_in : {R W : Type 0} (run : Run R W) (column : List ℕ) (row_records : List CsvRecord) → AreRowRecords layout column row_records → (why : RunStop)
       → EndsIn layout files most None (header_text layout column) row_records why run.output → WritesAt files most column why run.output.held run.output.held'

@@ -2,11 +2,9 @@
 use Rattle.std.proofs.Common.{◌≡◌, ◌≤◌, ◌<◌, ◌+◌, ◌⊎◌, ℕ, suc, List, [], ◌∷◌, ◌++◌, length, length-take-le, get_or, take, drop, Option, Some, None, inl, inr, refl, sym, ap, ap₂, subst, ◌∙◌, append_assoc, le-leb, arith}
 use Rattle.std.specs.Prelude.{IsSome, option_map}
 use Rattle.std.specs.List.{concat}
-use Rattle.std.specs.Io.{StartsWith}
 use Rattle.std.proofs.Math.Seq.{drop-cons}
 use Rattle.std.proofs.lemmas.Bool.{lt-leb}
 use Rattle.std.proofs.lemmas.List.{length-append, take-append-drop}
-use Rattle.std.proofs.lemmas.List.Folds.{concat-append}
 use Rattle.zic_columns.specs.Own.{CsvRecord}
 use Rattle.zic_counted.specs.Counts.{Counts}
 use Rattle.zic_files.specs.File.{File}
@@ -19,7 +17,6 @@ use Rattle.zic_convert.specs.LayoutRows.{RecordsConvertBy, IsRowAt, ending, ends
 use Rattle.zic_convert.specs.Run.{AreFew, IsOneTooMany, Notes}
 use Rattle.zic_convert.specs.code.Row.{AreRowsOf, RowsOf}
 use Rattle.zic_convert.specs.code.Written.{FailsInRows, IsLeft, StopsAtFault, StopsAtRow, Wrote}
-use Rattle.zic_convert.proofs.Bytes.{starts_later}
 use Rattle.zic_convert.proofs.Coming.{too_many_ends, within}
 
 -- ---- how many faults are few
@@ -347,31 +344,40 @@ module _ (layout : Layout) (files : List File) (most : ℕ) (limit : Option ℕ)
           let less : length faults ≤ length before = omega (arith, ap (length {A = RowNote}) same, front_fewer layout files low first done more, ap (length {A = RowNote}) all) in
           subst (λ (l : Option ℕ). AreFew l faults) (sym many.full) less
 
+      -- the first of some records are those of their rows
+      front_first : (n : ℕ) (done more : List CsvRecord) → rs ≡ done ++ more → rs ≡ take n done ++ (drop n done ++ more)
+      front_first n done more parts =
+          parts ∙ ap (λ (l : List CsvRecord). l ++ more) (sym (take-append-drop n done)) ∙ append_assoc (take n done) (drop n done) more
+
+      -- their rows are the same by the higher greatest number
+      are_higher : (done : List CsvRecord) (front : RowsOf) (of : AreRowsOf layout files low first done front)
+          → AreRowsOf layout files most first (take (length of.texts) done) (record front { fault = None })
+      are_higher done front of = record {
+        texts = of.texts;
+        come = come_low layout files most low first done of.texts front.fault less of.come;
+        text = of.text;
+        count = of.count;
+        faults = of.faults ∙ faults_low layout files most low first done of.texts front.fault less of.come;
+      }
+
       -- or the writer failed
-      pub fails_before : FailsInRows contents old new log log' layout files low None first rs cut → FailsInRows contents old new log log' layout files most limit first rs rows_on
+      pub fails_before : FailsInRows contents old new log log' layout files low None first rs → FailsInRows contents old new log log' layout files most limit first rs
       fails_before h =
           let n = length h.are.texts in
-          let rest = drop (length are_cut.texts) are.texts in
-          let longer : cut.text ++ concat rest ≡ concat texts_on = ap (λ (l : List ℕ). l ++ concat rest) are_cut.text ∙ sym (concat-append are_cut.texts rest) in
+          let m = length h.are_upto.texts in
           record {
             done = take n h.done;
             more = drop n h.done ++ h.more;
-            parts = h.parts ∙ ap (λ (l : List CsvRecord). l ++ h.more) (sym (take-append-drop n h.done)) ∙ append_assoc (take n h.done) (drop n h.done) h.more;
+            parts = front_first n h.done h.more h.parts;
             front = record h.front { fault = None };
-            are = record {
-              texts = h.are.texts;
-              come = come_low layout files most low first h.done h.are.texts h.front.fault less h.are.come;
-              text = h.are.text;
-              count = h.are.count;
-              faults = h.are.faults ∙ faults_low layout files most low first h.done h.are.texts h.front.fault less h.are.come;
-            };
-            fails = record {
-              part = h.fails.part;
-              starts = subst (λ (l : List ℕ). StartsWith l h.fails.part) longer (starts_later [] cut.text h.fails.part (concat rest) h.fails.starts);
-              least = h.fails.least;
-              wrote = h.fails.wrote;
-              failed = h.fails.failed;
-            };
+            are = are_higher h.done h.front h.are;
+            reached = take m h.reached;
+            beyond = drop m h.reached ++ h.beyond;
+            within = front_first m h.reached h.beyond h.within;
+            upto = record h.upto { fault = None };
+            are_upto = are_higher h.reached h.upto h.are_upto;
+            fails = h.fails;
             noted = h.noted;
             few = few_before h.done h.more h.parts h.front.faults h.are.faults;
+            may = few_before h.reached h.beyond h.within h.upto.faults h.are_upto.faults;
           }

@@ -1,10 +1,9 @@
 -- That all records come to rows, up to the first fault.
-use Rattle.std.proofs.Common.{◌≡◌, ◌+◌, ℕ, ℤ, suc, Bool, true, false, List, [], ◌∷◌, ◌++◌, length, Option, Some, None, Result, Ok, Err, inl, inr, refl, sym, arith}
-use Rattle.std.specs.Prelude.{All, Contains, bytes_eq, is_some, nat_le, option_map, slice_get}
-use Rattle.std.specs.Cmp.Lexicographic.{bytes_decides}
+use Rattle.std.proofs.Common.{◌≡◌, ◌+◌, ℕ, ℤ, suc, Bool, true, false, List, [], ◌∷◌, ◌++◌, length, Option, Some, None, Result, Ok, Err, inl, inr, refl, sym}
+use Rattle.std.specs.Prelude.{All, bytes_eq, is_some, nat_le, option_map, slice_get}
 use Rattle.std.proofs.lemmas.Bool.{cases_Bool}
 use Rattle.std.proofs.lemmas.List.{append-nil}
-use Rattle.std.proofs.lemmas.List.Elements.{All-contains, Contains-append_right, Contains-get_or}
+use Rattle.std.proofs.lemmas.List.Elements.{All-contains}
 use Rattle.zic_base.specs.Check.{check, first_failed}
 use Rattle.zic_rows.specs.Count.{second_of}
 use Rattle.zic_columns.specs.Exchange.{exchanged}

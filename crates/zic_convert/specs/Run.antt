@@ -86,19 +86,22 @@ pub record EndsAtFaults (layout : Layout) (files : List File) (most : ℕ) (limi
   pub noted : Notes out.log out.log' before
 
 -- Some lines were written, of the header and the first rows, and the faults of these rows, which are few, were noted, and no others. Nothing
--- was written after these lines, unless a failure of the writer ended the run: then perhaps a beginning of those that come next.
+-- was written after these lines, unless a failure of the writer ended the run: then perhaps a beginning of those that come next, up to some
+-- line; the rows up to there have few faults too.
 pub record EndsAfterLines (layout : Layout) (files : List File) (most : ℕ) (limit : Option ℕ) (header : List ℕ) (row_records : List CsvRecord) (why : RunStop) (out : Output) : Type 0 where
   pub texts : List (List ℕ)
   pub fault : Option RowKind
   pub come : RecordsConvertBy layout files most 1 row_records texts fault
   pub lines : ℕ
+  pub upto : ℕ
   pub part : List ℕ
-  pub starts : StartsWith (header ++ concat texts) part
+  pub starts : StartsWith (concat (take upto (header ∷ texts))) part
   pub least : StartsWith part (concat (take lines (header ∷ texts)))
   pub exact : (part ≡ concat (take lines (header ∷ texts))) ⊎ (why ≡ stop.WriteFailed)
   pub wrote : Appends out.held out.held' part
   pub noted : Notes out.log out.log' (faults_by layout files most 1 (take (lines - 1) row_records))
   pub few : AreFew limit (faults_by layout files most 1 (take (lines - 1) row_records))
+  pub may : AreFew limit (faults_by layout files most 1 (take (upto - 1) row_records))
 
 -- how a conversion ends early: at a row, or for another cause, but never for a fault of a source
 abbrev pub EndsIn : Layout → List File → ℕ → Option ℕ → List ℕ → List CsvRecord → RunStop → Output → Type 0

@@ -74,17 +74,24 @@ WritesRecords layout files most limit first row_records contents old new log log
 abbrev pub WritesRound : {W : Type 0} → Pieces → Option ℕ → (W → Option (List ℕ)) → Counts W → Counts W → Option (List RowNote) → Option (List RowNote) → Tally → Type 0
 WritesRound p limit contents old new log log' tally = WritesRecords p.layout p.files p.most limit p.first (records_of_all p.layout.delimiter p.pieces) contents old new log log' tally
 
--- of the rows of these records, those of the first records were written, and their faults, which are few, noted, and then the writer failed
+-- Of the rows of these records, those of the first records were written, and their faults, which are few, noted. Then the writer failed,
+-- before the row of a record up to which faults are few too.
 pub record FailsInRows {W : Type 0} (contents : W → Option (List ℕ)) (old new : Counts W) (log log' : Option (List RowNote))
-    (layout : Layout) (files : List File) (most : ℕ) (limit : Option ℕ) (first : ℕ) (row_records : List CsvRecord) (rows : RowsOf) : Type 0 where
+    (layout : Layout) (files : List File) (most : ℕ) (limit : Option ℕ) (first : ℕ) (row_records : List CsvRecord) : Type 0 where
   pub done : List CsvRecord
   pub more : List CsvRecord
   pub parts : row_records ≡ done ++ more
   pub front : RowsOf
   pub are : AreRowsOf layout files most first done front
-  pub fails : FailsAfter contents old new front.text rows.text
+  pub reached : List CsvRecord
+  pub beyond : List CsvRecord
+  pub within : row_records ≡ reached ++ beyond
+  pub upto : RowsOf
+  pub are_upto : AreRowsOf layout files most first reached upto
+  pub fails : FailsAfter contents old new front.text upto.text
   pub noted : Notes log log' front.faults
   pub few : AreFew limit front.faults
+  pub may : AreFew limit upto.faults
 
 -- the rows of these records before one with one fault too many were written, and the faults before it noted
 pub record StopsAtFault {W : Type 0} (contents : W → Option (List ℕ)) (old new : Counts W) (log log' : Option (List RowNote))
@@ -104,7 +111,7 @@ abbrev pub EndsInRows : {W : Type 0} → (W → Option (List ℕ)) → Counts W 
 EndsInRows contents old new log log' layout files most limit first row_records rows (stop.Row row kind) =
     (StopsAtRow contents old new log log' first rows row kind × AreFew limit rows.faults)
     ⊎ StopsAtFault contents old new log log' layout files most limit first row_records rows row kind
-EndsInRows contents old new log log' layout files most limit first row_records rows stop.WriteFailed = FailsInRows contents old new log log' layout files most limit first row_records rows
+EndsInRows contents old new log log' layout files most limit first row_records rows stop.WriteFailed = FailsInRows contents old new log log' layout files most limit first row_records
 EndsInRows contents old new log log' layout files most limit first row_records rows _ = ⊥
 
 -- the rows of these records before one that ends the run were written, or the writer failed, or memory ran out

@@ -1,4 +1,4 @@
-use Rattle.std.proofs.Common.{◌≡◌, FitsSigned, Err, Ok, refl, rules, to_z-of_z}
+use Rattle.std.proofs.Common.{FitsSigned, Err, Ok, refl, rules, to_z-of_z}
 use Rattle.std.specs.Int.{w128}
 use Rattle.zic_convert.proofs.Meant.{time_meant}
 use Rattle.zic_convert.proofs.lookup.times_of.Goals as goal

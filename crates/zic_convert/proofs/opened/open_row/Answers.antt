@@ -1,11 +1,11 @@
-use Rattle.std.proofs.Common.{◌≡◌, ◌∙◌, ◌∷◌, ◌++◌, [], ℕ, List, None, Some, ap, ap₂, refl, subst, sym}
+use Rattle.std.proofs.Common.{◌∙◌, ◌∷◌, ◌++◌, [], ℕ, List, Some, ap, ap₂, refl, subst, sym}
 use Rattle.zic_columns.specs.Exchange.{exchanged}
 use Rattle.zic_columns.specs.Lines.{open_record, exchanged_record}
 use Rattle.zic_columns.specs.Own.{CsvRecord}
 use Rattle.zic_plan.specs.Noted.{RowNote}
-use Rattle.zic_convert.specs.code.Row.{AreRowsOf, RowsOf, empty_rows}
+use Rattle.zic_convert.specs.code.Row.{AreRowsOf, RowsOf}
 use Rattle.zic_convert.specs.LayoutRows.{faulty_text, if_aside}
-use Rattle.zic_convert.proofs.OpenLines.{made_of, one_ends, one_faulty, open_text, same_rows}
+use Rattle.zic_convert.proofs.OpenLines.{one_ends, one_faulty, open_text, same_rows}
 use Rattle.zic_convert.proofs.opened.open_row.Goals as goal
 
 pub returns-then-ends_run : goal.returns-then-ends_run

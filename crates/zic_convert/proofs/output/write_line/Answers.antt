@@ -1,4 +1,4 @@
-use Rattle.std.proofs.Common.{◌≡◌, ◌∙◌, ℕ, List, ap}
+use Rattle.std.proofs.Common.{◌≡◌, ◌∙◌, ℕ, ap}
 use Rattle.zic_columns.specs.Exchange.{exchanged}
 use Rattle.zic_convert.specs.Column.{names_of}
 use Rattle.zic_convert.proofs.output.write_line.Goals as goal

@@ -4,10 +4,8 @@ use Rattle.zic_columns.specs.Lines.{exchanged_record}
 use Rattle.zic_columns.specs.Exchange.{exchanged}
 use Rattle.zic_columns.specs.Record.{record_at}
 use Rattle.zic_plan.specs.Noted.{RowNote}
-use Rattle.zic_zones.specs.Zones.{zone_in}
 use Rattle.zic_convert.specs.LayoutRows.{faulty_text, if_aside}
 use Rattle.zic_convert.specs.code.Row.{RowsOf}
-use Rattle.zic_convert.proofs.Columns.{number_within}
 use Rattle.zic_convert.proofs.NextRows.{next_end, next_faulty, next_row}
 use Rattle.zic_convert.proofs.PutBack.{fault_same, outside}
 use Rattle.zic_convert.proofs.row.Rows.add_checked.Goals as goal
