@@ -63,7 +63,7 @@ enum {
     PZIC_BAD_SOURCE = 6,
     /*
      * No file has the name or the number, no fault, reason or disambiguation has the number, there is no
-     * such layout, or options list nothing.
+     * such layout, or a number of options or the order of their instants is wrong.
      */
     PZIC_NO_SUCH = 7,
     /* A row of the column has a fault. */
@@ -586,7 +586,7 @@ typedef struct pzic_diff_options {
 
 /*
  * The options of `pzic diff`: spans from the start of 1900 to that of 2500. `pzic diff --summary` looks
- * from the instant -62,135,510,400 on.
+ * from the instant -62,135,510,400 on, and takes the clock's time for `present`, which is 0 here.
  */
 #define PZIC_DIFF_OPTIONS_INIT {-2208988800, 16725225600, 0, PZIC_DIFF_SPANS, 0, 0}
 
@@ -623,7 +623,8 @@ static inline int32_t pzic_name_of_reason(uint32_t reason, uint8_t *room, size_t
  * written meanwhile: such a call takes what the handle holds, reads it through a shared reference, and
  * puts the same pointer back. That the handle is in the end as it was is proved. So a reading
  * call of this header copies the handle, a pointer and a kind, and has the copy read: nothing that is
- * shared is written but atomic counts, by pzic_share and pzic_zone_of. Languages that have no use for the functions of this header do the same.
+ * shared is written but atomic counts, by pzic_share and pzic_zone_of. pzic_raw_files_diff takes two copies,
+ * also of one handle. Languages that have no use for the functions of this header do the same.
  */
 int32_t pzic_raw_zone_read(const uint8_t *bytes, size_t length, pzic_handle *zone, uint32_t *reason);
 int32_t pzic_raw_share(pzic_handle *handle, pzic_handle *other);

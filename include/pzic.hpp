@@ -252,8 +252,9 @@ public:
         return made;
     }
 
-    // Returns when the zones of newer files differ from these: the lines of pzic_files_diff. Returns nothing
-    // where the options list nothing, or memory is refused to the library.
+    // Returns when the zones of newer files differ from these: the lines of pzic_files_diff, an empty text
+    // where none does. Returns nothing where a number of the options or the order of their instants is wrong,
+    // either holds no files, or memory is refused to the library.
     std::optional<std::string> diff(const files &newer,
                                     const pzic_diff_options &options = PZIC_DIFF_OPTIONS_INIT) const {
         handle rows;

@@ -65,8 +65,8 @@ class _Zones(Mapping[str, Zone]):
 
     def diff(self, new: Union[Tree, Files, Compiled], **options: Any) -> bytes:
         """Return when the zones of another tree answer otherwise than these: the lines that ``pzic diff``
-        writes. :class:`DiffOptions` has the words that may be given, and no line says that nothing
-        differs. Of a folder all files are read, once. Other threads of Python can run in the meantime.
+        writes, and no bytes where none does. :class:`DiffOptions` has the words that may be given. Of a
+        folder all files are read, once. Other threads of Python can run in the meantime.
         """
         return diff(self._held(), new._held(), DiffOptions(**options))
 

@@ -15,7 +15,7 @@ pub const LENGTHS: i32 = 5;
 /// The text is no source, or a zone of it has a fault.
 pub const BAD_SOURCE: i32 = 6;
 /// No file has the name or the number, no kind, reason or disambiguation has the number, there is no
-/// such layout, or options list nothing.
+/// such layout, or a number of options or the order of their instants is wrong.
 pub const NO_SUCH: i32 = 7;
 /// A row has a fault.
 pub const BAD_ROW: i32 = 8;

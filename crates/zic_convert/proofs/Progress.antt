@@ -249,7 +249,7 @@ module _ (layout : Layout) (files : List File) (most : ℕ) (limit : Option ℕ)
               shows = ap concat firsts ∙ concat-append far.texts are_front.texts ∙ ap (λ (l : List ℕ). concat far.texts ++ l) (sym are_front.text);
               faults = ap (faults_by layout files most 1) taken ∙ faults_on (take m (done ++ (others ++ beyond)))
                   ∙ ap (λ (l : List RowNote). faults_by layout files most 1 far.row_records ++ l)
-                      (faults_front layout files most (n + 1) done (others ++ beyond) are_front.texts front.fault are_front.come ∙ sym are_front.faults);
+                  (faults_front layout files most (n + 1) done (others ++ beyond) are_front.texts front.fault are_front.come ∙ sym are_front.faults);
             }
 
         -- The rows of the first of these records, and perhaps a beginning of the text of others up to some record, after which nothing was noted.

@@ -75,7 +75,7 @@ EndsAtRow layout files most limit header row_records row kind out =
     × AreFew limit (faults_by layout files most 1 row_records)
 
 -- The conversion ends at a row with one fault too many: a header and the rows before it were written, and the faults before it were noted.
--- Without a limit the records come to these texts, and one fault that ends the run, or none.
+-- Without a limit the records come to these texts, and to one fault that ends the run, or to none.
 pub record EndsAtFaults (layout : Layout) (files : List File) (most : ℕ) (limit : Option ℕ) (header : List ℕ) (row_records : List CsvRecord) (row : ℕ) (kind : RowKind) (out : Output) : Type 0 where
   pub texts : List (List ℕ)
   pub fault : Option RowKind
@@ -103,7 +103,7 @@ pub record EndsAfterLines (layout : Layout) (files : List File) (most : ℕ) (li
   pub few : AreFew limit (faults_by layout files most 1 (take (lines - 1) row_records))
   pub may : AreFew limit (faults_by layout files most 1 (take (upto - 1) row_records))
 
--- how a conversion ends early: at a row, or for another cause, but never for a fault of a source
+-- how a conversion ends early: at a row that ends it or has one fault too many, or for another cause, but never for a fault of a source
 abbrev pub EndsIn : Layout → List File → ℕ → Option ℕ → List ℕ → List CsvRecord → RunStop → Output → Type 0
 EndsIn layout files most limit header row_records (stop.Row row kind) out =
     EndsAtRow layout files most limit header row_records row kind out

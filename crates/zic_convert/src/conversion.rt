@@ -421,8 +421,8 @@ fn ended<R>(
 /// takes note of the fault, and of the record's own bytes where it is put aside. A header that is such a
 /// line is one as any other. Where each line is a record and the run goes on at faults, no more than four
 /// bytes of a line are read beyond the most that the layout allows, and the others are dropped: they
-/// are in no row and no note. Where `max_faults` is a number, the run goes on after this many rows with a
-/// fault, and the next ends the conversion.
+/// are in no row and no note. Where the run goes on at faults and `max_faults` is a number, it goes on after
+/// this many rows with a fault. The next ends the conversion, and is neither written nor noted.
 ///
 /// The column is read in rounds. Before a round is converted, its zones are made ready. The plan's
 /// workers convert the pieces of a round, which have the number of records that the plan says, and
@@ -438,9 +438,8 @@ fn ended<R>(
 ///   double quotes are open at its end, where each line is a record, a record of another number of fields than the layout's, a name that no file has,
 ///   no instant or local time, a local time that no instant or more than one has, or a whole second out
 ///   of range. All rows before it were written and flushed, and no failure of the writer was counted.
-///   Where rows with faults are written or their records put aside, only `TooManyRows` ends the
-///   conversion as `Row`, of records of CSV also `RowTooLong`, and a fault that is one more than
-///   `max_faults`.
+///   Where rows with faults are written or their records put aside, `Row` is only `TooManyRows`,
+///   `RowTooLong` of a record of CSV, and the fault after `max_faults` others.
 /// - `ReadFailed` or `WriteFailed` where the reader or writer counted a failure. Each error of the
 ///   reader or writer ends the call, also one at which others try again, and so does a write that
 ///   takes no byte. A reader that ended is not read again. Where the line of names can't be written,
