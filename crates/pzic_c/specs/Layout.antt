@@ -11,6 +11,7 @@ use Rattle.zic_plan.specs.declared.layout.Header.TheVariants as header
 use Rattle.zic_plan.specs.declared.layout.Layout.{Layout}
 use Rattle.zic_plan.specs.declared.layout.Records.{Records}
 use Rattle.zic_plan.specs.declared.layout.Records.TheVariants as by
+use Rattle.zic_plan.specs.declared.layout.Notes.TheVariants as notes
 use Rattle.zic_plan.specs.declared.layout.RowStart.{RowStart}
 use Rattle.zic_plan.specs.declared.layout.RowStart.TheVariants as starts
 use Rattle.zic_plan.specs.declared.layout.Style.{Style}
@@ -19,6 +20,7 @@ use Rattle.zic_plan.specs.declared.layout.TimeFrom.{TimeFrom}
 use Rattle.zic_plan.specs.declared.layout.TimeFrom.TheVariants as from
 use Rattle.zic_plan.specs.declared.layout.Unit.{Unit}
 use Rattle.zic_plan.specs.declared.layout.Unit.TheVariants as units
+use Rattle.zic_plan.specs.declared.layout.Written.TheVariants as written
 use Rattle.zic_plan.specs.declared.layout.ZoneFrom.{ZoneFrom}
 use Rattle.zic_plan.specs.declared.layout.ZoneFrom.TheVariants as zone
 use Rattle.pzic_c.specs.declared.layout.ColumnLayout.{ColumnLayout}
@@ -93,7 +95,9 @@ pub record HaveNumbers (given : ColumnLayout) (layout : Layout) : Type 0 where
   pub records : given.records ≡ records_number layout.records
   pub header : given.header ≡ header_number layout.header
   pub start : given.start ≡ start_number layout.start
+  pub written : layout.written ≡ written.All
   pub at_fault : given.at_fault ≡ fault_number layout.at_fault
+  pub notes : layout.notes ≡ notes.Faults
   pub style : given.style ≡ style_number layout.style
   pub max_record : IsLimit given.max_record layout.max_record
 

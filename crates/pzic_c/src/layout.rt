@@ -8,8 +8,8 @@ ghost use Rattle.pzic_c.specs.Layout.{fault_number, from_number, header_number, 
 use std::alloc::{AllocError, Global};
 use std::str::from_utf8;
 use zic_plan::{
-    AtFault, Delimiter, Disambiguation, FieldCount, Header, Layout, Records, RowStart, Style,
-    TimeFrom, Unit, ZoneFrom,
+    AtFault, Delimiter, Disambiguation, FieldCount, Header, Layout, Notes, Records, RowStart,
+    Style, TimeFrom, Unit, Written, ZoneFrom,
 };
 
 /// How a column is read, and what its rows are, by numbers.
@@ -235,6 +235,8 @@ pub(crate) fn layout_of(
         max_record: limit_of(given.max_record),
         start,
         style,
+        written: Written::All,
         at_fault,
+        notes: Notes::Faults,
     })
 }

@@ -6,8 +6,8 @@ use crate::no_request::NoRequest;
 use clap::ArgMatches;
 use std::alloc::Global;
 use zic_plan::{
-    AtFault, Delimiter, Disambiguation, FieldCount, Header, Layout, Records, RowStart, Style,
-    TimeFrom, Unit, ZoneFrom,
+    AtFault, Delimiter, Disambiguation, FieldCount, Header, Layout, Notes, Records, RowStart,
+    Style, TimeFrom, Unit, Written, ZoneFrom,
 };
 
 /// Returns how a column is read.
@@ -53,7 +53,9 @@ pub(crate) fn layout(
         max_record: matches.get_one::<u64>("max-record"),
         start,
         style,
+        written: Written::All,
         at_fault,
+        notes: Notes::Faults,
     })
 }
 

@@ -19,7 +19,7 @@ use std::io::Write;
 use zic_base::{RowFault, RowKind, RunStop};
 use zic_columns::may_have;
 use zic_counted::Counted;
-use zic_plan::{AtFault, FaultyRow, Layout, RowLog};
+use zic_plan::{AtFault, FaultyRow, Layout, LineEnd, RowLog};
 use zic_rows::RowText;
 
 /// Returns the fault of an open line, the row of this number: `TooManyRows` if that is above `most`, else
@@ -75,7 +75,12 @@ pub(crate) fn open_row(
     rows.count = 1;
     let own = aside(alloc, layout, line)?;
     let fault = RowFault { row: number, kind };
-    rows.faults.push(FaultyRow { fault, own })?;
+    rows.faults.push(FaultyRow {
+        fault,
+        own,
+        line_end: LineEnd::Lf,
+        detail: None,
+    })?;
     Ok(rows)
 }
 

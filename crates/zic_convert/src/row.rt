@@ -28,7 +28,7 @@ use std::alloc::{AllocError, Global};
 use std::marker::Model;
 use zic_base::{RowFault, RowKind, State};
 use zic_columns::{Field, Record, may_have};
-use zic_plan::{FaultyRow, Layout, RowStart, Style, TimeFrom, Unit};
+use zic_plan::{FaultyRow, Layout, LineEnd, RowStart, Style, TimeFrom, Unit};
 use zic_rows::{
     FIRST_INSTANT, LAST_INSTANT, RowText, RowWriter, is_plain, moment_of, push_local_time,
 };
@@ -406,7 +406,12 @@ impl Rows {
                 push_faulty(pen.alloc, &mut pen.row, piece, kind, given)?;
                 let own = aside(pen.alloc, piece.layout, given.own.of(piece.bytes))?;
                 let fault = RowFault { row: number, kind };
-                self.faults.push(FaultyRow { fault, own })?;
+                self.faults.push(FaultyRow {
+                    fault,
+                    own,
+                    line_end: LineEnd::Lf,
+                    detail: None,
+                })?;
             }
         }
         self.text.push(&pen.row)?;

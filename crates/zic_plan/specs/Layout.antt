@@ -11,6 +11,7 @@ use Rattle.zic_plan.specs.declared.layout.RowStart.TheVariants as starts
 use Rattle.zic_plan.specs.declared.layout.Style.TheVariants as styles
 use Rattle.zic_plan.specs.declared.layout.TimeFrom.TheVariants as times
 use Rattle.zic_plan.specs.declared.layout.Unit.TheVariants as units
+use Rattle.zic_plan.specs.declared.layout.Written.TheVariants as written
 use Rattle.zic_plan.specs.declared.layout.ZoneFrom.TheVariants as from
 
 -- a record has as many fields
@@ -24,8 +25,8 @@ records_before header.Absent = 0
 records_before header.First = 1
 records_before header.Skipped = 1
 
--- A record is one of CSV, of any length, and has two fields, the name of a zone and seconds, with a comma between them. Rows begin with
--- these fields and have local time and UT offset in two more, and the first fault ends the conversion.
+-- A record is one of CSV, of any length, and has two fields, the name of a zone and seconds, with a comma between them. Each row is
+-- written, begins with these fields, and has local time and UT offset in two more, and the first fault ends the conversion.
 pub record HasPlainRows (layout : Layout) : Type 0 where
   pub zone : layout.zone ≡ from.Field 0
   pub time : layout.time ≡ 1
@@ -37,4 +38,5 @@ pub record HasPlainRows (layout : Layout) : Type 0 where
   pub max_record : layout.max_record ≡ None
   pub start : layout.start ≡ starts.Fields
   pub style : layout.style ≡ styles.Fields
+  pub written : layout.written ≡ written.All
   pub at_fault : layout.at_fault ≡ at.End

@@ -97,6 +97,15 @@ pub enum Style {
     Iso,
 }
 
+/// Which rows are written.
+#[derive(Clone, Copy, Debug, PartialEq, Eq)]
+pub enum Written {
+    /// Each.
+    All,
+    /// Those that another release answers differently. What it answers follows in fields of its own.
+    Moved,
+}
+
 /// What a row with a fault does.
 #[derive(Clone, Copy, Debug, PartialEq, Eq)]
 pub enum AtFault {
@@ -109,6 +118,15 @@ pub enum AtFault {
     /// be ends it, and so does a record of CSV of more bytes than it may have. A longer line is put aside
     /// in part.
     Reject,
+}
+
+/// What is noted of a row with a fault.
+#[derive(Clone, Copy, Debug, PartialEq, Eq)]
+pub enum Notes {
+    /// Its number and its fault.
+    Faults,
+    /// Also the line where its record begins, and the value at fault.
+    Details,
 }
 
 /// How a column is read, and what its rows are.
@@ -136,14 +154,18 @@ pub struct Layout {
     pub start: RowStart,
     /// How a row has its local time and its UT offset.
     pub style: Style,
+    /// Which rows are written.
+    pub written: Written,
     /// What a row with a fault does.
     pub at_fault: AtFault,
+    /// What is noted of a row with a fault.
+    pub notes: Notes,
 }
 
 impl Layout {
     /// Returns the layout of plain columns: two fields, the name of a zone and seconds, with a
-    /// comma between them, and records of CSV of any length. Rows begin with these fields and have
-    /// local time and offset in two more, and the first fault ends the conversion.
+    /// comma between them, and records of CSV of any length. Each row is written, begins with these
+    /// fields, and has local time and offset in two more, and the first fault ends the conversion.
     pub fn plain(header: Header) -> Layout
         ensures rows { HasPlainRows result }
         ensures header { result.header ≡ header }
@@ -160,7 +182,9 @@ impl Layout {
             max_record: None,
             start: RowStart::Fields,
             style: Style::Fields,
+            written: Written::All,
             at_fault: AtFault::End,
+            notes: Notes::Faults,
         }
     }
 }

@@ -10,7 +10,8 @@ mod row_log;
 pub use delimiter::Delimiter;
 pub use disambiguation::Disambiguation;
 pub use layout::{
-    AtFault, FieldCount, Header, Layout, Records, RowStart, Style, TimeFrom, Unit, ZoneFrom,
+    AtFault, FieldCount, Header, Layout, Notes, Records, RowStart, Style, TimeFrom, Unit, Written,
+    ZoneFrom,
 };
 pub use plan::{MAX_BYTES, MAX_OF_PIECE, MAX_ROWS, MAX_WORKERS, Plan};
-pub use row_log::{FaultyRow, RowLog, Unnoted};
+pub use row_log::{FaultDetail, FaultyRow, LineEnd, RowLog, Unnoted};

@@ -3,11 +3,33 @@
 use std::marker::Model;
 use zic_base::RowFault;
 
+/// How the line of a record ends that is put aside.
+#[derive(Clone, Copy, Debug, PartialEq, Eq)]
+pub enum LineEnd {
+    /// With a line feed.
+    Lf,
+    /// With a carriage return and a line feed.
+    CrLf,
+}
+
+/// Where the record of a row with a fault begins, and what is wrong there. Clauses don't see this.
+#[derive(Debug, Drop)]
+pub struct FaultDetail {
+    /// The number of the line where the record begins, from 1: one more than the line feeds before it.
+    pub line: u64,
+    /// The field at fault, without double quotes; empty where the fault isn't of one field.
+    pub value: Vec<u8>,
+}
+
 /// A row with a fault, and the own bytes of its record, where that is put aside, or none.
 #[derive(Debug, Drop)]
 pub struct FaultyRow {
     pub fault: RowFault,
     pub own: Vec<u8>,
+    /// How the record's own line ends. Clauses don't see this.
+    pub line_end: LineEnd,
+    /// Where the record is, if that was requested.
+    pub detail: Option<FaultDetail>,
 }
 
 impl Model for FaultyRow {
