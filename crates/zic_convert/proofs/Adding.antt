@@ -17,12 +17,13 @@ use Rattle.zic_plan.specs.Layout.{records_before}
 use Rattle.zic_plan.specs.declared.layout.Layout.{Layout}
 use Rattle.zic_base.specs.declared.row_fault.RowKind.{RowKind}
 use Rattle.zic_convert.specs.Column.{AreRowsByLayout, names_line, own_line, read_by}
-use Rattle.zic_convert.specs.LayoutRows.{RecordsConvertBy, ends_by}
+use Rattle.zic_layout_rows.specs.LayoutRows.{RecordsConvertBy, ends_by}
 use Rattle.zic_convert.specs.code.Memory.{AreRowsOfLeft, AreRowsSoFar}
 use Rattle.zic_convert.specs.code.Pieces.{followed_by}
 use Rattle.zic_convert.specs.code.Progress.{BeginsRows, Takes, longest_of, own_line_in}
-use Rattle.zic_convert.specs.code.Row.{AreRowsOf, RowsOf, csv_records_in, records_in, records_of_all}
-use Rattle.zic_convert.proofs.Coming.{no_rows, one_fault, rows_followed, within}
+use Rattle.zic_convert.specs.code.Row.{records_in, records_of_all}
+use Rattle.zic_layout_rows.specs.PieceRows.{AreRowsOf, RowsOf, csv_records_in}
+use Rattle.zic_layout_rows.proofs.Coming.{no_rows, one_fault, rows_followed, within}
 use Rattle.zic_convert.proofs.Delimited.{own_line_delimited, records_alike}
 use Rattle.zic_convert.proofs.Halts.{as_many}
 use Rattle.zic_convert.proofs.Options.{for_some, if_some}

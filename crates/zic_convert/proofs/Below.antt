@@ -18,7 +18,7 @@ use Rattle.zic_plan.specs.Noted.{RowNote}
 use Rattle.zic_base.specs.declared.run_stop.RunStop.{RunStop}
 use Rattle.zic_base.specs.declared.run_stop.RunStop.TheVariants as stop
 use Rattle.zic_convert.specs.Column.{AreRowRecords, header_of, header_text, names_line, names_of, own_line}
-use Rattle.zic_convert.specs.LayoutRows.{faults_by}
+use Rattle.zic_layout_rows.specs.LayoutRows.{faults_by}
 use Rattle.zic_convert.specs.Run.{AreFew, EndsAfterLines, EndsIn, HasNames, Notes, WritesRows}
 use Rattle.zic_convert.specs.code.Progress.{ConvertsColumn, EndsInColumn, output}
 use Rattle.zic_convert.proofs.Bytes.{starts_later}

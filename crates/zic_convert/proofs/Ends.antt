@@ -12,13 +12,13 @@ use Rattle.zic_counted.specs.Counts.{Counts}
 use Rattle.zic_files.specs.File.{File}
 use Rattle.zic_plan.specs.declared.layout.Layout.{Layout}
 use Rattle.zic_convert.specs.Convert.{IsCauseOf}
-use Rattle.zic_convert.specs.LayoutRows.{faults_by}
+use Rattle.zic_layout_rows.specs.LayoutRows.{faults_by}
 use Rattle.zic_convert.specs.Run.{AreFew, EndsAfterLines, EndsByZones, Notes, Output, WritesRows}
 use Rattle.zic_convert.specs.code.Halt.{IsCauseOfHalt, IsEnd, IsOwnCause, IsReadingStop, stop_of}
 use Rattle.zic_convert.specs.code.Progress.{ConvertsColumn, EndsInColumn}
 use Rattle.zic_convert.specs.declared.halt.Halt.{Halt}
 use Rattle.zic_convert.specs.declared.halt.Halt.TheVariants as halt
-use Rattle.zic_convert.proofs.Coming.{all_texts}
+use Rattle.zic_layout_rows.proofs.Coming.{all_texts}
 use Rattle.zic_convert.proofs.Options.{for_some, if_some}
 use Rattle.zic_convert.proofs.Rounds.{ends_map}
 

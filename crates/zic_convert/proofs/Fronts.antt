@@ -8,9 +8,9 @@ use Rattle.zic_files.specs.Sound.{AreSoundFiles}
 use Rattle.zic_plan.specs.declared.layout.Layout.{Layout}
 use Rattle.zic_plan.specs.Noted.{RowNote}
 use Rattle.zic_base.specs.declared.row_fault.RowKind.{RowKind}
-use Rattle.zic_convert.specs.LayoutRows.{RecordsConvertBy, fault_by, faults_by, noted}
-use Rattle.zic_convert.specs.code.Row.{AreRowsOf, RowsOf}
-use Rattle.zic_convert.proofs.Coming.{come_after, come_more}
+use Rattle.zic_layout_rows.specs.LayoutRows.{RecordsConvertBy, fault_by, faults_by, noted}
+use Rattle.zic_layout_rows.specs.PieceRows.{AreRowsOf, RowsOf}
+use Rattle.zic_layout_rows.proofs.Coming.{come_after, come_more}
 use Rattle.zic_convert.proofs.Once.{once_by}
 use Rattle.zic_convert.proofs.Sounds.{all_known}
 use Rattle.zic_convert.proofs.Totals.{all_come}

@@ -11,11 +11,11 @@ use Rattle.zic_plan.specs.Noted.{RowNote}
 use Rattle.zic_base.specs.declared.run_stop.RunStop.{RunStop}
 use Rattle.zic_base.specs.declared.run_stop.RunStop.TheVariants as stop
 use Rattle.zic_convert.specs.Run.{EndsAfterLines, EndsAtRow, EndsIn}
-use Rattle.zic_convert.specs.code.Row.{AreRowsOf, RowsOf}
+use Rattle.zic_layout_rows.specs.PieceRows.{AreRowsOf, RowsOf}
 use Rattle.zic_convert.specs.code.Progress.{ComeNext, IsSoFar, output}
 use Rattle.zic_convert.specs.code.Written.{EndsInRows}
 use Rattle.csv.proofs.WriteFacts.{appends-none}
-use Rattle.zic_convert.proofs.Coming.{all_texts, all_within, few_texts}
+use Rattle.zic_layout_rows.proofs.Coming.{all_texts, all_within, few_texts}
 use Rattle.zic_convert.proofs.Progress.{ends_after, ends_here, up_to_fault, up_to_row}
 
 -- rows without a fault are as many as their records

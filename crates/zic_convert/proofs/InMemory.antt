@@ -7,9 +7,9 @@ use Rattle.zic_files.specs.File.{File}
 use Rattle.zic_plan.specs.Layout.{HasPlainRows}
 use Rattle.zic_plan.specs.declared.layout.Layout.{Layout}
 use Rattle.zic_convert.specs.Column.{AreRowsOfColumn}
-use Rattle.zic_convert.specs.Rows.{RecordsConvertTo}
-use Rattle.zic_convert.specs.code.Row.{AreRowsOf, RowsOf, csv_records_in}
-use Rattle.zic_convert.proofs.Coming.{few_texts}
+use Rattle.zic_layout_rows.specs.Rows.{RecordsConvertTo}
+use Rattle.zic_layout_rows.specs.PieceRows.{AreRowsOf, RowsOf, csv_records_in}
+use Rattle.zic_layout_rows.proofs.Coming.{few_texts}
 use Rattle.zic_convert.proofs.Plain.{come_plainly}
 use Rattle.zic_convert.proofs.PieceRecords.{as_many_in, comma_fields_in}
 

@@ -13,7 +13,8 @@ use Rattle.zic_columns.specs.declared.columns.Taken.{Taken}
 use Rattle.zic_columns.specs.declared.columns.Taken.TheVariants as taken
 use Rattle.zic_pieces.specs.Task.{AreValues}
 use Rattle.zic_files.specs.File.{File}
-use Rattle.zic_convert.specs.code.Row.{AreRowsOf, RowsOf, csv_records_in, taken_rows, records_of_all}
+use Rattle.zic_convert.specs.code.Row.{taken_rows, records_of_all}
+use Rattle.zic_layout_rows.specs.PieceRows.{AreRowsOf, RowsOf, csv_records_in}
 use Rattle.zic_convert.specs.code.Written.{EndsInPieces, EndsInRound, EndsInRows, HasOneTooMany, WritesRound}
 use Rattle.zic_counted.specs.Counts.{Counts}
 use Rattle.zic_plan.specs.declared.layout.Layout.{Layout}
@@ -23,10 +24,10 @@ use Rattle.zic_base.specs.declared.run_stop.RunStop.TheVariants as stop
 use Rattle.zic_convert.specs.code.Pieces.{ArePieces, AreRowsOfPiece, IsOutcomeOf, Pieces, joined}
 use Rattle.zic_base.specs.declared.row_fault.RowFault.{RowFault}
 use Rattle.zic_base.specs.declared.row_fault.RowKind.{RowKind}
-use Rattle.zic_convert.specs.LayoutRows.{RecordsConvertBy, faults_by}
+use Rattle.zic_layout_rows.specs.LayoutRows.{RecordsConvertBy, faults_by}
 use Rattle.zic_convert.specs.Run.{AreFew}
 use Rattle.zic_convert.specs.declared.tally.Tally.{Tally}
-use Rattle.zic_convert.proofs.Coming.{come_more, faults_more, no_rows, rows_followed}
+use Rattle.zic_layout_rows.proofs.Coming.{come_more, faults_more, no_rows, rows_followed}
 use Rattle.zic_convert.proofs.PieceRecords.{as_many_in, as_many_of_all}
 use Rattle.zic_convert.proofs.TooMany.{are_on, cut_ends, fails_before, few_of_front, row_within, rows_on, stops_before}
 

@@ -1,7 +1,5 @@
 pub mod Below
 pub mod Bytes
-pub mod Columns
-pub mod Coming
 pub mod Delimited
 pub mod Ends
 pub mod Fronts
@@ -12,19 +10,13 @@ pub mod InMemory
 pub mod Joining
 pub mod Logs
 pub mod Adding
-pub mod MoreRows
-pub mod NextRows
 pub mod Once
 pub mod Options
-pub mod PieceRows
 pub mod Plain
 pub mod Progress
-pub mod PutBack
 pub mod Rounds
 pub mod OpenLines
 pub mod LongRecords
-pub mod RowFaults
-pub mod Stated
 pub mod Sounds
 pub mod Sources
 pub mod Staying
@@ -33,7 +25,3 @@ pub mod TooMany
 pub mod Totals
 pub mod PieceRecords
 pub mod Writings
-pub mod QuickRows
-pub mod LocalRows
-pub mod Meant
-pub mod Answered

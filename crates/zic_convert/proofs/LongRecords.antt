@@ -8,11 +8,11 @@ use Rattle.zic_plan.specs.Noted.{RowNote}
 use Rattle.zic_base.specs.declared.row_fault.RowKind.{RowKind}
 use Rattle.zic_base.specs.declared.run_stop.RunStop.{RunStop}
 use Rattle.zic_base.specs.declared.run_stop.RunStop.TheVariants as stop
-use Rattle.zic_convert.specs.LayoutRows.{ends_by}
+use Rattle.zic_layout_rows.specs.LayoutRows.{ends_by}
 use Rattle.zic_convert.specs.code.Halt.{IsOwnCause}
-use Rattle.zic_convert.specs.code.Row.{AreRowsOf, RowsOf, empty_rows}
+use Rattle.zic_layout_rows.specs.PieceRows.{AreRowsOf, RowsOf, empty_rows}
 use Rattle.zic_convert.specs.code.Written.{EndsInRecords, IsStopAt}
-use Rattle.zic_convert.proofs.Coming.{no_rows, one_fault}
+use Rattle.zic_layout_rows.proofs.Coming.{no_rows, one_fault}
 use Rattle.zic_convert.proofs.Logs.{notes_none}
 use Rattle.zic_convert.proofs.TooMany.{none_few}
 

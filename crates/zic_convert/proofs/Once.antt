@@ -20,8 +20,8 @@ use Rattle.zic_plan.specs.declared.layout.Layout.{Layout}
 use Rattle.zic_base.specs.declared.row_fault.RowKind.{RowKind}
 use Rattle.zic_convert.specs.Column.{read_by}
 use Rattle.zic_convert.specs.Laws.{ColumnsConvertOnce}
-use Rattle.zic_convert.specs.LayoutRows.{RecordsConvertBy, IsRowAt, IsTextBy, ends_by, fault_by, instant_by, rest_by, start_text}
-use Rattle.zic_convert.specs.Rows.{RecordsConvertTo, IsTextOf, fault_of}
+use Rattle.zic_layout_rows.specs.LayoutRows.{RecordsConvertBy, IsRowAt, IsTextBy, ends_by, fault_by, instant_by, rest_by, start_text}
+use Rattle.zic_layout_rows.specs.Rows.{RecordsConvertTo, IsTextOf, fault_of}
 
 same_count : (a b : ℤ) → ◌≡◌ {A = Result ℤ RowKind} (Ok a) (Ok b) → a ≡ b
 same_count a b same = cc

@@ -13,15 +13,15 @@ use Rattle.zic_base.specs.declared.row_fault.RowKind.{RowKind}
 use Rattle.zic_base.specs.declared.row_fault.RowKind.TheVariants as kinds
 use Rattle.zic_base.specs.declared.run_stop.RunStop.{RunStop}
 use Rattle.zic_base.specs.declared.run_stop.RunStop.TheVariants as stop
-use Rattle.zic_convert.specs.LayoutRows.{ending, fault_by, faulty_text, if_aside, unless_aside}
+use Rattle.zic_layout_rows.specs.LayoutRows.{ending, fault_by, faulty_text, if_aside, unless_aside}
 use Rattle.zic_convert.specs.code.Pieces.{joined}
-use Rattle.zic_convert.specs.code.Row.{AreRowsOf, RowsOf, empty_rows}
+use Rattle.zic_layout_rows.specs.PieceRows.{AreRowsOf, RowsOf, empty_rows}
 use Rattle.zic_convert.specs.Run.{AreFew, IsOneTooMany}
 use Rattle.zic_convert.specs.code.Written.{EndsInPieces, EndsInRecords, EndsInRows, IsStopAt}
-use Rattle.zic_convert.proofs.Coming.{no_rows, rows_followed, too_many_ends}
-use Rattle.zic_convert.proofs.MoreRows.{end_added, row_added}
+use Rattle.zic_layout_rows.proofs.Coming.{no_rows, rows_followed, too_many_ends}
+use Rattle.zic_layout_rows.proofs.MoreRows.{end_added, row_added}
 use Rattle.zic_convert.proofs.Logs.{notes_none}
-use Rattle.zic_convert.proofs.NextRows.{next_end, next_faulty}
+use Rattle.zic_layout_rows.proofs.NextRows.{next_end, next_faulty}
 use Rattle.zic_convert.proofs.TooMany.{none_few, one_noted}
 
 module _ (layout : Layout) (files : List File) (most number : ℕ) (given : CsvRecord) (kind : RowKind) (is : fault_by layout files most number given ≡ Some kind) where

@@ -8,7 +8,8 @@ use Rattle.zic_columns.specs.Own.{CsvRecord, own_texts, csv_records}
 use Rattle.zic_columns.specs.Round.{records_of, records_of_pieces}
 use Rattle.zic_columns.proofs.Exchanges.{comma_exchanged}
 use Rattle.zic_columns.proofs.PieceRecords.{paired_none, wholes_fields}
-use Rattle.zic_convert.specs.code.Row.{fields_of_all, csv_records_in, records_of_all}
+use Rattle.zic_convert.specs.code.Row.{fields_of_all, records_of_all}
+use Rattle.zic_layout_rows.specs.PieceRows.{csv_records_in}
 
 -- commas stay as they are
 fields_unchanged : (fields : List (List ℕ)) → map (exchanged 44) fields ≡ fields

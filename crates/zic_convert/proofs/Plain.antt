@@ -35,9 +35,10 @@ use Rattle.zic_tzif.specs.Answer.{Answers}
 use Rattle.zic_zones.specs.Zones.{is_named, zone_in}
 use Rattle.zic_convert.specs.Column.{AreRowRecords, ConvertsBodyTo, ConvertsBy, ConvertsTo, read_by}
 use Rattle.zic_convert.specs.Laws.{PlainColumnsConvertAlike}
-use Rattle.zic_convert.specs.Rows.{RecordsConvertTo, IsTextOf, fault_of, instant_in, is_closed, is_row_instant, name_in}
-use Rattle.zic_convert.specs.LayoutRows.{RecordsConvertBy, IsRowAt, IsTextBy, count_in, ends_by, fault_by, file_named, rest_by, start_text, time_by, ok_count, err_fault}
-use Rattle.zic_convert.specs.code.Row.{field_start, fields_of_all}
+use Rattle.zic_layout_rows.specs.Rows.{RecordsConvertTo, IsTextOf, fault_of, instant_in, is_closed, is_row_instant, name_in}
+use Rattle.zic_layout_rows.specs.LayoutRows.{RecordsConvertBy, IsRowAt, IsTextBy, count_in, ends_by, fault_by, file_named, rest_by, start_text, time_by, ok_count, err_fault}
+use Rattle.zic_convert.specs.code.Row.{fields_of_all}
+use Rattle.zic_layout_rows.specs.code.Row.{field_start}
 
 same_seconds : (o : Option ℤ) → option_map (second_of unit.Second) o ≡ o
 same_seconds None = refl

@@ -23,13 +23,14 @@ use Rattle.zic_plan.specs.Noted.{RowNote}
 use Rattle.zic_base.specs.declared.row_fault.RowKind.{RowKind}
 use Rattle.zic_base.specs.declared.run_stop.RunStop.{RunStop}
 use Rattle.zic_base.specs.declared.run_stop.RunStop.TheVariants as stop
-use Rattle.zic_convert.specs.LayoutRows.{RecordsConvertBy, faults_by}
+use Rattle.zic_layout_rows.specs.LayoutRows.{RecordsConvertBy, faults_by}
 use Rattle.zic_convert.specs.Run.{AreFew, EndsAfterLines, EndsAtFaults, EndsAtRow, IsOneTooMany, Notes, WritesRows}
 use Rattle.zic_convert.specs.code.Progress.{ComeNext, IsSoFar, Takes, longest_of, output}
-use Rattle.zic_convert.specs.code.Row.{AreRowsOf, RowsOf, empty_rows, records_in, taken_rows}
+use Rattle.zic_convert.specs.code.Row.{records_in, taken_rows}
+use Rattle.zic_layout_rows.specs.PieceRows.{AreRowsOf, RowsOf, empty_rows}
 use Rattle.zic_convert.specs.code.Written.{IsLeft}
 use Rattle.zic_convert.proofs.Bytes.{starts_later}
-use Rattle.zic_convert.proofs.Coming.{all_texts, come_after, come_more, faults_after, faults_more, no_rows}
+use Rattle.zic_layout_rows.proofs.Coming.{all_texts, come_after, come_more, faults_after, faults_more, no_rows}
 use Rattle.zic_convert.proofs.Fronts.{faults_front, front_texts, take_after}
 use Rattle.zic_convert.proofs.Logs.{notes_more, notes_none}
 use Rattle.zic_convert.proofs.Options.{for_some, if_some}

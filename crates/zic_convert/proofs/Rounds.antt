@@ -18,7 +18,8 @@ use Rattle.zic_zones.specs.Zones.{Agree}
 use Rattle.zic_convert.specs.Run.{EndsByZones, EndsIn}
 use Rattle.zic_convert.specs.code.Halt.{stop_of}
 use Rattle.zic_convert.specs.code.Progress.{ComeNext, ConvertsRest, EndsAtTaking, EndsInRest, IsSoFar, Takes, longest_of, output}
-use Rattle.zic_convert.specs.code.Row.{RowsOf, records_in}
+use Rattle.zic_convert.specs.code.Row.{records_in}
+use Rattle.zic_layout_rows.specs.PieceRows.{RowsOf}
 use Rattle.zic_convert.specs.code.Written.{EndsInRecords, EndsInRows, WritesRecords, Wrote}
 use Rattle.zic_convert.specs.declared.tally.Tally.{Tally}
 use Rattle.zic_convert.specs.declared.halt.Halt.{Halt}

@@ -24,11 +24,11 @@ use Rattle.zic_plan.specs.declared.layout.Layout.{Layout}
 use Rattle.zic_convert.specs.Column.{AreRowRecords, ConvertsTo, header_text, names_line}
 use Rattle.zic_convert.specs.Convert.{WritesAll, WritesAt, WritesPartOf}
 use Rattle.zic_convert.specs.Laws.{PlainColumnsConvertAlike}
-use Rattle.zic_convert.specs.LayoutRows.{RecordsConvertBy}
-use Rattle.zic_convert.specs.Rows.{RecordsConvertTo}
+use Rattle.zic_layout_rows.specs.LayoutRows.{RecordsConvertBy}
+use Rattle.zic_layout_rows.specs.Rows.{RecordsConvertTo}
 use Rattle.zic_convert.specs.Run.{EndsAfterLines, EndsAtNames, EndsBy, EndsByZones, EndsIn, Run, WritesRows}
 use Rattle.zic_convert.specs.code.Progress.{output}
-use Rattle.zic_convert.specs.code.Row.{csv_records_in}
+use Rattle.zic_layout_rows.specs.PieceRows.{csv_records_in}
 use Rattle.zic_convert.proofs.Bytes.{starts_later}
 use Rattle.zic_convert.proofs.Options.{for_some, if_some}
 use Rattle.zic_convert.proofs.Plain.{come_plainly}

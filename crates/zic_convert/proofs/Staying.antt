@@ -28,12 +28,13 @@ use Rattle.zic_base.specs.declared.row_fault.RowKind.{RowKind}
 use Rattle.zic_base.specs.declared.row_fault.RowKind.TheVariants as kind
 use Rattle.zic_rows.specs.Count.{second_of}
 use Rattle.zic_zones.specs.Zones.{Agree, field_at, is_named, number_of, zone_in}
-use Rattle.zic_convert.specs.Rows.{is_closed, is_row_instant}
-use Rattle.zic_convert.specs.LayoutRows.{RecordsConvertBy, IsRowAt, IsTextBy, count_in, ending, ends_by, fault_by, faults_by, file_at, file_named, noted, time_by, ok_count, err_fault}
-use Rattle.zic_convert.specs.code.Row.{AreRowsOf, RowsOf, fields_of_all, taken_rows, records_of_all}
+use Rattle.zic_layout_rows.specs.Rows.{is_closed, is_row_instant}
+use Rattle.zic_layout_rows.specs.LayoutRows.{RecordsConvertBy, IsRowAt, IsTextBy, count_in, ending, ends_by, fault_by, faults_by, file_at, file_named, noted, time_by, ok_count, err_fault}
+use Rattle.zic_convert.specs.code.Row.{fields_of_all, taken_rows, records_of_all}
+use Rattle.zic_layout_rows.specs.PieceRows.{AreRowsOf, RowsOf}
 use Rattle.zic_convert.proofs.Delimited.{field_same, name_as_put, outside}
-use Rattle.zic_convert.proofs.PutBack.{among}
-use Rattle.zic_convert.proofs.RowFaults.{found, named, unnamed}
+use Rattle.zic_layout_rows.proofs.PutBack.{among}
+use Rattle.zic_layout_rows.proofs.RowFaults.{found, named, unnamed}
 use Rattle.zic_convert.proofs.PieceRecords.{all_put}
 
 both_or_none : (a b : Bool) → (a ≡ true → b ≡ true) → (b ≡ true → a ≡ true) → a ≡ b

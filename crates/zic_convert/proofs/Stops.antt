@@ -7,7 +7,7 @@ use Rattle.zic_base.specs.declared.row_fault.RowKind.{RowKind}
 use Rattle.zic_base.specs.declared.run_stop.RunStop.{RunStop}
 use Rattle.zic_base.specs.declared.run_stop.RunStop.TheVariants as stop
 use Rattle.zic_convert.specs.Run.{Notes}
-use Rattle.zic_convert.specs.code.Row.{RowsOf}
+use Rattle.zic_layout_rows.specs.PieceRows.{RowsOf}
 use Rattle.zic_convert.specs.code.Pieces.{joined}
 use Rattle.zic_convert.specs.code.Written.{EndsInPieces, IsStopAt, Wrote}
 use Rattle.zic_convert.proofs.Bytes.{fails_after, wrote_both}

@@ -13,11 +13,11 @@ use Rattle.zic_plan.specs.Noted.{RowNote}
 use Rattle.zic_base.specs.declared.row_fault.RowFault.{RowFault}
 use Rattle.zic_base.specs.declared.row_fault.RowKind.{RowKind}
 use Rattle.zic_base.specs.declared.row_fault.RowKind.TheVariants as kinds
-use Rattle.zic_convert.specs.LayoutRows.{RecordsConvertBy, IsRowAt, ending, ends_by, fault_by, faults_by, if_aside, noted}
+use Rattle.zic_layout_rows.specs.LayoutRows.{RecordsConvertBy, IsRowAt, ending, ends_by, fault_by, faults_by, if_aside, noted}
 use Rattle.zic_convert.specs.Run.{AreFew, IsOneTooMany, Notes}
-use Rattle.zic_convert.specs.code.Row.{AreRowsOf, RowsOf}
+use Rattle.zic_layout_rows.specs.PieceRows.{AreRowsOf, RowsOf}
 use Rattle.zic_convert.specs.code.Written.{FailsInRows, IsLeft, StopsAtFault, StopsAtRow, Wrote}
-use Rattle.zic_convert.proofs.Coming.{too_many_ends, within}
+use Rattle.zic_layout_rows.proofs.Coming.{too_many_ends, within}
 
 -- ---- how many faults are few
 

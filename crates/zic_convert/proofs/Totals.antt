@@ -15,12 +15,12 @@ use Rattle.zic_plan.specs.declared.layout.Layout.{Layout}
 use Rattle.zic_base.specs.declared.row_fault.RowKind.{RowKind}
 use Rattle.zic_base.specs.declared.row_fault.RowKind.TheVariants as kind
 use Rattle.zic_zones.specs.Zones.{is_named, number_of, zone_in}
-use Rattle.zic_convert.specs.Rows.{is_closed, is_row_instant}
-use Rattle.zic_convert.specs.LayoutRows.{RecordsConvertBy, IsRowAt, IsRowBy, IsTextBy, count_in, ends_by, fault_by, faulty_text, instant_by, rest_by, start_text, time_by, time_in, ok_count, err_fault}
-use Rattle.zic_convert.specs.code.Row.{AreRowsOf, RowsOf}
-use Rattle.zic_convert.proofs.Coming.{come_after, come_more}
-use Rattle.zic_convert.proofs.PutBack.{among}
-use Rattle.zic_convert.proofs.RowFaults.{found}
+use Rattle.zic_layout_rows.specs.Rows.{is_closed, is_row_instant}
+use Rattle.zic_layout_rows.specs.LayoutRows.{RecordsConvertBy, IsRowAt, IsRowBy, IsTextBy, count_in, ends_by, fault_by, faulty_text, instant_by, rest_by, start_text, time_by, time_in, ok_count, err_fault}
+use Rattle.zic_layout_rows.specs.PieceRows.{AreRowsOf, RowsOf}
+use Rattle.zic_layout_rows.proofs.Coming.{come_after, come_more}
+use Rattle.zic_layout_rows.proofs.PutBack.{among}
+use Rattle.zic_layout_rows.proofs.RowFaults.{found}
 use Rattle.zic_convert.proofs.Sounds.{IsKnown}
 
 -- checks that all pass

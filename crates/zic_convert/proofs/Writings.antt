@@ -5,7 +5,7 @@ use Rattle.std.proofs.Math.Seq.{take-suc}
 use Rattle.std.proofs.lemmas.List.{append-nil, take-append-drop}
 use Rattle.zic_plan.specs.Noted.{RowNote}
 use Rattle.zic_base.specs.declared.row_fault.RowKind.{RowKind}
-use Rattle.zic_convert.specs.code.Row.{RowsOf, empty_rows}
+use Rattle.zic_layout_rows.specs.PieceRows.{RowsOf, empty_rows}
 use Rattle.zic_convert.specs.code.Pieces.{followed_by, joined}
 
 -- rows after none

@@ -24,9 +24,9 @@ use Rattle.zic_plan.specs.declared.layout.Style.TheVariants as styles
 use Rattle.zic_plan.specs.declared.layout.TimeFrom.{TimeFrom}
 use Rattle.zic_plan.specs.declared.layout.TimeFrom.TheVariants as from
 use Rattle.zic_base.specs.declared.row_fault.RowKind.{RowKind}
-use Rattle.zic_convert.specs.Rows.{RecordsConvertTo}
+use Rattle.zic_layout_rows.specs.Rows.{RecordsConvertTo}
 use Rattle.zic_plan.specs.Noted.{RowNote}
-use Rattle.zic_convert.specs.LayoutRows.{RecordsConvertBy, faults_by}
+use Rattle.zic_layout_rows.specs.LayoutRows.{RecordsConvertBy, faults_by}
 
 -- The texts of a column's rows up to the first that has a fault, and that fault, or none. Rows count from 1, and there may be at most
 -- this number. The records are those of CSV with commas and double quotes, without a header row. A byte order mark at the start is none

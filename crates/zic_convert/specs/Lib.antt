@@ -1,6 +1,4 @@
 pub mod code
-pub mod Rows
-pub mod LayoutRows
 pub mod Column
 pub mod Convert
 pub mod Run

@@ -14,7 +14,7 @@ use Rattle.zic_base.specs.declared.run_stop.RunStop.{RunStop}
 use Rattle.zic_base.specs.declared.run_stop.RunStop.TheVariants as stop
 use Rattle.zic_convert.specs.Column.{AreRowRecords, header_text, names_line}
 use Rattle.zic_convert.specs.Convert.{WritesAllOf, WritesUpToOf}
-use Rattle.zic_convert.specs.LayoutRows.{RecordsConvertBy, faults_by}
+use Rattle.zic_layout_rows.specs.LayoutRows.{RecordsConvertBy, faults_by}
 
 -- what the writer held and holds, and what the log had noted of rows with a fault and has noted, where these are known
 pub record Output : Type 0 where

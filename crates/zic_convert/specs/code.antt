@@ -1,8 +1,6 @@
 -- Definitions for the code of this crate and for proofs. No contract of an exported function cites them.
-pub mod Batch
 pub mod Halt
 pub mod Memory
-pub mod Piece
 pub mod Pieces
 pub mod Progress
 pub mod Row

@@ -3,13 +3,13 @@
 ghost use Rattle.std.specs.Prelude.{◌≡◌, ◌+◌, ◌≤◌, IfOk, length};
 ghost use Rattle.zic_convert.specs.Column.{AreRowsOfColumn};
 
-use crate::piece::{Piece, rows_of_piece};
 use crate::pieces::room_for;
 use std::alloc::{AllocError, Global};
 use zic_base::RowKind;
 use zic_columns::laws::column_records_are_read;
 use zic_columns::without_mark;
 use zic_files::Files;
+use zic_layout_rows::{Piece, rows_of_piece};
 use zic_plan::{Header, Layout};
 use zic_rows::RowText;
 use zic_zones::{SourceZones, Zones};

@@ -21,7 +21,6 @@ ghost use Rattle.zic_convert.specs.code.Progress.{EndsAtTaking, TakesNext, longe
 ghost use Rattle.zic_convert.specs.code.Row.{taken_rows};
 ghost use Rattle.zic_convert.specs.code.Written.{EndsInRecords, WritesRecords};
 
-use crate::faulty::aside;
 use crate::halt::Halt;
 use crate::laws::plain_columns_convert_alike;
 use crate::long::{end_at_long, longest_of, read_of_lines};
@@ -42,6 +41,7 @@ use zic_columns::laws::{
 use zic_columns::{Column, Exchanged, Round, Taken, Truncated, Unread};
 use zic_counted::Counted;
 use zic_files::Files;
+use zic_layout_rows::aside;
 use zic_pieces::Gate;
 use zic_plan::{Header, Layout, Plan, RowLog, Unnoted};
 use zic_tzif::laws::files_answer_once;

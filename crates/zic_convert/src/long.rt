@@ -5,7 +5,7 @@ ghost use Rattle.zic_columns.specs.Own.{CsvRecord};
 ghost use Rattle.zic_columns.specs.Round.{may_have};
 ghost use Rattle.zic_files.specs.File.{File};
 ghost use Rattle.zic_plan.specs.Noted.{RowNote};
-ghost use Rattle.zic_convert.specs.LayoutRows.{ends_by};
+ghost use Rattle.zic_layout_rows.specs.LayoutRows.{ends_by};
 ghost use Rattle.zic_plan.specs.declared.plan.TheConstants.{MAX_BYTES};
 ghost use Rattle.zic_convert.specs.Column.{read_of_lines};
 ghost use Rattle.zic_convert.specs.code.Halt.{IsOwnCause};

@@ -5,20 +5,19 @@ ghost use Rattle.zic_columns.specs.Exchange.{exchanged};
 ghost use Rattle.zic_columns.specs.Lines.{exchanged_record, open_record};
 ghost use Rattle.zic_files.specs.File.{File};
 ghost use Rattle.zic_plan.specs.declared.plan.TheConstants.{MAX_ROWS};
-ghost use Rattle.zic_convert.specs.LayoutRows.{fault_by, unless_aside};
-ghost use Rattle.zic_convert.specs.code.Row.{AreRowsOf};
+ghost use Rattle.zic_layout_rows.specs.LayoutRows.{fault_by, unless_aside};
+ghost use Rattle.zic_layout_rows.specs.PieceRows.{AreRowsOf};
 ghost use Rattle.zic_convert.specs.code.Written.{EndsInRecords, WritesRecords};
 
 use crate::conversion::Conversion;
-use crate::faulty::{aside, ends_run, push_own};
 use crate::output::{stop_at, write_rows};
-use crate::row::Rows;
 use crate::tally::{Tally, left_after};
 use std::alloc::{AllocError, Global};
 use std::io::Write;
 use zic_base::{RowFault, RowKind, RunStop};
 use zic_columns::may_have;
 use zic_counted::Counted;
+use zic_layout_rows::{Rows, aside, ends_run, push_own};
 use zic_plan::{AtFault, FaultyRow, Layout, LineEnd, RowLog};
 use zic_rows::RowText;
 

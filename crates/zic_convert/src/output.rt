@@ -8,14 +8,13 @@ ghost use Rattle.zic_convert.specs.Column.{added_names, header_of, names_line, n
 ghost use Rattle.zic_convert.specs.code.Pieces.{joined};
 ghost use Rattle.zic_convert.specs.code.Written.{EndsAtHead, EndsInPieces, IsStopAt, Wrote, WroteRows};
 
-use crate::faulty::put_back;
 use crate::log::note_all;
-use crate::row::Rows;
 use std::alloc::AllocError;
 use std::io::Write;
 use zic_base::{RowKind, RunStop};
 use zic_columns::exchange;
 use zic_counted::{Counted, WriteFailed};
+use zic_layout_rows::{Rows, put_back};
 use zic_plan::{Header, Layout, RowLog, RowStart, Style, TimeFrom};
 
 /// Returns the names of the fields that a row adds to its record.

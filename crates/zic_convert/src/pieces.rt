@@ -6,12 +6,11 @@ ghost use Rattle.zic_columns.specs.declared.pieces.TheConstants.{MAX_ROUND_PIECE
 ghost use Rattle.zic_plan.specs.declared.plan.TheConstants.{MAX_ROWS};
 ghost use Rattle.zic_convert.specs.code.Pieces.{ArePieces, AreRowsOfPiece};
 
-use crate::piece::{Piece, rows_of_piece};
-use crate::row::Rows;
 use crate::spare::SpareTexts;
 use std::alloc::{AllocError, Global};
 use std::marker::Model;
 use zic_columns::Round;
+use zic_layout_rows::{Piece, Rows, rows_of_piece};
 use zic_pieces::{PieceStop, Task};
 use zic_plan::{Layout, Plan};
 use zic_zones::RowZones;

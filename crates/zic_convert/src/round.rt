@@ -9,13 +9,13 @@ ghost use Rattle.zic_convert.specs.code.Written.{EndsInRound, HasOneTooMany, Wri
 use crate::conversion::Conversion;
 use crate::output::write_rows;
 use crate::pieces::RowPieces;
-use crate::row::Rows;
 use crate::tally::{Tally, left_after};
 use std::io::Write;
 use std::sync::Wait;
 use std::thread::Threads;
 use zic_base::{RowFault, RunStop};
 use zic_counted::Counted;
+use zic_layout_rows::Rows;
 use zic_pieces::{Gate, TaskStop, run_task};
 use zic_plan::RowLog;
 

@@ -1,8 +1,8 @@
 //! A pool of texts: those of rows that were written are reused in the next round.
 
-use crate::row::Rows;
 use std::alloc::{AllocError, Global};
 use std::sync::Mutex;
+use zic_layout_rows::Rows;
 use zic_rows::RowText;
 
 /// The longest text that is put aside, in bytes.

@@ -6,8 +6,8 @@ ghost use Rattle.zic_convert.specs.Run.{IsOneTooMany};
 ghost use Rattle.zic_convert.specs.code.Pieces.{joined};
 ghost use Rattle.zic_convert.specs.code.Written.{IsLeft};
 
-use crate::row::Rows;
 use zic_base::RowFault;
+use zic_layout_rows::Rows;
 
 /// How many rows were written, and after how many more rows with a fault the run goes on, where that is
 /// limited.

@@ -3,7 +3,7 @@ use Rattle.std.proofs.Common.{◌≡◌, ◌∙◌, ℕ, List, sym, subst, true,
 use Rattle.std.specs.Prelude.{Some, None}
 use Rattle.zic_files.specs.File.{File}
 use Rattle.zic_zones.specs.Zones.{Agree, is_named, number_of}
-use Rattle.zic_convert.proofs.RowFaults.{named, unnamed}
+use Rattle.zic_layout_rows.proofs.RowFaults.{named, unnamed}
 use Rattle.zic_convert.proofs.Staying.{named_same}
 
 module _ (settled : List ℕ → Type 0) (known files : List File) (agree : Agree settled known files) (name : List ℕ) (has : settled name) where

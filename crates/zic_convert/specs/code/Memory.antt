@@ -3,7 +3,8 @@ use Rattle.std.specs.Prelude.{◌≡◌, ℕ, List, ◌++◌, Option, Some, IfSo
 use Rattle.zic_columns.specs.Own.{CsvRecord}
 use Rattle.zic_files.specs.File.{File}
 use Rattle.zic_plan.specs.declared.layout.Layout.{Layout}
-use Rattle.zic_convert.specs.code.Row.{AreRowsOf, RowsOf, records_in}
+use Rattle.zic_convert.specs.code.Row.{records_in}
+use Rattle.zic_layout_rows.specs.PieceRows.{AreRowsOf, RowsOf}
 
 -- the rows of what is left of a column, where its bytes are known
 abbrev pub AreRowsOfLeft : Layout → List File → ℕ → Option (List ℕ) → RowsOf → Type 0

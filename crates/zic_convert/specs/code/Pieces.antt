@@ -6,7 +6,7 @@ use Rattle.zic_files.specs.File.{File}
 use Rattle.zic_plan.specs.declared.layout.Layout.{Layout}
 use Rattle.zic_base.specs.declared.row_fault.RowKind.{RowKind}
 use Rattle.zic_plan.specs.declared.plan.TheConstants.{MAX_OF_PIECE, MAX_ROWS}
-use Rattle.zic_convert.specs.code.Row.{AreRowsOf, RowsOf, csv_records_in}
+use Rattle.zic_layout_rows.specs.PieceRows.{AreRowsOf, RowsOf, csv_records_in}
 
 -- the layout, the files, the bytes of each piece, the number of the first record as a row, how many rows there may be, how many records a
 -- piece has (the last may have fewer), and whether a piece with a row that ends the run stops the task

@@ -24,7 +24,7 @@ use Rattle.zic_base.specs.declared.run_stop.RunStop.{RunStop}
 use Rattle.zic_base.specs.declared.run_stop.RunStop.TheVariants as stop
 use Rattle.zic_files.specs.File.{File}
 use Rattle.zic_convert.specs.Column.{AreRowRecords, header_of, own_header, own_line}
-use Rattle.zic_convert.specs.LayoutRows.{RecordsConvertBy, faults_by}
+use Rattle.zic_layout_rows.specs.LayoutRows.{RecordsConvertBy, faults_by}
 use Rattle.zic_convert.specs.Run.{EndsIn, Notes, Output, WritesRows}
 use Rattle.zic_convert.specs.code.Row.{records_in}
 use Rattle.zic_convert.specs.code.Written.{IsLeft}

@@ -14,9 +14,10 @@ use Rattle.zic_base.specs.declared.row_fault.RowFault.{RowFault}
 use Rattle.zic_base.specs.declared.row_fault.RowKind.{RowKind}
 use Rattle.zic_base.specs.declared.run_stop.RunStop.{RunStop}
 use Rattle.zic_base.specs.declared.run_stop.RunStop.TheVariants as stop
-use Rattle.zic_convert.specs.LayoutRows.{RecordsConvertBy}
+use Rattle.zic_layout_rows.specs.LayoutRows.{RecordsConvertBy}
 use Rattle.zic_convert.specs.Run.{AreFew, IsOneTooMany, Notes}
-use Rattle.zic_convert.specs.code.Row.{AreRowsOf, RowsOf, records_of_all}
+use Rattle.zic_convert.specs.code.Row.{records_of_all}
+use Rattle.zic_layout_rows.specs.PieceRows.{AreRowsOf, RowsOf}
 use Rattle.zic_convert.specs.code.Pieces.{Pieces, joined}
 use Rattle.zic_convert.specs.declared.tally.Tally.{Tally}
 

@@ -1,6 +1,6 @@
 use Rattle.std.proofs.Common.{le-leb, length}
 use Rattle.std.proofs.lemmas.Bool.{lt-leb}
-use Rattle.zic_convert.proofs.Coming.{too_long_ends, too_many_ends}
+use Rattle.zic_layout_rows.proofs.Coming.{too_long_ends, too_many_ends}
 use Rattle.zic_convert.proofs.long.long_kind.Goals as goal
 
 pub returns-then-most-number : goal.returns-then-most-number

@@ -4,7 +4,7 @@ use Rattle.zic_columns.specs.Exchange.{exchanged}
 use Rattle.zic_columns.specs.Round.{unread}
 use Rattle.zic_columns.specs.Truncated.{truncated_known}
 use Rattle.zic_convert.specs.Column.{AreRowsByLayout, read_by}
-use Rattle.zic_convert.specs.code.Row.{RowsOf}
+use Rattle.zic_layout_rows.specs.PieceRows.{RowsOf}
 use Rattle.zic_convert.proofs.Adding.{ok_if, rows_by}
 use Rattle.zic_convert.proofs.memory.rows_by_layout.Goals as goal
 

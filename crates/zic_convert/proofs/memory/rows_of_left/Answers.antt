@@ -1,9 +1,10 @@
 use Rattle.std.proofs.Common.{◌≡◌, ◌≤◌, ◌+◌, ◌∙◌, ℕ, None, Some, ap, arith, sym, subst}
 use Rattle.std.specs.Prelude.{is_some}
 use Rattle.zic_columns.specs.Round.{unread}
-use Rattle.zic_convert.specs.LayoutRows.{ends_by}
+use Rattle.zic_layout_rows.specs.LayoutRows.{ends_by}
 use Rattle.zic_convert.specs.code.Memory.{AreRowsOfLeft}
-use Rattle.zic_convert.specs.code.Row.{AreRowsOf, RowsOf, taken_rows}
+use Rattle.zic_convert.specs.code.Row.{taken_rows}
+use Rattle.zic_layout_rows.specs.PieceRows.{AreRowsOf, RowsOf}
 use Rattle.zic_convert.proofs.Adding.{left_at_start, left_ended, left_long, left_on, none_if, rows_within}
 use Rattle.zic_convert.proofs.Progress.{rows_taken}
 use Rattle.zic_convert.proofs.memory.rows_of_left.Goals as goal

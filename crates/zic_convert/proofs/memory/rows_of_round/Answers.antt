@@ -1,6 +1,6 @@
 use Rattle.std.proofs.Common.{◌≡◌, ◌≤◌, ◌<◌, ◌+◌, ◌∙◌, None, ℕ, ap, arith, rules, sym, subst}
 use Rattle.std.specs.Prelude.{is_some}
-use Rattle.zic_convert.specs.code.Row.{AreRowsOf, RowsOf, csv_records_in}
+use Rattle.zic_layout_rows.specs.PieceRows.{AreRowsOf, RowsOf, csv_records_in}
 use Rattle.zic_convert.proofs.Adding.{none_if, round_ended, round_on, rows_within}
 use Rattle.zic_convert.proofs.memory.rows_of_round.Goals as goal
 

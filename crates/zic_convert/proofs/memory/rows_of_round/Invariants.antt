@@ -1,5 +1,6 @@
 use Rattle.std.proofs.Common.{take}
-use Rattle.zic_convert.specs.code.Row.{AreRowsOf, records_of_all}
+use Rattle.zic_convert.specs.code.Row.{records_of_all}
+use Rattle.zic_layout_rows.specs.PieceRows.{AreRowsOf}
 use Rattle.zic_convert.proofs.memory.rows_of_round.Given as goal
 
 abbrev pub invariant-loop-i : goal.invariant-loop-i

@@ -3,8 +3,8 @@ use Rattle.zic_columns.specs.Exchange.{exchanged}
 use Rattle.zic_columns.specs.Lines.{open_record, exchanged_record}
 use Rattle.zic_columns.specs.Own.{CsvRecord}
 use Rattle.zic_plan.specs.Noted.{RowNote}
-use Rattle.zic_convert.specs.code.Row.{AreRowsOf, RowsOf}
-use Rattle.zic_convert.specs.LayoutRows.{faulty_text, if_aside}
+use Rattle.zic_layout_rows.specs.PieceRows.{AreRowsOf, RowsOf}
+use Rattle.zic_layout_rows.specs.LayoutRows.{faulty_text, if_aside}
 use Rattle.zic_convert.proofs.OpenLines.{one_ends, one_faulty, open_text, same_rows}
 use Rattle.zic_convert.proofs.opened.open_row.Goals as goal
 

@@ -1,0 +1,14 @@
+-- The fields that a file answers.
+use Rattle.std.proofs.Common.{◌≡◌, refl}
+use Rattle.zic_plan.specs.declared.layout.Style.{Style}
+use Rattle.zic_plan.specs.declared.layout.Style.TheVariants as styles
+use Rattle.zic_plan.specs.declared.layout.TimeFrom.{TimeFrom}
+use Rattle.zic_plan.specs.declared.layout.TimeFrom.TheVariants as from
+use Rattle.zic_layout_rows.specs.LayoutRows.{answered}
+
+-- there are four, or three
+pub four : (style : Style) (time : TimeFrom) → (answered style time ≡ 3 → ⊥) → answered style time ≡ 4
+four styles.Fields time not = refl
+four styles.Iso from.Count not = absurd (not refl)
+four styles.Iso from.Rfc3339 not = absurd (not refl)
+four styles.Iso (from.Local choice) not = refl

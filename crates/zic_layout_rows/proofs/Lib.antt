@@ -1,0 +1,12 @@
+pub mod Columns
+pub mod Coming
+pub mod MoreRows
+pub mod NextRows
+pub mod PieceRows
+pub mod PutBack
+pub mod RowFaults
+pub mod Stated
+pub mod QuickRows
+pub mod LocalRows
+pub mod Meant
+pub mod Answered

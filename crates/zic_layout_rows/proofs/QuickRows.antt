@@ -1,0 +1,160 @@
+-- Rows of records in which all that they show is at hand.
+use Rattle.zic_columns.specs.Lines.{exchanged_record}
+use Rattle.std.proofs.Common.{◌≡◌, ◌≤◌, ◌<◌, ◌+◌, ◌∙◌, ℕ, ℤ, Bool, true, List, [], ◌∷◌, ◌++◌, Some, None, Ok, ap, ap₂, append_assoc, arith, length, length-append, refl, subst, sym, take, drop, get_or}
+use Rattle.std.specs.Prelude.{int_le, slice_index_or, slice_range, ◌&&◌}
+use Rattle.std.proofs.lemmas.Int.{ints}
+use Rattle.std.specs.Fmt.{signed_decimal}
+use Rattle.zic_base.specs.Number.{number}
+use Rattle.zic_base.specs.State.{Shown}
+use Rattle.zic_columns.proofs.Spans.{span_both, span_first}
+use Rattle.zic_columns.specs.Exchange.{exchanged}
+use Rattle.zic_columns.specs.Record.{IsSplit, IsWithin, bytes_at, field_text, record_at}
+use Rattle.zic_columns.specs.Round.{may_have}
+use Rattle.zic_columns.specs.declared.fields.Field.{Field}
+use Rattle.zic_columns.specs.declared.fields.Field.TheVariants.{Plain, Quoted}
+use Rattle.zic_columns.specs.declared.fields.Record.{Record}
+use Rattle.zic_columns.specs.declared.fields.Span.{Span}
+use Rattle.zic_files.specs.Sound.{AreSoundFiles}
+use Rattle.zic_plan.specs.Delimiter.{is_delimiter}
+use Rattle.zic_plan.specs.Layout.{has_count}
+use Rattle.zic_plan.specs.declared.layout.Style.{Style}
+use Rattle.zic_plan.specs.declared.layout.Unit.{Unit}
+use Rattle.zic_plan.specs.declared.layout.Unit.TheVariants as unit
+use Rattle.zic_plan.specs.declared.layout.TimeFrom.{TimeFrom}
+use Rattle.zic_plan.specs.declared.layout.ZoneFrom.TheVariants as from
+use Rattle.zic_rows.specs.Count.{count_of, counted_rest_text, fraction_of, second_of, timed_rest_text, units_of_second}
+use Rattle.zic_rows.specs.Instant.{IsRowInstant}
+use Rattle.zic_rows.specs.PlainTime.{IsPlainTime}
+use Rattle.zic_rows.specs.declared.limit.TheConstants.{FIRST_INSTANT, LAST_INSTANT}
+use Rattle.zic_rows.specs.declared.row_time.RowTime.{RowTime}
+use Rattle.zic_zones.specs.Zones.{AnswersAt, zone_in}
+use Rattle.zic_layout_rows.specs.LayoutRows.{IsTextBy, input_text, file_at, rest_by, start_text}
+use Rattle.zic_layout_rows.specs.Rows.{is_closed, is_row_instant}
+use Rattle.zic_layout_rows.specs.code.Batch.{AreCountsOf, IsCountFor, IsQuickRow, IsRowQuery, IsTimeIn, count_at, fault_at, time_at, wanted_by, zone_at}
+use Rattle.zic_layout_rows.specs.code.Row.{field_start}
+use Rattle.zic_layout_rows.specs.declared.piece.Piece.{Piece}
+use Rattle.zic_layout_rows.specs.declared.quick.QuickRow.{QuickRow}
+use Rattle.zic_layout_rows.specs.declared.row.RowQuery.{RowQuery}
+use Rattle.zic_layout_rows.proofs.PutBack.{count_read, row_exchanged, row_put_back, text_made}
+use Rattle.zic_layout_rows.proofs.RowFaults.{found, no_fault}
+
+-- two parts with a comma between them
+pub joined : (bytes : List ℕ) (a m b : ℕ) → a ≤ m → m + 1 ≤ b → b ≤ length bytes → get_or bytes m 0 ≡ 44
+    → slice_range bytes a b ≡ slice_range bytes a m ++ 44 ∷ slice_range bytes (m + 1) b
+joined bytes a m b first last within comma =
+    sym (span_both bytes a m b first (omega (arith, last)))
+    ∙ ap (λ (l : List ℕ). slice_range bytes a m ++ l) (span_first bytes m b (omega (arith, last)) within ∙ ap (λ (x : ℕ). x ∷ slice_range bytes (m + 1) b) comma)
+
+-- the own bytes of a record that are its zone's name, a comma and its time
+pub own_begins : (piece : Piece) (given : Record) (split : IsSplit piece.bytes.now (wanted_by piece.layout.now) given) (k : ℕ) (zone time : Span) → piece.layout.now.zone ≡ from.Field k → given.zone ≡ Plain zone
+    → zone.start ≡ given.own.start → zone.end + 1 ≡ time.start → time.end ≡ given.own.end → IsWithin piece.bytes.now time → get_or piece.bytes.now zone.end 0 ≡ 44
+    → bytes_at piece.bytes.now given.own ≡ zone_in piece.layout.now.zone (record_at piece.bytes.now given).fields ++ 44 ∷ bytes_at piece.bytes.now time
+own_begins piece given split k zone time by_field plain first next last within comma =
+    let bytes = piece.bytes.now in
+    let within_bytes = rw plain at split.zone_within in
+    let has_time = rw (plain, by_field) at split.zone in
+    let name : slice_range bytes zone.start zone.end ≡ zone_in piece.layout.now.zone (record_at bytes given).fields = rw by_field has_time in
+    let here : bytes_at bytes given.own ≡ slice_range bytes zone.start time.end = ap₂ (λ (a b : ℕ). slice_range bytes a b) (sym first) (sym last) in
+    let row_record = joined bytes zone.start zone.end time.end within_bytes.0 (omega (arith, next, within.0)) within.1 comma in
+    here ∙ row_record ∙ ap₂ (λ (l : List ℕ) (n : ℕ). l ++ 44 ∷ slice_range bytes n time.end) name next
+
+-- a name, and then a comma
+pub comma_pushed : (old name a b : List ℕ) → a ≡ old ++ name → b ≡ a ++ 44 ∷ [] → b ≡ old ++ (name ++ 44 ∷ [])
+comma_pushed old name a b is_a is_b = is_b ∙ ap (λ (l : List ℕ). l ++ 44 ∷ []) is_a ∙ append_assoc old name (44 ∷ [])
+
+-- a row that is appended in parts is longer than what was there
+pub longer : (old begun part start rest all : List ℕ) → begun ++ part ≡ old ++ start → all ≡ begun ++ (part ++ rest) → length old ≤ length all
+longer old begun part start rest all is made =
+    let row_record : all ≡ (old ++ start) ++ rest = made ∙ sym (append_assoc begun part rest) ∙ ap (λ (l : List ℕ). l ++ rest) is in
+    omega (arith, ap length row_record, length-append (old ++ start) rest, length-append old start)
+
+-- the check passes an instant that a row may have
+may_row : (t : ℤ) → IsRowInstant t → is_row_instant (Some t) ≡ true
+may_row t is = both (int_le FIRST_INSTANT t) (int_le t LAST_INSTANT) (grind (arith, ints, is.0)) (grind (arith, ints, is.1)) where
+  both : (a b : Bool) → a ≡ true → b ≡ true → (a && b) ≡ true
+  both a b p q = rw (p, q) refl
+
+-- fewer units than make up a second
+pub units_below : (u : Unit) (count : ℤ) → fraction_of u count < units_of_second u
+units_below unit.Second count = grind (arith, ints)
+units_below unit.Millisecond count = grind (arith, ints)
+units_below unit.Microsecond count = grind (arith, ints)
+units_below unit.Nanosecond count = grind (arith, ints)
+
+-- the text of a field in which a time stands
+time_text : (u : Unit) (bytes : List ℕ) (field : Field) (time : RowTime) → IsTimeIn u bytes field time → IsPlainTime u (field_text bytes field) time
+time_text u bytes (Plain span) time is = is
+time_text u bytes (Quoted span) time is = absurd is
+
+-- no bytes are no count
+no_count : (u : Unit) → count_of u [] ≡ None
+unfolding count_of number
+no_count u = refl
+
+-- a record with a count has fields
+closed_is : (u : Unit) (fields : List (List ℕ)) (index : ℕ) (count : ℤ) → count_of u (slice_index_or fields index []) ≡ Some count → is_closed fields ≡ true
+closed_is u [] index count says = absurd (let none = no_count u in cc (none, says))
+closed_is u (field ∷ fields) index count says = refl
+
+-- the rest of a row by a time, and by its count
+rest_same : (style : Style) (u : Unit) (field : List ℕ) (time : RowTime) (is : IsPlainTime u field time) (shown : Shown)
+    → timed_rest_text style time.unit time.second time.fraction shown ≡ counted_rest_text style u is.count shown
+unfolding counted_rest_text
+rest_same style u field time is shown = rw (is.unit, is.second, is.fraction) refl
+
+module _ (piece : Piece) (given : Record) (row : QuickRow) (split : IsSplit piece.bytes.now (wanted_by piece.layout.now) given) (is : IsQuickRow piece given row) where
+  -- the time stands in its field
+  pub time_read : IsPlainTime piece.layout.now.unit (field_text piece.bytes.now given.time) row.time
+  time_read = time_text piece.layout.now.unit piece.bytes.now given.time row.time is.time
+
+module _ (piece : Piece) (given : Record) (row : QuickRow) (split : IsSplit piece.bytes.now (wanted_by piece.layout.now) given) (is : IsQuickRow piece given row)
+    (read : IsPlainTime piece.layout.now.unit (field_text piece.bytes.now given.time) row.time) where
+  count_is : is_delimiter piece.layout.now.delimiter ≡ true → count_at piece given ≡ Some read.count
+  count_is delimiter = sym (count_read piece given delimiter is.from split) ∙ read.says
+
+  time_is : is_delimiter piece.layout.now.delimiter ≡ true → time_at piece given ≡ Ok read.count
+  time_is delimiter =
+      let (file, got, called, known) = found piece.zones.now (zone_in piece.layout.now.zone (record_at piece.bytes.now given).fields) row.file is.file in
+      rw (is.file, got, count_is delimiter, is.from) refl
+
+  -- the row has no fault
+  pub faultless : (number : ℕ) → number ≤ piece.most → may_have piece.layout.now.max_record (length (bytes_at piece.bytes.now given.own)) ≡ true → is_delimiter piece.layout.now.delimiter ≡ true
+      → fault_at piece number given ≡ None
+  faultless number le short delimiter =
+      let admits = subst (λ (n : ℕ). has_count piece.layout.now.count n ≡ true) split.count is.admitted in
+      let closed = closed_is piece.layout.now.unit (record_at piece.bytes.now given).fields piece.layout.now.time read.count (ap (count_of piece.layout.now.unit) (sym split.time) ∙ read.says) in
+      no_fault piece number given le short closed admits row.file is.file read.count (time_is delimiter) (may_row (second_of piece.layout.now.unit read.count) read.may)
+
+  -- its text, as it is made
+  pub quick_text_made : (old begun_text all : List ℕ) (start : ℕ) → start ≡ length old → is_delimiter piece.layout.now.delimiter ≡ true → AreSoundFiles piece.zones.now
+      → begun_text ≡ old ++ field_start piece.layout.now.start (bytes_at piece.bytes.now given.own) (zone_in piece.layout.now.zone (record_at piece.bytes.now given).fields)
+      (field_text piece.bytes.now given.time)
+      → all ≡ begun_text ++ timed_rest_text piece.layout.now.style row.time.unit row.time.second row.time.fraction row.text.now
+      → (made : List ℕ) × (take start all ++ exchanged piece.layout.now.delimiter (drop start all) ≡ old ++ made)
+      × IsTextBy piece.layout.now piece.zones.now (exchanged_record piece.layout.now.delimiter (record_at piece.bytes.now given)) made
+  quick_text_made old begun_text all start at delimiter sound begun made =
+      let layout = piece.layout.now in
+      let d = layout.delimiter in
+      let own = bytes_at piece.bytes.now given.own in
+      let name = zone_in layout.zone (record_at piece.bytes.now given).fields in
+      let query : RowQuery = record { file = row.file; counts = record { input = read.count; count = read.count } } in
+      let counts : AreCountsOf layout (file_at piece.zones.now (zone_at piece given)) (count_at piece given) query.counts = record {
+        input_is = count_is delimiter;
+        sound = subst (λ (time : TimeFrom). IsCountFor time layout.unit read.count) (sym is.from) tt;
+        time = time_is delimiter;
+      } in
+      let input : IsRowQuery piece given query = record { file = is.file; counts = counts; may = read.may } in
+      let digits = input_text layout.from layout.unit read.count in
+      let digits_are : signed_decimal read.count ≡ digits = rw is.from refl in
+      let rest = rest_by layout.style layout.from layout.unit read.count row.text.now in
+      let rest_is : counted_rest_text layout.style layout.unit read.count row.text.now ≡ rest = rw is.from refl in
+      let answers = subst (λ (t : ℤ). AnswersAt piece.zones.now row.file t row.text.now) read.second is.answers in
+      let row_record : all ≡ old ++ (field_start layout.start own name digits ++ rest) =
+      made ∙ ap (λ (l : List ℕ). begun_text ++ l) (rest_same layout.style layout.unit (field_text piece.bytes.now given.time) row.time read row.text.now ∙ rest_is)
+      ∙ ap (λ (l : List ℕ). l ++ rest) (begun ∙ ap (λ (l : List ℕ). old ++ field_start layout.start own name l) (read.plain ∙ digits_are))
+      ∙ append_assoc old (field_start layout.start own name digits) rest in (
+        start_text layout (exchanged d own) name read.count ++ exchanged d rest,
+        row_exchanged d start old (field_start layout.start own name digits ++ rest) all at row_record
+            ∙ ap (λ (l : List ℕ). old ++ l) (row_put_back layout.start d own name digits rest),
+        text_made piece given query row.text.now delimiter sound input answers,
+      )

@@ -1,0 +1,127 @@
+-- The fault of a record's row, by what the record asks for.
+use Rattle.std.proofs.Common.{◌≡◌, ◌≤◌, ◌∙◌, ℕ, ℤ, Bool, true, false, List, ◌∷◌, ◌++◌, [], Option, Some, None, Ok, Err, ap, append_assoc, arith, le-leb, refl, subst, suc, sym}
+use Rattle.std.specs.Prelude.{bytes_eq, int_le, length, option_map, slice_get, IfSome, if◌then◌else◌}
+use Rattle.std.specs.Cmp.Lexicographic.{bytes_decides}
+use Rattle.std.proofs.lemmas.Bool.{and_parts}
+use Rattle.std.proofs.lemmas.Int.{ints}
+use Rattle.zic_columns.specs.Record.{record_at}
+use Rattle.zic_columns.specs.Round.{may_have}
+use Rattle.zic_columns.specs.declared.fields.Record.{Record}
+use Rattle.zic_files.specs.File.{File}
+use Rattle.zic_plan.specs.Layout.{has_count}
+use Rattle.zic_base.specs.declared.row_fault.RowKind.{RowKind}
+use Rattle.zic_base.specs.declared.row_fault.RowKind.TheVariants as kind
+use Rattle.zic_rows.specs.Count.{second_of}
+use Rattle.zic_rows.specs.Instant.{IsRowInstant}
+use Rattle.zic_rows.specs.declared.limit.TheConstants.{FIRST_INSTANT, LAST_INSTANT}
+use Rattle.zic_zones.specs.Zones.{is_named, number_of, zone_in}
+use Rattle.zic_layout_rows.specs.Rows.{is_closed, is_row_instant}
+use Rattle.zic_layout_rows.specs.code.Batch.{fault_at, time_at, zone_at}
+use Rattle.zic_layout_rows.specs.declared.piece.Piece.{Piece}
+
+none_before : (o : Option ℕ) → option_map (λ n. suc n) o ≡ None → o ≡ None
+none_before None e = refl
+none_before (Some n) e = absurd (cc e)
+
+some_before : (o : Option ℕ) (n : ℕ) → option_map (λ n. suc n) o ≡ Some n → (m : ℕ) × (o ≡ Some m) × (n ≡ suc m)
+some_before None n e = absurd (cc e)
+some_before (Some m) n e = (m, refl, cc e)
+
+module _ (file : File) (files : List File) (name : List ℕ) where
+  unnamed_by : (b : Bool) → bytes_eq file.name name ≡ b → (number_of files name ≡ None → is_named files name ≡ false)
+      → (if b then Some 0 else option_map (λ n. suc n) (number_of files name)) ≡ None → is_named (file ∷ files) name ≡ false
+  unnamed_by true e next none = absurd (cc none)
+  unnamed_by false e next none = rw e (next (none_before (number_of files name) none))
+
+  found_by : (n : ℕ) (b : Bool) → bytes_eq file.name name ≡ b → ((m : ℕ) → number_of files name ≡ Some m → (f : File) × (slice_get files m ≡ Some f) × (f.name ≡ name) × (is_named files name ≡ true))
+      → (if b then Some 0 else option_map (λ n. suc n) (number_of files name)) ≡ Some n
+      → (f : File) × (slice_get (file ∷ files) n ≡ Some f) × (f.name ≡ name) × (is_named (file ∷ files) name ≡ true)
+  found_by n true e next some =
+      let first : 0 ≡ n = cc some in
+      (file, subst (λ (k : ℕ). slice_get (file ∷ files) k ≡ Some file) first refl, (bytes_decides file.name name).0 e, rw e refl)
+  found_by n false e next some =
+      let (m, is, at) = some_before (number_of files name) n some in
+      let (f, got, called, known) = next m is in
+      (f, subst (λ (k : ℕ). slice_get (file ∷ files) k ≡ Some f) (sym at) got, called, rw e known)
+
+-- a name without a number is that of no file
+pub unnamed : (files : List File) (name : List ℕ) → number_of files name ≡ None → is_named files name ≡ false
+unnamed [] name none = refl
+unnamed (file ∷ files) name none = unnamed_by file files name (bytes_eq file.name name) refl (unnamed files name) none
+
+-- one with a number is that of the file of this number
+pub found : (files : List File) (name : List ℕ) (n : ℕ) → number_of files name ≡ Some n → (f : File) × (slice_get files n ≡ Some f) × (f.name ≡ name) × (is_named files name ≡ true)
+found [] name n some = absurd (cc some)
+found (file ∷ files) name n some = found_by file files name n (bytes_eq file.name name) refl (found files name) some
+
+pub named : (files : List File) (name : List ℕ) (n : ℕ) → number_of files name ≡ Some n → is_named files name ≡ true
+named files name n some = (found files name n some).3
+
+-- the name of that file
+pub name_is : (files : List File) (name : List ℕ) (n : ℕ) (has_time : List ℕ) → number_of files name ≡ Some n → IfSome (slice_get files n) (λ f. has_time ≡ f.name) → has_time ≡ name
+name_is files name n has_time some is =
+    let (f, got, called, known) = found files name n some in
+    let here = rw got at is in
+    here ∙ called
+
+module _ (piece : Piece) (number : ℕ) (given : Record) (le : number ≤ piece.most) where
+  -- it has too many bytes
+  pub too_long : may_have piece.layout.now.max_record (length (record_at piece.bytes.now given).own) ≡ false → fault_at piece number given ≡ Some kind.RowTooLong
+  too_long long = rw (le-leb number piece.most le, long) refl
+
+  module _ (short : may_have piece.layout.now.max_record (length (record_at piece.bytes.now given).own) ≡ true) where
+    -- it has no field
+    pub no_field : is_closed (record_at piece.bytes.now given).fields ≡ false → fault_at piece number given ≡ Some kind.RowQuote
+    no_field none = rw (le-leb number piece.most le, short, none) refl
+
+    module _ (closed : is_closed (record_at piece.bytes.now given).fields ≡ true) (admits : has_count piece.layout.now.count (length (record_at piece.bytes.now given).fields) ≡ true) where
+      -- its zone has no file
+      pub zone_missing : zone_at piece given ≡ None → fault_at piece number given ≡ Some kind.RowZone
+      zone_missing none = rw (le-leb number piece.most le, short, closed, admits, unnamed piece.zones.now (zone_in piece.layout.now.zone (record_at piece.bytes.now given).fields) none) refl
+
+      module _ (n : ℕ) (zone : zone_at piece given ≡ Some n) where
+        -- it has no instant
+        pub time_missing : (fault : RowKind) → time_at piece given ≡ Err fault → fault_at piece number given ≡ Some fault
+        time_missing fault none =
+            rw (le-leb number piece.most le, short, closed, admits, named piece.zones.now (zone_in piece.layout.now.zone (record_at piece.bytes.now given).fields) n zone, none) refl
+
+        module _ (c : ℤ) (count : time_at piece given ≡ Ok c) where
+          -- its instant is out of range
+          pub out_of_range : is_row_instant (Some (second_of piece.layout.now.unit c)) ≡ false
+              → fault_at piece number given ≡ Some kind.RowRange
+          out_of_range out =
+              rw (le-leb number piece.most le, short, closed, admits, named piece.zones.now (zone_in piece.layout.now.zone (record_at piece.bytes.now given).fields) n zone, count, out) refl
+
+          -- or it has no fault
+          pub no_fault : is_row_instant (Some (second_of piece.layout.now.unit c)) ≡ true
+              → fault_at piece number given ≡ None
+          no_fault may =
+              rw (le-leb number piece.most le, short, closed, admits, named piece.zones.now (zone_in piece.layout.now.zone (record_at piece.bytes.now given).fields) n zone, count, may) refl
+
+-- a row may have an instant that passes the check
+pub row_may : (t : ℤ) → is_row_instant (Some t) ≡ true → IsRowInstant t
+row_may t is =
+    let (from, to) = and_parts (int_le FIRST_INSTANT t) (int_le t LAST_INSTANT) is in
+    (grind (arith, ints, from), grind (arith, ints, to))
+
+-- what a row begins with, as it is appended
+pub start_pushed : (old name input a b : List ℕ) → a ≡ old ++ name → b ≡ a ++ 44 ∷ input → b ≡ old ++ (name ++ 44 ∷ input)
+start_pushed old name input a b is_a is_b = is_b ∙ ap (λ (l : List ℕ). l ++ 44 ∷ input) is_a ∙ append_assoc old name (44 ∷ input)
+
+-- a comma and decimals
+pub digits_pushed : (old digits a b : List ℕ) → a ≡ old ++ 44 ∷ [] → b ≡ a ++ digits → b ≡ old ++ 44 ∷ digits
+digits_pushed old digits a b is_a is_b = is_b ∙ ap (λ (l : List ℕ). l ++ digits) is_a ∙ append_assoc old (44 ∷ []) digits
+
+-- and the text of a state after them
+pub rest_pushed : (old digits text a b c : List ℕ) → a ≡ old ++ 44 ∷ [] → b ≡ a ++ digits → c ≡ b ++ text → c ≡ old ++ 44 ∷ (digits ++ text)
+rest_pushed old digits text a b c is_a is_b is_c =
+    is_c ∙ ap (λ (l : List ℕ). l ++ text) (digits_pushed old digits a b is_a is_b) ∙ append_assoc old (44 ∷ digits) text
+
+-- a record with fields is closed
+pub closed_counted : (fields : List (List ℕ)) → (length fields ≡ 0 → ⊥) → is_closed fields ≡ true
+closed_counted [] some = absurd (some refl)
+closed_counted (field ∷ fields) some = refl
+
+pub open_counted : (fields : List (List ℕ)) → length fields ≡ 0 → is_closed fields ≡ false
+open_counted [] none = refl
+open_counted (field ∷ fields) none = absurd (omega (arith, none))

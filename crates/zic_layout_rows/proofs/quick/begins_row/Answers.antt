@@ -1,0 +1,8 @@
+use Rattle.std.proofs.lemmas.Bool.{eqb-true}
+use Rattle.zic_layout_rows.proofs.QuickRows.{own_begins}
+use Rattle.zic_layout_rows.proofs.quick.begins_row.Goals as goal
+
+pub returns-then-time-own : goal.returns-then-time-own
+returns-then-time-own c = λ comma.
+    own_begins c.args.piece.now c.args.given.now c.requires.split c.in-Field-Plain.field-0-0 c.in-Field-Plain.zone c.args.time c.in-Field-Plain.is-0 c.in-Field-Plain.is-1
+    c.if-zone-own.true c.if-zone-time.true c.if-time-own.true c.requires.time (eqb-true _ 44 comma)

@@ -1,0 +1,33 @@
+-- The rows of a piece of a column.
+use Rattle.std.specs.Prelude.{◌≡◌, ℕ, List, [], length, map, Option, None}
+use Rattle.std.specs.List.{concat}
+use Rattle.zic_columns.specs.Lines.{exchanged_record}
+use Rattle.zic_columns.specs.Own.{CsvRecord, csv_records}
+use Rattle.zic_files.specs.File.{File}
+use Rattle.zic_plan.specs.declared.layout.Layout.{Layout}
+use Rattle.zic_plan.specs.Noted.{RowNote}
+use Rattle.zic_base.specs.declared.row_fault.RowKind.{RowKind}
+use Rattle.zic_layout_rows.specs.LayoutRows.{RecordsConvertBy, faults_by}
+
+-- the records of bytes in which the comma and the delimiter stand in each other's place, with the two put back
+abbrev pub csv_records_in : ℕ → List ℕ → List CsvRecord
+csv_records_in delimiter bytes = map (exchanged_record delimiter) (csv_records bytes)
+
+-- the text of some rows, how many there are, the fault of the row after them that ends the run, or none, and the faults that they have
+pub record RowsOf : Type 0 where
+  pub text : List ℕ
+  pub count : ℕ
+  pub fault : Option RowKind
+  pub faults : List RowNote
+
+-- none
+abbrev pub empty_rows : RowsOf
+empty_rows = record { text = []; count = 0; fault = None; faults = [] }
+
+-- the outcome of these records, by a layout, the first of which is the row of this number
+pub record AreRowsOf (layout : Layout) (files : List File) (most first : ℕ) (row_records : List CsvRecord) (rows : RowsOf) : Type 0 where
+  pub texts : List (List ℕ)
+  pub come : RecordsConvertBy layout files most first row_records texts rows.fault
+  pub text : rows.text ≡ concat texts
+  pub count : rows.count ≡ length texts
+  pub faults : rows.faults ≡ faults_by layout files most first row_records

@@ -1,0 +1,4 @@
+-- Definitions for the code of this crate and for proofs. No contract of an exported function cites them.
+pub mod Batch
+pub mod Piece
+pub mod Row

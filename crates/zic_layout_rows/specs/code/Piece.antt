@@ -1,0 +1,24 @@
+-- How far the rows of a piece have been made.
+use Rattle.zic_columns.specs.Lines.{exchanged_record}
+use Rattle.std.specs.Prelude.{◌≡◌, ◌<◌, ◌≤◌, ℕ, List, [], ◌++◌, None, length, map, take, All}
+use Rattle.zic_columns.specs.Own.{CsvRecord}
+use Rattle.zic_columns.specs.Record.{IsSplit, Splitting}
+use Rattle.zic_columns.specs.declared.splits.TheConstants.{BATCH}
+use Rattle.zic_layout_rows.specs.code.Batch.{records_of, wanted_by}
+use Rattle.zic_layout_rows.specs.PieceRows.{AreRowsOf, RowsOf, csv_records_in}
+use Rattle.zic_layout_rows.specs.declared.batch.Batch.{Batch}
+use Rattle.zic_layout_rows.specs.declared.piece.Piece.{Piece}
+
+-- the rows of the first records of a piece, or of fewer, where one ends the run, whose others are the first of a batch and those that are
+-- left to split
+pub record AreSoFar (piece : Piece) (rows : RowsOf) (batch : Batch) (count : ℕ) (splitter : Splitting) : Type 0 where
+  pub few : count ≤ BATCH
+  pub long : length batch.records ≡ BATCH
+  pub piece_is : splitter.piece ≡ piece.bytes.now
+  pub wanted_is : splitter.wanted ≡ wanted_by piece.layout.now
+  pub split : All (IsSplit piece.bytes.now (wanted_by piece.layout.now)) (take count batch.records)
+  pub end : count < BATCH → splitter.left ≡ []
+  pub done : List CsvRecord
+  pub parts : csv_records_in piece.layout.now.delimiter piece.bytes.now ≡ done ++ (records_of piece batch count ++ map (exchanged_record piece.layout.now.delimiter) splitter.left)
+  pub rows_are : AreRowsOf piece.layout.now piece.zones.now piece.most piece.first done rows
+  pub counted : rows.fault ≡ None → rows.count ≡ length done

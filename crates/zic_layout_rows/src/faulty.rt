@@ -1,0 +1,206 @@
+//! Rows with a fault.
+
+ghost use Rattle.zic_columns.specs.Lines.{exchanged_record};
+ghost use Rattle.std.specs.Prelude.{◌≡◌, ◌∷◌, ◌++◌, ◌≤◌, [], IsTrue, IfOk, OnOk, Some, None};
+ghost use Rattle.std.specs.Prelude.{false, length, take, drop, map};
+ghost use Rattle.csv.specs.Writing.{default_writer, row_text, with_delimiter};
+ghost use Rattle.zic_columns.specs.Exchange.{exchanged};
+ghost use Rattle.zic_columns.specs.Record.{IsSplit, IsWithinPiece, field_text, record_at};
+ghost use Rattle.zic_plan.specs.declared.layout.RowStart.TheVariants as start;
+ghost use Rattle.zic_zones.specs.Zones.{zone_in};
+ghost use Rattle.zic_layout_rows.specs.LayoutRows.{answered, ending, faulty_text, if_aside, marked_text, timeless_text};
+ghost use Rattle.zic_layout_rows.specs.code.Batch.{wanted_by};
+
+use crate::piece::Piece;
+use csv::WriterBuilder;
+use std::alloc::{AllocError, Global};
+use zic_base::RowKind;
+use zic_columns::{Field, Record, exchange, push_field};
+use zic_plan::{AtFault, Layout, Records, RowStart, Style, TimeFrom, ZoneFrom};
+
+/// Returns whether a fault ends the run.
+pub fn ends_run(at_fault: AtFault, records: Records, kind: RowKind) -> bool
+    ensures ends { IsTrue result → ending at_fault records (Some kind) ≡ Some kind }
+    ensures goes_on { result ≡ false → ending at_fault records (Some kind) ≡ None }
+{
+    match (at_fault, records) {
+        (AtFault::End, _) => true,
+        (AtFault::GoOn | AtFault::Reject, Records::Csv) => {
+            matches!(kind, RowKind::TooManyRows | RowKind::RowTooLong)
+        }
+        (AtFault::GoOn | AtFault::Reject, Records::Lines) => {
+            matches!(kind, RowKind::TooManyRows)
+        }
+    }
+}
+
+/// Swaps the delimiter and commas back, from an index of the text on.
+pub fn put_back(text: &mut Vec<u8>, start: usize, delimiter: u8)
+    requires { start ≤ length text.old.items }
+    ensures { text.new.items
+        ≡ take start text.old.items ++ exchanged delimiter (drop start text.old.items) }
+{
+    if delimiter != b',' {
+        exchange(&mut text[start..], delimiter);
+    }
+}
+
+/// Copies the text of a field, in which the delimiter and commas are put back in their places.
+pub(crate) fn copy_field(
+    alloc: Global,
+    piece: &Piece<'_, '_>,
+    field: Field,
+) -> Result<Vec<u8>, AllocError>
+    requires { IsWithinPiece piece.now.bytes.now field }
+    ensures { IfOk result (λ copy. copy.items
+        ≡ exchanged piece.now.layout.now.delimiter (field_text piece.now.bytes.now field)) }
+{
+    let mut copy = Vec::new(alloc);
+    push_field(&mut copy, piece.bytes, field)?;
+    exchange(&mut copy, piece.layout.delimiter.byte());
+    Ok(copy)
+}
+
+/// Copies the name of a record's zone, as [`copy_field`] does a field.
+fn copy_zone(alloc: Global, piece: &Piece<'_, '_>, given: &Record) -> Result<Vec<u8>, AllocError>
+    requires { IsSplit piece.now.bytes.now (wanted_by piece.now.layout.now) given.now }
+    ensures { IfOk result (λ copy. copy.items ≡ zone_in piece.now.layout.now.zone
+        (exchanged_record piece.now.layout.now.delimiter (record_at piece.now.bytes.now given.now)).fields) }
+{
+    match &piece.layout.zone {
+        ZoneFrom::Field(_) => copy_field(alloc, piece, given.zone),
+        ZoneFrom::Name(name) => Vec::from_slice(alloc, name.as_bytes()),
+    }
+}
+
+/// Returns what a CSV writer with a delimiter writes of some fields.
+fn csv_row(alloc: Global, delimiter: u8, fields: &[&[u8]]) -> Result<Vec<u8>, AllocError>
+    ensures { IfOk result (λ row. row.items
+        ≡ row_text (with_delimiter default_writer delimiter) (map (λ f. f.now) fields.now)) }
+{
+    let mut writer = WriterBuilder::new()
+        .delimiter(delimiter)
+        .from_writer(Vec::new(alloc));
+    // A writer into memory fails only where memory is refused.
+    if writer.write_fields(fields).is_err() {
+        return Err(AllocError);
+    }
+    match writer.into_inner() {
+        Ok(row) => Ok(row),
+        Err(_) => Err(AllocError),
+    }
+}
+
+/// Returns how many fields of a row come from the zone's file.
+fn answered(style: Style, from: TimeFrom) -> usize
+    ensures { result ≡ answered style from }
+{
+    match (style, from) {
+        (Style::Iso, TimeFrom::Count | TimeFrom::Rfc3339) => 3,
+        (Style::Iso, TimeFrom::Local(_)) | (Style::Fields, _) => 4,
+    }
+}
+
+/// Returns the row of a record by its fields, without local time.
+fn timeless_row(alloc: Global, piece: &Piece<'_, '_>, given: &Record) -> Result<Vec<u8>, AllocError>
+    requires { IsSplit piece.now.bytes.now (wanted_by piece.now.layout.now) given.now }
+    ensures { IfOk result (λ row. row.items ≡ timeless_text start.Fields piece.now.layout.now
+        (exchanged_record piece.now.layout.now.delimiter (record_at piece.now.bytes.now given.now))) }
+{
+    let name = copy_zone(alloc, piece, given)?;
+    let field = copy_field(alloc, piece, given.time)?;
+    let (name, field) = (name.as_slice(), field.as_slice());
+    let delimiter = piece.layout.delimiter.byte();
+    if answered(piece.layout.style, piece.layout.from) == 3 {
+        csv_row(alloc, delimiter, &[name, field, b"", b"", b""])
+    } else {
+        csv_row(alloc, delimiter, &[name, field, b"", b"", b"", b""])
+    }
+}
+
+/// Appends a row of the own bytes of a record and some commas, in which the delimiter and commas
+/// are put back in their places.
+pub fn push_own(
+    text: &mut Vec<u8>,
+    own: &[u8],
+    commas: &[u8],
+    delimiter: u8,
+) -> Result<(), AllocError>
+    ensures { OnOk result (text.new.items
+        ≡ text.old.items ++ (exchanged delimiter (own.now ++ commas.now) ++ 10 ∷ [])) }
+{
+    let start = text.len();
+    text.extend_from_slice(own)?;
+    text.extend_from_slice(commas)?;
+    put_back(text, start, delimiter);
+    text.push(b'\n')?;
+    Ok(())
+}
+
+/// Copies the own bytes of a faulty record, with the delimiter and commas swapped back, if it is put
+/// aside. Returns no bytes if it isn't.
+pub fn aside(alloc: Global, layout: &Layout, own: &[u8]) -> Result<Vec<u8>, AllocError>
+    ensures { IfOk result (λ copy. copy.items
+        ≡ if_aside layout.now.at_fault (exchanged layout.now.delimiter own.now)) }
+{
+    let mut copy = Vec::new(alloc);
+    if layout.at_fault == AtFault::Reject {
+        copy.extend_from_slice(own)?;
+        put_back(&mut copy, 0, layout.delimiter.byte());
+    }
+    Ok(copy)
+}
+
+/// Appends the row of a record with a fault that is written, as [`push_faulty`] does.
+fn push_marked(
+    alloc: Global,
+    text: &mut Vec<u8>,
+    piece: &Piece<'_, '_>,
+    kind: RowKind,
+    given: &Record,
+) -> Result<(), AllocError>
+    requires { IsSplit piece.now.bytes.now (wanted_by piece.now.layout.now) given.now }
+    ensures { OnOk result (text.new.items ≡ text.old.items ++ marked_text piece.now.layout.now kind
+        (exchanged_record piece.now.layout.now.delimiter (record_at piece.now.bytes.now given.now))) }
+{
+    let delimiter = piece.layout.delimiter.byte();
+    let own = given.own.of(piece.bytes);
+    if matches!(
+        kind,
+        RowKind::RowFields | RowKind::RowQuote | RowKind::RowTooLong
+    ) {
+        return push_own(text, own, b"", delimiter);
+    }
+    match piece.layout.start {
+        RowStart::Record => match (piece.layout.style, piece.layout.from) {
+            (Style::Iso, TimeFrom::Count | TimeFrom::Rfc3339) => {
+                push_own(text, own, b",,,", delimiter)
+            }
+            _ => push_own(text, own, b",,,,", delimiter),
+        },
+        RowStart::Fields => {
+            let row = timeless_row(alloc, piece, given)?;
+            text.extend_from_slice(&row)
+        }
+    }
+}
+
+/// Appends the row of a record with a fault, unless the record is put aside. The record has the
+/// delimiter and the comma in each other's place. Where memory runs out, a part of the row may be
+/// there.
+pub(crate) fn push_faulty(
+    alloc: Global,
+    text: &mut Vec<u8>,
+    piece: &Piece<'_, '_>,
+    kind: RowKind,
+    given: &Record,
+) -> Result<(), AllocError>
+    requires { IsSplit piece.now.bytes.now (wanted_by piece.now.layout.now) given.now }
+    ensures { OnOk result (text.new.items ≡ text.old.items ++ faulty_text piece.now.layout.now kind
+        (exchanged_record piece.now.layout.now.delimiter (record_at piece.now.bytes.now given.now))) }
+{
+    match piece.layout.at_fault {
+        AtFault::Reject => Ok(()),
+        AtFault::End | AtFault::GoOn => push_marked(alloc, text, piece, kind, given),
+    }
+}

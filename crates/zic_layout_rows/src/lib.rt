@@ -1,0 +1,16 @@
+//! The rows of the records of a piece of a column, by its layout and by zones.
+#![tactic(auto)]
+
+mod batch;
+mod faulty;
+mod local;
+mod lookup;
+mod only;
+mod piece;
+mod quick;
+mod row;
+mod shown;
+
+pub use faulty::{aside, ends_run, push_own, put_back};
+pub use piece::{Piece, rows_of_piece};
+pub use row::Rows;

@@ -1,0 +1,490 @@
+//! The rows of records.
+
+ghost use Rattle.zic_columns.specs.Lines.{exchanged_record};
+ghost use Rattle.std.specs.Prelude.{◌≡◌, ◌+◌, ◌^◌, ◌<◌, ◌≤◌, ◌++◌, ◌∷◌, ℤ, Some, None, IfOk, OnOk, MatchResult};
+ghost use Rattle.std.specs.Prelude.{ℕ, true, List, length};
+ghost use Rattle.std.specs.Fmt.{signed_decimal};
+ghost use Rattle.zic_columns.specs.Own.{CsvRecord};
+ghost use Rattle.zic_columns.specs.Record.{IsSplit, IsWithinPiece, bytes_at, field_text, record_at};
+ghost use Rattle.zic_columns.specs.Round.{may_have};
+ghost use Rattle.zic_rows.specs.Count.{count_of, second_of};
+ghost use Rattle.zic_rows.specs.Instant.{IsRowInstant};
+ghost use Rattle.zic_zones.specs.Zones.{AnswersAt, zone_in};
+ghost use Rattle.zic_plan.specs.declared.layout.TimeFrom.TheVariants as from;
+ghost use Rattle.zic_layout_rows.specs.LayoutRows.{IsTextBy, input_text, rest_by};
+ghost use Rattle.zic_layout_rows.specs.Rows.{is_row_instant};
+ghost use Rattle.zic_layout_rows.specs.code.Batch.{AreColumns, AreStates, IsFoundAt, IsLookup, IsKnown, IsPen, IsQuickRow, IsRowQuery, IsSoundQuery, fault_at, records_of, wanted_by, zone_at};
+ghost use Rattle.zic_layout_rows.specs.PieceRows.{AreRowsOf, empty_rows};
+ghost use Rattle.zic_layout_rows.specs.code.Row.{AreNext, field_start};
+
+use crate::batch::Batch;
+use crate::faulty::{aside, ends_run, push_faulty, put_back};
+use crate::local::push_local;
+use crate::lookup::{Counts, FoundState, Lookup, look_up};
+use crate::piece::Piece;
+use crate::quick::{Known, QuickRow, push_quick};
+use crate::shown::ShownStates;
+use itoa::Buffer;
+use std::alloc::{AllocError, Global};
+use std::marker::Model;
+use zic_base::{RowFault, RowKind, State};
+use zic_columns::{Field, Record, may_have};
+use zic_plan::{FaultyRow, Layout, LineEnd, RowStart, Style, TimeFrom, Unit};
+use zic_rows::{
+    FIRST_INSTANT, LAST_INSTANT, RowText, RowWriter, is_plain, moment_of, push_local_time,
+};
+use zic_zones::RowStates;
+
+/// The rows of records up to the first that ends the run: their text, their number, its fault, and
+/// the rows before it that have a fault.
+#[derive(Drop)]
+pub struct Rows {
+    pub text: RowText,
+    pub count: u64,
+    pub fault: Option<RowKind>,
+    pub faults: Vec<FaultyRow>,
+}
+
+impl Model for Rows {
+    ghost use Rattle.zic_layout_rows.specs.PieceRows.{RowsOf};
+
+    ghost Value = { RowsOf };
+
+    ghost view = { λ r. record { text = r.text; count = r.count; fault = r.fault; faults = r.faults.items } };
+}
+
+/// A writer of rows out of the common, and the file and the number of the state that it shows.
+#[derive(Drop)]
+pub(crate) struct RowPen {
+    alloc: Global,
+    writer: RowWriter,
+    /// The text of one row, or of a part.
+    row: Vec<u8>,
+    /// None before the first row.
+    file: Option<usize>,
+    state: usize,
+}
+
+impl RowPen {
+    /// Returns a pen before the first row.
+    pub(crate) fn new(alloc: Global) -> RowPen
+        ensures { result.file ≡ None }
+    {
+        let state = State {
+            offset: 0,
+            daylight: false,
+            name: b"",
+        };
+        RowPen {
+            alloc,
+            writer: RowWriter::new(state),
+            row: Vec::new(alloc),
+            file: None,
+            state: 0,
+        }
+    }
+
+    /// Shows the state of a file with this number, which the file shows at some second.
+    #[inline(always)]
+    fn show(&mut self, piece: &Piece<'_, '_>, file: usize, state: FoundState<'_>)
+        requires within { file < length piece.now.zones.now }
+        requires shown { (second : ℤ) × IsFoundAt piece.now.zones.now file second state }
+        requires pen { IsPen piece.now.zones.now self.old }
+        ensures shows { (second : ℤ) → IsFoundAt piece.now.zones.now file second state.entry
+            → AnswersAt piece.now.zones.now file second self.new.writer }
+        ensures pen { IsPen piece.now.zones.now self.new }
+    {
+        let state = match state {
+            FoundState::Number(number) => number,
+            FoundState::Text(text) => {
+                self.writer.set_text(text);
+                self.file = None;
+                return;
+            }
+        };
+        if self.file == Some(file) && self.state == state {
+            return;
+        }
+        piece.zones.show(&mut self.writer, file, state);
+        self.file = Some(file);
+        self.state = state;
+    }
+}
+
+/// The file of a row's zone, and counts, of which that of the instant is in range.
+#[derive(Clone, Copy, Drop)]
+pub(crate) struct RowQuery {
+    pub(crate) file: usize,
+    pub(crate) counts: Counts,
+}
+
+/// Returns whether a row may have the whole second of a count.
+#[inline(always)]
+fn is_in_range(count: i128, unit: Unit) -> bool
+    ensures { result ≡ is_row_instant (Some (second_of unit count)) }
+{
+    let second = moment_of(count, unit).second;
+    i128::from(FIRST_INSTANT) <= second && second <= i128::from(LAST_INSTANT)
+}
+
+/// Returns what the row of a record is to show. The record is the row of this number.
+///
+/// # Errors
+///
+/// The first fault of the row: a number above the greatest, more bytes than a record may have, no
+/// field, another number of fields, a name that no file has, no instant, or an instant that no row may
+/// have.
+#[inline(always)]
+fn query(
+    piece: &Piece<'_, '_>,
+    number: u64,
+    given: &Record,
+    lookup: &Lookup<'_>,
+) -> Result<RowQuery, RowKind>
+    requires split { IsSplit piece.now.bytes.now (wanted_by piece.now.layout.now) given.now }
+    requires lookup { IsLookup piece.now given.now lookup.now }
+    ensures { MatchResult result (IsSoundQuery piece.now number given.now lookup.now)
+        (λ kind. fault_at piece.now number given.now ≡ Some kind) }
+{
+    if piece.most < number {
+        return Err(RowKind::TooManyRows);
+    }
+    if !may_have(piece.layout.max_record, given.own.of(piece.bytes).len()) {
+        return Err(RowKind::RowTooLong);
+    }
+    if given.count == 0 {
+        return Err(RowKind::RowQuote);
+    }
+    if !piece.layout.count.admits(given.count) {
+        return Err(RowKind::RowFields);
+    }
+    let Some(file) = lookup.file else {
+        return Err(RowKind::RowZone);
+    };
+    let counts = match lookup.times {
+        Ok(counts) => counts,
+        Err(kind) => return Err(kind),
+    };
+    if !is_in_range(counts.count, piece.layout.unit) {
+        return Err(RowKind::RowRange);
+    }
+    Ok(RowQuery { file, counts })
+}
+
+/// Appends a count: the field that has it, where that is in plain decimals, or else its decimals.
+#[inline(always)]
+fn push_count(
+    text: &mut Vec<u8>,
+    piece: &Piece<'_, '_>,
+    given: &Record,
+    count: i128,
+) -> Result<(), AllocError>
+    requires within_bytes { IsWithinPiece piece.now.bytes.now given.now.time }
+    requires count { piece.now.layout.now.from ≡ from.Count → count_of piece.now.layout.now.unit
+        (field_text piece.now.bytes.now given.now.time) ≡ Some count }
+    ensures { OnOk result (text.new.items ≡ text.old.items ++ signed_decimal count) }
+{
+    let layout = piece.layout;
+    let input = (given.time, layout.from, layout.unit);
+    if let (Field::Plain(span), TimeFrom::Count, Unit::Second) = input {
+        let field = span.of(piece.bytes);
+        if is_plain(field) {
+            return text.extend_from_slice(field);
+        }
+    }
+    text.extend_from_slice(Buffer::new().format(count).as_bytes())
+}
+
+/// Appends a comma and the text of the count that a record's field has: a local time, or decimals.
+#[inline(always)]
+fn push_input(
+    text: &mut Vec<u8>,
+    piece: &Piece<'_, '_>,
+    given: &Record,
+    query: RowQuery,
+) -> Result<(), AllocError>
+    requires split { IsSplit piece.now.bytes.now (wanted_by piece.now.layout.now) given.now }
+    requires query { IsRowQuery piece.now given.now query }
+    ensures { OnOk result (text.new.items ≡ text.old.items ++ 44 ∷ input_text
+        piece.now.layout.now.from piece.now.layout.now.unit query.counts.input) }
+{
+    if let TimeFrom::Local(_) = piece.layout.from {
+        return push_local_time(text, query.counts.input, piece.layout.unit);
+    }
+    prove!(piece.layout.delimiter.byte() <= u8::MAX);
+    text.push(b',')?;
+    push_count(text, piece, given, query.counts.input)
+}
+
+/// Appends what the row of a record begins with, with commas.
+#[inline(always)]
+fn push_start(
+    text: &mut Vec<u8>,
+    piece: &Piece<'_, '_>,
+    given: &Record,
+    query: RowQuery,
+) -> Result<(), AllocError>
+    requires split { IsSplit piece.now.bytes.now (wanted_by piece.now.layout.now) given.now }
+    requires query { IsRowQuery piece.now given.now query }
+    ensures { OnOk result (text.new.items ≡ text.old.items ++ field_start
+        piece.now.layout.now.start (bytes_at piece.now.bytes.now given.now.own)
+        (zone_in piece.now.layout.now.zone (record_at piece.now.bytes.now given.now).fields)
+        (input_text piece.now.layout.now.from piece.now.layout.now.unit query.counts.input)) }
+{
+    match piece.layout.start {
+        RowStart::Record => text.extend_from_slice(given.own.of(piece.bytes)),
+        RowStart::Fields => {
+            text.extend_from_slice(piece.zones.name(query.file))?;
+            push_input(text, piece, given, query)
+        }
+    }
+}
+
+/// Appends what follows in a row, with commas: the local time of an instant, or the instant of a local
+/// time, and the state, in the layout's style.
+#[inline(always)]
+fn push_rest(
+    text: &mut Vec<u8>,
+    layout: &Layout,
+    count: i128,
+    writer: &mut RowWriter,
+) -> Result<(), AllocError>
+    requires { IsRowInstant (second_of layout.now.unit count) }
+    ensures writer { writer.new ≡ writer.old }
+    ensures text { OnOk result (text.new.items ≡ text.old.items ++ rest_by layout.now.style
+        layout.now.from layout.now.unit count writer.old) }
+{
+    if let TimeFrom::Local(_) = layout.from {
+        text.push(b',')?;
+        text.extend_from_slice(Buffer::new().format(count).as_bytes())?;
+        return match layout.style {
+            Style::Fields => writer.push_state(text),
+            Style::Iso => writer.push_counted_rest(text, count, layout.unit, Style::Iso),
+        };
+    }
+    writer.push_counted_rest(text, count, layout.unit, layout.style)
+}
+
+/// Appends the text of the row of a record, with the delimiter put back. Where memory runs out, a part
+/// of the row may be there.
+#[inline(always)]
+fn push_row(
+    text: &mut Vec<u8>,
+    piece: &Piece<'_, '_>,
+    given: &Record,
+    query: RowQuery,
+    writer: &mut RowWriter,
+) -> Result<(), AllocError>
+    requires split { IsSplit piece.now.bytes.now (wanted_by piece.now.layout.now) given.now }
+    requires query { IsRowQuery piece.now given.now query }
+    requires answers { AnswersAt piece.now.zones.now query.file
+        (second_of piece.now.layout.now.unit query.counts.count) writer.old }
+    ensures writer { writer.new ≡ writer.old }
+    ensures text { OnOk result ((row : List ℕ) × (text.new.items ≡ text.old.items ++ row)
+        × IsTextBy piece.now.layout.now piece.now.zones.now (exchanged_record
+        piece.now.layout.now.delimiter (record_at piece.now.bytes.now given.now)) row) }
+{
+    // The name of a file has no byte that can stand between fields.
+    piece.zones.are_sound();
+    let start = text.len();
+    push_start(text, piece, given, query)?;
+    push_rest(text, piece.layout, query.counts.count, writer)?;
+    put_back(text, start, piece.layout.delimiter.byte());
+    Ok(())
+}
+
+impl Rows {
+    /// Returns an empty list of rows, which reuses a text.
+    pub fn new(alloc: Global, mut text: RowText) -> Rows
+        ensures { result ≡ empty_rows }
+    {
+        text.clear();
+        Rows {
+            text,
+            count: 0,
+            fault: None,
+            faults: Vec::new(alloc),
+        }
+    }
+
+    /// Adds the row of a record, in which all that the row shows is at hand. The record has the
+    /// delimiter and the comma in each other's place.
+    #[inline(always)]
+    fn add_quick(
+        &mut self,
+        piece: &Piece<'_, '_>,
+        given: &Record,
+        row: &QuickRow<'_>,
+    ) -> Result<(), AllocError>
+        requires split { IsSplit piece.now.bytes.now (wanted_by piece.now.layout.now) given.now }
+        requires row { IsQuickRow piece.now given.now row.now }
+        requires may { piece.now.first + self.old.count ≤ piece.now.most }
+        requires short { may_have piece.now.layout.now.max_record
+            (length (bytes_at piece.now.bytes.now given.now.own)) ≡ true }
+        requires fits { piece.now.first + self.old.count + 1 < 2 ^ 64 }
+        ensures { OnOk result (AreNext piece.now.layout.now piece.now.zones.now piece.now.most
+            (piece.now.first + self.old.count) (exchanged_record piece.now.layout.now.delimiter
+            (record_at piece.now.bytes.now given.now)) self.old self.new) }
+    {
+        // No name of a file and no instant has a byte that can stand between fields.
+        piece.zones.are_sound();
+        prove!(piece.layout.delimiter.byte() <= u8::MAX);
+        push_quick(&mut self.text, piece, given, row)?;
+        self.count += 1;
+        Ok(())
+    }
+
+    /// Adds the row of a record without a fault, at whose instant the file shows this state.
+    #[inline(always)]
+    fn add_row(
+        &mut self,
+        piece: &Piece<'_, '_>,
+        given: &Record,
+        query: RowQuery,
+        state: FoundState<'_>,
+        pen: &mut RowPen,
+    ) -> Result<(), AllocError>
+        requires split { IsSplit piece.now.bytes.now (wanted_by piece.now.layout.now) given.now }
+        requires query { IsRowQuery piece.now given.now query }
+        requires state { IsFoundAt piece.now.zones.now query.file
+            (second_of piece.now.layout.now.unit query.counts.count) state }
+        requires fits { self.old.count + 1 < 2 ^ 64 }
+        requires pen { IsPen piece.now.zones.now pen.old }
+        ensures pen { IsPen piece.now.zones.now pen.new }
+        ensures row { OnOk result ((row : List ℕ) × (self.new ≡ record self.old {
+          text = self.old.text ++ row;
+          count = self.old.count + 1;
+        })
+            × IsTextBy piece.now.layout.now piece.now.zones.now (exchanged_record
+            piece.now.layout.now.delimiter (record_at piece.now.bytes.now given.now)) row) }
+    {
+        let shown = (piece.layout.from, piece.layout.style, state);
+        if let (TimeFrom::Local(_), Style::Fields, FoundState::Text(text)) = shown {
+            push_local(&mut self.text, piece, given, query, text)?;
+        } else {
+            pen.show(piece, query.file, state);
+            pen.row.clear();
+            push_row(&mut pen.row, piece, given, query, &mut pen.writer)?;
+            self.text.push(&pen.row)?;
+        }
+        self.count += 1;
+        Ok(())
+    }
+
+    /// Adds the row of a record, whose zone has this file, or the fault that ends the run there: check
+    /// by check, whatever the record has. The record has the delimiter and the comma in each other's
+    /// place.
+    #[inline(never)]
+    fn add_checked(
+        &mut self,
+        piece: &Piece<'_, '_>,
+        given: &Record,
+        file: Option<usize>,
+        pen: &mut RowPen,
+    ) -> Result<(), AllocError>
+        requires split { IsSplit piece.now.bytes.now (wanted_by piece.now.layout.now) given.now }
+        requires file { file ≡ zone_at piece.now given.now }
+        requires fits { piece.now.first + self.old.count + 1 < 2 ^ 64 }
+        requires pen { IsPen piece.now.zones.now pen.old }
+        ensures pen { IsPen piece.now.zones.now pen.new }
+        ensures next { OnOk result (AreNext piece.now.layout.now piece.now.zones.now piece.now.most
+            (piece.now.first + self.old.count) (exchanged_record piece.now.layout.now.delimiter
+            (record_at piece.now.bytes.now given.now)) self.old self.new) }
+    {
+        // No name of a file and no instant has a byte that can stand between fields.
+        piece.zones.are_sound();
+        prove!(piece.layout.delimiter.byte() <= u8::MAX);
+        let lookup = look_up(pen.alloc, piece, given, file)?;
+        let number = piece.first + self.count;
+        match query(piece, number, given, &lookup) {
+            Ok(query) => return self.add_row(piece, given, query, lookup.state, pen),
+            Err(kind) if ends_run(piece.layout.at_fault, piece.layout.records, kind) => {
+                self.fault = Some(kind);
+                return Ok(());
+            }
+            Err(kind) => {
+                pen.row.clear();
+                push_faulty(pen.alloc, &mut pen.row, piece, kind, given)?;
+                let own = aside(pen.alloc, piece.layout, given.own.of(piece.bytes))?;
+                let fault = RowFault { row: number, kind };
+                self.faults.push(FaultyRow {
+                    fault,
+                    own,
+                    line_end: LineEnd::Lf,
+                    detail: None,
+                })?;
+            }
+        }
+        self.text.push(&pen.row)?;
+        self.count += 1;
+        Ok(())
+    }
+
+    /// Adds the row of a record, or the fault that ends the run there. The record has the delimiter
+    /// and the comma in each other's place.
+    #[inline(always)]
+    fn add(
+        &mut self,
+        piece: &Piece<'_, '_>,
+        given: &Record,
+        known: &Known,
+        states: &RowStates<'_>,
+        pen: &mut RowPen,
+    ) -> Result<(), AllocError>
+        requires split { IsSplit piece.now.bytes.now (wanted_by piece.now.layout.now) given.now }
+        requires known { IsKnown piece.now given.now states.now.states known.now }
+        requires fits { piece.now.first + self.old.count + 1 < 2 ^ 64 }
+        requires pen { IsPen piece.now.zones.now pen.old }
+        ensures pen { IsPen piece.now.zones.now pen.new }
+        ensures next { OnOk result (AreNext piece.now.layout.now piece.now.zones.now piece.now.most
+            (piece.now.first + self.old.count) (exchanged_record piece.now.layout.now.delimiter
+            (record_at piece.now.bytes.now given.now)) self.old self.new) }
+    {
+        let counts = matches!(piece.layout.from, TimeFrom::Count);
+        let short = may_have(piece.layout.max_record, given.own.of(piece.bytes).len());
+        match known.row(states) {
+            Some(row) if counts && short && piece.first + self.count <= piece.most => {
+                self.add_quick(piece, given, &row)
+            }
+            _ => self.add_checked(piece, given, known.zone, pen),
+        }
+    }
+
+    /// Adds the rows of the first `count` records of a batch, up to the first that ends the run. The
+    /// records have the delimiter and the comma in each other's place.
+    pub(crate) fn add_all(
+        &mut self,
+        piece: &Piece<'_, '_>,
+        batch: &Batch,
+        shown: &ShownStates<'_>,
+        count: usize,
+        pen: &mut RowPen,
+    ) -> Result<(), AllocError>
+        requires columns { AreColumns piece.now batch.now count }
+        requires long { count ≤ length shown.now.numbers }
+        requires states { AreStates piece.now batch.now count shown.now }
+        requires goes_on { self.old.fault ≡ None }
+        requires fits { piece.now.first + self.old.count + count < 2 ^ 64 }
+        requires pen { IsPen piece.now.zones.now pen.old }
+        ensures pen { IsPen piece.now.zones.now pen.new }
+        ensures rows { (before : List CsvRecord) → AreRowsOf piece.now.layout.now piece.now.zones.now
+            piece.now.most piece.now.first before self.old → OnOk result (AreRowsOf
+            piece.now.layout.now piece.now.zones.now piece.now.most piece.now.first
+            (before ++ records_of piece.now batch.now count) self.new) }
+        ensures count { OnOk result
+            (self.new.fault ≡ None → self.new.count ≡ self.old.count + count) }
+    {
+        for i in 0..count {
+            let known = Known {
+                zone: batch.zones[i],
+                time: batch.times[i],
+                state: shown.numbers[i],
+            };
+            self.add(piece, &batch.records[i], &known, &shown.states, pen)?;
+            if self.fault.is_some() {
+                return Ok(());
+            }
+        }
+        Ok(())
+    }
+}
