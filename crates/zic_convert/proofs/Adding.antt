@@ -19,7 +19,7 @@ use Rattle.zic_base.specs.declared.row_fault.RowKind.{RowKind}
 use Rattle.zic_convert.specs.Column.{AreRowsByLayout, names_line, own_line, read_by}
 use Rattle.zic_layout_rows.specs.LayoutRows.{RecordsConvertBy, ends_by}
 use Rattle.zic_convert.specs.code.Memory.{AreRowsOfLeft, AreRowsSoFar}
-use Rattle.zic_convert.specs.code.Pieces.{followed_by}
+use Rattle.zic_layout_rows.specs.code.Row.{followed_by}
 use Rattle.zic_convert.specs.code.Progress.{BeginsRows, Takes, longest_of, own_line_in}
 use Rattle.zic_convert.specs.code.Row.{records_in, records_of_all}
 use Rattle.zic_layout_rows.specs.PieceRows.{AreRowsOf, RowsOf, csv_records_in}

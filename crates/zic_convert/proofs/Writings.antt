@@ -6,7 +6,8 @@ use Rattle.std.proofs.lemmas.List.{append-nil, take-append-drop}
 use Rattle.zic_plan.specs.Noted.{RowNote}
 use Rattle.zic_base.specs.declared.row_fault.RowKind.{RowKind}
 use Rattle.zic_layout_rows.specs.PieceRows.{RowsOf, empty_rows}
-use Rattle.zic_convert.specs.code.Pieces.{followed_by, joined}
+use Rattle.zic_layout_rows.specs.code.Row.{followed_by}
+use Rattle.zic_convert.specs.code.Pieces.{joined}
 
 -- rows after none
 after_none : (rows : RowsOf) → followed_by empty_rows rows None ≡ rows

@@ -5,7 +5,7 @@ ghost use Rattle.zic_columns.specs.Round.{unread};
 ghost use Rattle.zic_plan.specs.declared.plan.TheConstants.{MAX_ROWS};
 ghost use Rattle.zic_convert.specs.Column.{AreRowsByLayout};
 ghost use Rattle.zic_convert.specs.code.Memory.{AreRowsOfLeft};
-ghost use Rattle.zic_convert.specs.code.Pieces.{followed_by};
+ghost use Rattle.zic_layout_rows.specs.code.Row.{followed_by};
 ghost use Rattle.zic_convert.specs.code.Row.{records_of_all, taken_rows};
 ghost use Rattle.zic_layout_rows.specs.PieceRows.{AreRowsOf};
 

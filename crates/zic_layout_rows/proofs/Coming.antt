@@ -6,7 +6,6 @@ use Rattle.std.proofs.lemmas.Bool.{cases_Bool}
 use Rattle.std.proofs.lemmas.List.Folds.{concat-append}
 use Rattle.std.proofs.lemmas.List.{append-nil, length-append}
 use Rattle.zic_columns.specs.Own.{CsvRecord}
-use Rattle.zic_columns.specs.Round.{may_have}
 use Rattle.zic_files.specs.File.{File}
 use Rattle.zic_plan.specs.declared.layout.AtFault.{AtFault}
 use Rattle.zic_plan.specs.declared.layout.AtFault.TheVariants as at_fault
@@ -17,8 +16,7 @@ use Rattle.zic_plan.specs.Noted.{RowNote}
 use Rattle.zic_base.specs.declared.row_fault.RowKind.{RowKind}
 use Rattle.zic_base.specs.declared.row_fault.RowKind.TheVariants as kinds
 use Rattle.zic_layout_rows.specs.LayoutRows.{RecordsConvertBy, IsRowBy, ending, ends_by, fault_by, faults_by, noted}
-use Rattle.zic_convert.specs.code.Pieces.{followed_by}
-use Rattle.zic_convert.specs.code.Progress.{end_limit}
+use Rattle.zic_layout_rows.specs.code.Row.{followed_by}
 use Rattle.zic_layout_rows.specs.PieceRows.{AreRowsOf, RowsOf}
 
 -- a record that is one too many ends each run
@@ -28,15 +26,6 @@ too_many_ends at_fault.GoOn by.Csv = refl
 too_many_ends at_fault.GoOn by.Lines = refl
 too_many_ends at_fault.Reject by.Csv = refl
 too_many_ends at_fault.Reject by.Lines = refl
-
--- a record of more bytes than one may have where it ends the run
-pub too_long_ends : (at : AtFault) (mode : Records) (most : Option ℕ) (len : ℕ) → may_have (end_limit at mode most) len ≡ false
-    → (may_have most len ≡ false) × (ending at mode (Some kinds.RowTooLong) ≡ Some kinds.RowTooLong)
-too_long_ends at_fault.End mode most len long = (long, refl)
-too_long_ends at_fault.GoOn by.Csv most len long = (long, refl)
-too_long_ends at_fault.GoOn by.Lines most len long = absurd (cc long)
-too_long_ends at_fault.Reject by.Csv most len long = (long, refl)
-too_long_ends at_fault.Reject by.Lines most len long = absurd (cc long)
 
 module _ (layout : Layout) (files : List File) (most : ℕ) where
   -- a row that doesn't end the run is one of so many

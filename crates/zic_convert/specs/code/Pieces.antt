@@ -7,6 +7,7 @@ use Rattle.zic_plan.specs.declared.layout.Layout.{Layout}
 use Rattle.zic_base.specs.declared.row_fault.RowKind.{RowKind}
 use Rattle.zic_plan.specs.declared.plan.TheConstants.{MAX_OF_PIECE, MAX_ROWS}
 use Rattle.zic_layout_rows.specs.PieceRows.{AreRowsOf, RowsOf, csv_records_in}
+use Rattle.zic_layout_rows.specs.code.Row.{followed_by}
 
 -- the layout, the files, the bytes of each piece, the number of the first record as a row, how many rows there may be, how many records a
 -- piece has (the last may have fewer), and whether a piece with a row that ends the run stops the task
@@ -36,11 +37,6 @@ AreRowsOfPiece p i rows = IfSome (slice_get p.pieces i) (λ piece. AreRowsOf p.l
 abbrev pub IsOutcomeOf : Pieces → ℕ → Result RowsOf (Unit {0}) → Type 0
 IsOutcomeOf p i (Ok rows) = AreRowsOfPiece p i rows × (p.stops ≡ true → rows.fault ≡ None)
 IsOutcomeOf p i (Err fault) = (p.stops ≡ true) × (rows : RowsOf) × AreRowsOfPiece p i rows × IsSome rows.fault
-
--- some rows, and the rows after them, where none of the first ends the run
-abbrev pub followed_by : RowsOf → RowsOf → Option RowKind → RowsOf
-followed_by rows others None = record { text = rows.text ++ others.text; count = rows.count + others.count; fault = others.fault; faults = rows.faults ++ others.faults }
-followed_by rows others (Some kind) = rows
 
 -- the rows of pieces one after another, up to the first that ends the run
 abbrev pub joined : List RowsOf → RowsOf

@@ -1,10 +1,11 @@
 -- Rows as the code has them.
-use Rattle.std.specs.Prelude.{◌≡◌, ◌+◌, ℕ, List, ◌∷◌, ◌++◌, Some, MatchOption}
+use Rattle.std.specs.Prelude.{◌≡◌, ◌+◌, ℕ, List, ◌∷◌, ◌++◌, Option, None, Some, MatchOption}
 use Rattle.zic_columns.specs.Own.{CsvRecord}
 use Rattle.zic_files.specs.File.{File}
 use Rattle.zic_plan.specs.declared.layout.Layout.{Layout}
 use Rattle.zic_plan.specs.declared.layout.RowStart.{RowStart}
 use Rattle.zic_plan.specs.declared.layout.RowStart.TheVariants as start
+use Rattle.zic_base.specs.declared.row_fault.RowKind.{RowKind}
 use Rattle.zic_layout_rows.specs.LayoutRows.{IsRowBy, ends_by, fault_by, noted}
 use Rattle.zic_layout_rows.specs.PieceRows.{RowsOf}
 
@@ -18,3 +19,8 @@ abbrev pub AreNext : Layout → List File → ℕ → ℕ → CsvRecord → Rows
 AreNext layout files most number row_record old new = MatchOption (ends_by layout files most number row_record)
     ((row : List ℕ) × IsRowBy layout files most number row_record row × (new ≡ record { text = old.text ++ row; count = old.count + 1; fault = old.fault; faults = old.faults ++ noted layout.at_fault number row_record.own (fault_by layout files most number row_record) }))
     (λ kind. new ≡ record old { fault = Some kind })
+
+-- some rows, and the rows after them, where none of the first ends the run
+abbrev pub followed_by : RowsOf → RowsOf → Option RowKind → RowsOf
+followed_by rows others None = record { text = rows.text ++ others.text; count = rows.count + others.count; fault = others.fault; faults = rows.faults ++ others.faults }
+followed_by rows others (Some kind) = rows

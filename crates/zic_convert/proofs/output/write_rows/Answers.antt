@@ -7,7 +7,7 @@ use Rattle.zic_plan.specs.Noted.{RowNote}
 use Rattle.zic_base.specs.declared.row_fault.RowKind.{RowKind}
 use Rattle.zic_convert.specs.Run.{Notes}
 use Rattle.zic_convert.specs.code.Pieces.{joined}
-use Rattle.zic_convert.specs.code.Row.{RowsOf}
+use Rattle.zic_layout_rows.specs.PieceRows.{RowsOf}
 use Rattle.zic_convert.specs.code.Written.{Wrote}
 use Rattle.zic_convert.proofs.Bytes.{fails_after, wrote_both}
 use Rattle.zic_convert.proofs.Logs.{notes_more, notes_none}
