@@ -90,13 +90,13 @@ full_or_none rest size first after pieces cut full =
     (cases_lt (length (column_records rest)) size)
 
 -- one more piece is cut, which has a record
-pub cut_more : (bytes : List ℕ) (size : ℕ) (ranges : List PieceRange) (rest first after : List ℕ) → 0 < size → IsCutTo bytes size ranges rest
+pub cut_more : (bytes : List ℕ) (size : ℕ) (ranges : List PieceRange) (rest first after : List ℕ) (lines : Option ℕ) → 0 < size → IsCutTo bytes size ranges rest
     → 0 < length (column_records rest) → AreCutAfter rest size first after
-    → IsCutTo bytes size (ranges ++ record { start = length bytes - length rest; end = length bytes - length rest + length first } ∷ [])
+    → IsCutTo bytes size (ranges ++ record { start = length bytes - length rest; end = length bytes - length rest + length first; lines_before = lines } ∷ [])
     after
-cut_more bytes size ranges rest first after some to has cut =
+cut_more bytes size ranges rest first after lines some to has cut =
     let at = to.at in
-    let range : PieceRange = record { start = length bytes - length rest; end = length bytes - length rest + length first } in
+    let range : PieceRange = record { start = length bytes - length rest; end = length bytes - length rest + length first; lines_before = lines } in
     let parts : drop at bytes ≡ first ++ after = sym to.after ∙ cut.parts in
     let sum : length first + length after ≡ length bytes - at =
     omega (arith, ap length parts, length-append first after, length-drop at bytes) in

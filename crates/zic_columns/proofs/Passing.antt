@@ -1,15 +1,16 @@
 -- Bytes whose first record is passed over.
-use Rattle.std.proofs.Common.{◌≡◌, ◌⊎◌, ℕ, ◌≤◌, List, [], ◌∷◌, ◌++◌, length, map, take, drop, Option, Some, None, IfSome, inr, refl, sym, ap, ◌∙◌, arith, subst, ⊎_elim, append_assoc}
+use Rattle.std.proofs.Common.{◌≡◌, ◌⊎◌, ℕ, ◌≤◌, false, List, [], ◌∷◌, ◌++◌, length, map, take, drop, Option, Some, None, IfSome, inr, refl, sym, ap, ◌∙◌, arith, subst, ⊎_elim, append_assoc}
 use Rattle.std.proofs.lemmas.List.{append-nil, drop_all, drop_at, length-append, length-drop, length-map, length-take, map-append, nil_from_length, take-append-drop, take_all}
 use Rattle.std.specs.Io.KnownBytes.{prepend_known}
 use Rattle.zic_plan.specs.declared.layout.Records.{Records}
 use Rattle.zic_columns.specs.Column.{AreWholeRecords, column_records}
 use Rattle.zic_columns.specs.Lines.{records_by, texts_by}
 use Rattle.zic_columns.specs.Own.{CsvRecord, csv_records, first_own, first_text, own_texts}
-use Rattle.zic_columns.specs.Round.{PassesFirst, Takes}
+use Rattle.zic_columns.specs.Round.{BeginsTooLong, IsNextTooLong, PassesFirst, Takes, may_have}
 use Rattle.zic_columns.specs.code.Cut.{AreCutAfter}
 use Rattle.zic_columns.specs.code.Hand.{AreSomeRecords, CanBeCut, ClosedBy, OpensWith}
 use Rattle.zic_columns.specs.declared.line_scan.OpenLine.{OpenLine}
+use Rattle.zic_columns.proofs.Begun.{no_bytes}
 use Rattle.zic_columns.proofs.ByMode.{alike_by, front_by, joined_by, owns_by}
 use Rattle.zic_columns.proofs.OwnFacts.{own_counted}
 use Rattle.zic_columns.proofs.PieceRecords.{wholes_counted, wholes_owns}
@@ -35,6 +36,24 @@ own_next mode own None mid first next = tt
 own_next mode own (Some bytes) mid first next =
     let later : own ≡ first_text (texts_by mode first.0) = rw first.1 at next in
     later ∙ sym (ap first_text (owns_same mode bytes first.0 first.2))
+
+-- the next record is too long, where it is after the bytes were gathered
+pub long_next : (most : Option ℕ) (mode : Records) (old mid : Option (List ℕ)) → Takes mode old mid [] → IsNextTooLong most mode mid → IsNextTooLong most mode old
+long_next most mode None mid first next = tt
+long_next most mode (Some bytes) mid first next =
+    let later : BeginsTooLong most (records_by mode first.0) = rw first.1 at next in
+    subst (BeginsTooLong most) (sym first.2) later
+
+begins_long : (most : Option ℕ) (given : List CsvRecord) → may_have most (length (first_text (map (λ (w : CsvRecord). w.own) given))) ≡ false → BeginsTooLong most given
+begins_long most [] over = no_bytes most over
+begins_long most (w ∷ ws) over = over
+
+-- the next record is too long, where these are its own bytes
+pub own_too_long : (most : Option ℕ) (mode : Records) (own : List ℕ) (known : Option (List ℕ)) → AreFirstOwn mode own known → may_have most (length own) ≡ false
+    → IsNextTooLong most mode known
+own_too_long most mode own None is over = tt
+own_too_long most mode own (Some bytes) is over =
+    begins_long most (records_by mode bytes) (subst (λ (text : List ℕ). may_have most (length text) ≡ false) (is ∙ ap first_text (sym (owns_by mode bytes))) over)
 
 -- ---- an open line
 

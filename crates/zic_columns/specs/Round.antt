@@ -68,7 +68,7 @@ IsNextTooLong most by known = IfSome known (λ bytes. BeginsTooLong most (record
 -- the records that were taken: those of the pieces of a round, or that of an open line; one that is too long is left
 abbrev pub taken_records : Taken → List (List ℕ) → List CsvRecord
 taken_records taken.Round pieces = records_of_pieces pieces
-taken_records (taken.OpenLine line) pieces = open_record line.items ∷ []
+taken_records (taken.OpenLine line) pieces = open_record line.own.items ∷ []
 taken_records taken.TooLong pieces = []
 taken_records taken.End pieces = []
 

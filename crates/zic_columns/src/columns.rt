@@ -1,6 +1,6 @@
 //! A column that is read in rounds.
 
-ghost use Rattle.std.specs.Prelude.{◌≡◌, ◌↔◌, ◌⊎◌, ◌+◌, ◌<◌, ◌≤◌, ◌++◌, [], List, ℕ, true, None, Some, length, take, drop, IfOk, IfSome};
+ghost use Rattle.std.specs.Prelude.{◌≡◌, ◌↔◌, ◌⊎◌, ◌+◌, ◌<◌, ◌≤◌, ◌++◌, [], List, ℕ, true, None, Some, length, take, drop, IfErr, IfOk, IfSome};
 ghost use Rattle.std.specs.Io.KnownBytes.{IsAtEnd, Keeps};
 ghost use Rattle.csv.specs.Reading.{strip_bom};
 ghost use Rattle.zic_columns.specs.Lines.{texts_by};
@@ -15,6 +15,7 @@ use crate::buffer::Window;
 use crate::first::{first_record, split_records};
 use crate::limit::Bounded;
 use crate::line_scan::{OpenLine, is_open};
+use crate::lines::{line_end_at, lines_after};
 use crate::longest::may_have;
 use crate::mark::{shows_mark, without_mark};
 use crate::own::first_own_bytes;
@@ -24,7 +25,7 @@ use crate::scan::Scan;
 use std::alloc::{AllocError, Global};
 use std::io::{self, Read};
 use std::marker::Model;
-use zic_plan::Records;
+use zic_plan::{LineEnd, Notes, Records};
 
 /// The number of bytes that show whether a column begins with a byte order mark, whatever they are.
 const MARK_LEN: usize = 3;
@@ -46,14 +47,55 @@ impl From<io::Error> for Unread {
     }
 }
 
+/// Why no record was passed over.
+#[derive(Debug, Drop)]
+pub enum Unpassed {
+    /// The column cannot be read on.
+    Unread,
+    /// The record has more bytes of its own than it may have.
+    TooLong,
+}
+
+impl From<Unread> for Unpassed {
+    ghost use Rattle.std.specs.Prelude.{◌≡◌};
+    ghost use Rattle.zic_columns.specs.declared.columns.Unpassed.TheVariants as unpassed;
+
+    ghost from_gives = { λ _ e. e ≡ unpassed.Unread };
+
+    fn from(_e: Unread) -> Unpassed {
+        Unpassed::Unread
+    }
+}
+
+impl From<AllocError> for Unpassed {
+    ghost use Rattle.std.specs.Prelude.{◌≡◌};
+    ghost use Rattle.zic_columns.specs.declared.columns.Unpassed.TheVariants as unpassed;
+
+    ghost from_gives = { λ _ e. e ≡ unpassed.Unread };
+
+    fn from(_e: AllocError) -> Unpassed {
+        Unpassed::Unread
+    }
+}
+
+/// A line that is open at its end, taken by itself.
+#[derive(Debug, Drop)]
+pub struct TakenLine {
+    /// Its own bytes.
+    pub own: Vec<u8>,
+    /// How it ends. Clauses don't see this.
+    pub line_end: LineEnd,
+    /// The number of line feeds before it in the column, where they are counted.
+    pub lines_before: Option<u64>,
+}
+
 /// What was taken of a column.
 #[derive(Debug, Drop)]
 pub enum Taken {
     /// A round.
     Round,
-    /// A line that is open, by itself: its own bytes. Only a column in which each line is a record has
-    /// such lines.
-    OpenLine(Vec<u8>),
+    /// A line that is open, by itself. Only a column in which each line is a record has such lines.
+    OpenLine(TakenLine),
     /// Nothing: the next record has more bytes of its own than it may have.
     TooLong,
     /// Nothing: the column has no more records.
@@ -85,6 +127,8 @@ pub struct Column<R: Read> {
     scan: Scan,
     /// The places of the round's pieces in the bytes that were taken last.
     ranges: Vec<PieceRange>,
+    /// The number of line feeds before the bytes in hand, where they are counted.
+    lines: Option<u64>,
 }
 
 impl<R: Read> Model for Column<R> {
@@ -112,9 +156,9 @@ impl<R: Read> Model for Column<R> {
 }
 
 impl<R: Read + Drop> Column<R> {
-    /// Begins the column of a reader, of at most `most` bytes, whose records end as the last parameter
-    /// says. Reads once, and again only while the bytes in hand are a proper beginning of a byte order
-    /// mark.
+    /// Begins the column of a reader, of at most `most` bytes, whose records end as `records` says.
+    /// Reads once, and again only while the bytes in hand are a proper beginning of a byte order mark.
+    /// Its line feeds are counted where details are noted.
     ///
     /// At most `most` bytes are taken of the reader, now and later, and one beyond, which shows that
     /// there are more.
@@ -122,7 +166,13 @@ impl<R: Read + Drop> Column<R> {
     /// # Errors
     ///
     /// Fails where the reader fails or gives more bytes, or memory is refused.
-    pub fn new(alloc: Global, reader: R, most: u64, records: Records) -> Result<Column<R>, Unread>
+    pub fn new(
+        alloc: Global,
+        reader: R,
+        most: u64,
+        records: Records,
+        notes: Notes,
+    ) -> Result<Column<R>, Unread>
         ensures by { IfOk result (λ column. column.by ≡ records) }
         ensures bytes { IfOk result (λ column. IfSome (R.remaining reader)
             (λ bytes. unread R.remaining column ≡ Some (strip_bom bytes))) }
@@ -134,6 +184,10 @@ impl<R: Read + Drop> Column<R> {
             window: Window::new(alloc),
             scan: Scan::new(records),
             ranges: Vec::new(alloc),
+            lines: match notes {
+                Notes::Faults => None,
+                Notes::Details => Some(0),
+            },
         };
         column.read_mark()?;
         let held = column.window.held();
@@ -180,9 +234,15 @@ impl<R: Read> Column<R> {
         match self.gather(alloc, wanted, longest)? {
             AtHand::Records(count) => self.take_round(alloc, count, size),
             AtHand::Line(line) => {
-                let own = Vec::from_slice(alloc, &self.window.held()[..line.own])?;
+                let held = self.window.held();
+                let own = Vec::from_slice(alloc, &held[..line.own])?;
+                let taken = TakenLine {
+                    own,
+                    line_end: line_end_at(held, line.own),
+                    lines_before: self.lines,
+                };
                 self.pass(line.len, Vec::new(alloc));
-                Ok(Taken::OpenLine(own))
+                Ok(Taken::OpenLine(taken))
             }
             AtHand::TooLong => {
                 self.pass(0, Vec::new(alloc));
@@ -198,27 +258,30 @@ impl<R: Read> Column<R> {
     ///
     /// # Errors
     ///
-    /// Fails where the reader fails or gives more bytes than the column may have, memory is refused,
-    /// or the record has more than `longest` bytes of its own, where there is such a number.
+    /// `TooLong` where the record has more than `longest` bytes of its own, where there is such a number:
+    /// also where it isn't read to its end. `Unread` where the reader fails or gives more bytes than the
+    /// column may have, or memory is refused.
     pub fn pass_record(
         &mut self,
         alloc: Global,
         wanted: usize,
         longest: Option<u64>,
-    ) -> Result<Vec<u8>, Unread>
+    ) -> Result<Vec<u8>, Unpassed>
         ensures by { self.new.by ≡ self.old.by }
         ensures passes { IfOk result (λ _. PassesRecord R.remaining self.old self.new) }
         ensures own { IfOk result (λ own. IfSome (unread R.remaining self.old)
             (λ bytes. own.items ≡ first_text (texts_by self.old.by bytes))) }
         ensures none { IfOk result (λ _. self.new.round ≡ []) }
         ensures short { IfOk result (λ own. may_have longest (length own.items) ≡ true) }
+        ensures long { IfErr result (λ why. why ≡ Unpassed.TooLong
+            → IsNextTooLong longest self.old.by (unread R.remaining self.old)) }
         ensures limit { StaysWithin R.remaining self.old self.new }
     {
         let own = self.pass_next(alloc, wanted, longest)?;
         if may_have(longest, own.len()) {
             return Ok(own);
         }
-        Err(Unread)
+        Err(Unpassed::TooLong)
     }
 
     /// Returns the round that was taken last.
@@ -266,7 +329,7 @@ impl<R: Read> Column<R> {
         ensures cut { IfOk result (λ _. ArePiecesOf size self.new.round) }
         ensures limit { StaysWithin R.remaining self.old self.new }
     {
-        let cut = cut_pieces(alloc, &self.window.held()[..count], size)?;
+        let cut = cut_pieces(alloc, &self.window.held()[..count], size, self.lines)?;
         let none = cut.ranges.is_empty();
         self.pass(cut.len, cut.ranges);
         if none {
@@ -276,29 +339,31 @@ impl<R: Read> Column<R> {
     }
 
     /// Passes over the first record that no round had, however many bytes it has, as
-    /// [`Column::pass_record`] does. Fails also where more than `longest` bytes are in hand of a record
+    /// [`Column::pass_record`] does. `TooLong` where more than `longest` bytes are in hand of a record
     /// that goes on.
     fn pass_next(
         &mut self,
         alloc: Global,
         wanted: usize,
         longest: Option<u64>,
-    ) -> Result<Vec<u8>, Unread>
+    ) -> Result<Vec<u8>, Unpassed>
         ensures by { self.new.by ≡ self.old.by }
         ensures passes { IfOk result (λ _. PassesRecord R.remaining self.old self.new) }
         ensures own { IfOk result (λ own. IfSome (unread R.remaining self.old)
             (λ bytes. own.items ≡ first_text (texts_by self.old.by bytes))) }
         ensures none { IfOk result (λ _. self.new.round ≡ []) }
+        ensures long { IfErr result (λ why. why ≡ Unpassed.TooLong
+            → IsNextTooLong longest self.old.by (unread R.remaining self.old)) }
         ensures limit { StaysWithin R.remaining self.old self.new }
     {
         match self.gather(alloc, wanted, longest)? {
-            AtHand::Records(count) => self.pass_first(alloc, count),
+            AtHand::Records(count) => Ok(self.pass_first(alloc, count)?),
             AtHand::Line(line) => {
                 let own = Vec::from_slice(alloc, &self.window.held()[..line.own])?;
                 self.pass(line.len, Vec::new(alloc));
                 Ok(own)
             }
-            AtHand::TooLong => Err(Unread),
+            AtHand::TooLong => Err(Unpassed::TooLong),
         }
     }
 
@@ -422,6 +487,7 @@ impl<R: Read> Column<R> {
         } }
     {
         let scan = self.scan.rest(self.window.held(), count);
+        self.lines = lines_after(self.lines, &self.window.held()[..count]);
         self.window.take(count);
         self.scan = scan;
         self.ranges = ranges;

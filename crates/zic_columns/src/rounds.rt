@@ -55,4 +55,11 @@ impl<'a> Round<'a> {
         let range = ranges[index];
         &self.bytes[range.start..range.end]
     }
+    /// Returns the number of line feeds in the column before the piece with this index, where they are
+    /// counted. Clauses don't see it.
+    pub fn lines_before(&self, index: usize) -> Option<u64>
+        requires { index < length self.now }
+    {
+        self.ranges[index].lines_before
+    }
 }

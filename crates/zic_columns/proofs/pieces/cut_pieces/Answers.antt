@@ -15,7 +15,7 @@ loop-preserved c =
     let has = has_record c.loop.rest.now c.first_record.result c.first_record.ensures c.if-is_none.ensures in
     rw c.in_ok-push.ensures.items (record {
       count = omega (arith, c.loop.invariant.count, length-append {A = PieceRange});
-      cut = cut_more c.args.bytes.now c.args.size c.loop.ranges.items c.loop.rest.now c.split_records.result.0.now c.split_records.result.1.now c.requires c.loop.invariant.cut has c.split_records.ensures;
+      cut = cut_more c.args.bytes.now c.args.size c.loop.ranges.items c.loop.rest.now c.split_records.result.0.now c.split_records.result.1.now c.loop.lines_before c.requires c.loop.invariant.cut has c.split_records.ensures;
     })
 
 pub overflow_sub-len : goal.overflow_sub-len
