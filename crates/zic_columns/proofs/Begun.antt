@@ -107,7 +107,8 @@ too_many : (most : Option ℕ) (m n : ℕ) → m ≤ n → may_have most m ≡ f
 too_many None m n le over = over
 too_many (Some most) m n le over = grind (arith, le, over)
 
-no_bytes : (most : Option ℕ) → may_have most 0 ≡ false → ⊥
+-- no bytes are never too many
+pub no_bytes : (most : Option ℕ) → may_have most 0 ≡ false → ⊥
 no_bytes None over = cc over
 no_bytes (Some most) over = grind (arith, over)
 

@@ -60,6 +60,8 @@ impl<'a> Round<'a> {
     pub fn lines_before(&self, index: usize) -> Option<u64>
         requires { index < length self.now }
     {
-        self.ranges[index].lines_before
+        let ranges = self.ranges;
+        let range = ranges[index];
+        range.lines_before
     }
 }

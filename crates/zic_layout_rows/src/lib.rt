@@ -5,6 +5,7 @@ mod batch;
 mod faulty;
 mod local;
 mod lookup;
+mod note;
 mod only;
 mod piece;
 mod quick;

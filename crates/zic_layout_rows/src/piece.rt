@@ -24,6 +24,8 @@ pub struct Piece<'a, 's> {
     pub first: u64,
     /// The greatest number that a row may have.
     pub most: u64,
+    /// The number of line feeds before it in the column, where details of faults are noted.
+    pub lines_before: Option<u64>,
 }
 
 /// Returns which fields of a record rows need by a layout.

@@ -18,9 +18,10 @@ ghost use Rattle.zic_layout_rows.specs.PieceRows.{AreRowsOf, empty_rows};
 ghost use Rattle.zic_layout_rows.specs.code.Row.{AreNext, field_start};
 
 use crate::batch::Batch;
-use crate::faulty::{aside, ends_run, push_faulty, put_back};
+use crate::faulty::{ends_run, push_faulty, put_back};
 use crate::local::push_local;
 use crate::lookup::{Counts, FoundState, Lookup, look_up};
+use crate::note::{LinesPassed, note_of};
 use crate::piece::Piece;
 use crate::quick::{Known, QuickRow, push_quick};
 use crate::shown::ShownStates;
@@ -29,7 +30,7 @@ use std::alloc::{AllocError, Global};
 use std::marker::Model;
 use zic_base::{RowFault, RowKind, State};
 use zic_columns::{Field, Record, may_have};
-use zic_plan::{FaultyRow, Layout, LineEnd, RowStart, Style, TimeFrom, Unit};
+use zic_plan::{FaultyRow, Layout, RowStart, Style, TimeFrom, Unit};
 use zic_rows::{
     FIRST_INSTANT, LAST_INSTANT, RowText, RowWriter, is_plain, moment_of, push_local_time,
 };
@@ -63,6 +64,8 @@ pub(crate) struct RowPen {
     /// None before the first row.
     file: Option<usize>,
     state: usize,
+    /// How far line feeds were counted.
+    passed: LinesPassed,
 }
 
 impl RowPen {
@@ -81,6 +84,7 @@ impl RowPen {
             row: Vec::new(alloc),
             file: None,
             state: 0,
+            passed: LinesPassed::new(),
         }
     }
 
@@ -405,14 +409,9 @@ impl Rows {
             Err(kind) => {
                 pen.row.clear();
                 push_faulty(pen.alloc, &mut pen.row, piece, kind, given)?;
-                let own = aside(pen.alloc, piece.layout, given.own.of(piece.bytes))?;
                 let fault = RowFault { row: number, kind };
-                self.faults.push(FaultyRow {
-                    fault,
-                    own,
-                    line_end: LineEnd::Lf,
-                    detail: None,
-                })?;
+                let note = note_of(pen.alloc, piece, given, fault, &mut pen.passed)?;
+                self.faults.push(note)?;
             }
         }
         self.text.push(&pen.row)?;

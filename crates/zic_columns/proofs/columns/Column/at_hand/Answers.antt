@@ -4,7 +4,7 @@ use Rattle.zic_columns.specs.code.Hand.{UnendedBy, mode_of, whole_of_scan}
 use Rattle.zic_columns.specs.code.Window.{held_bytes}
 use Rattle.zic_columns.proofs.Begun.{too_long}
 use Rattle.zic_columns.proofs.Cuts.{has_none, has_record}
-use Rattle.zic_columns.proofs.ScannedBy.{cut_at_hand, opens_with, unended_by, whole_closed, whole_records, within_scan}
+use Rattle.zic_columns.proofs.ScannedBy.{cut_at_hand, opens_with, unended_by, whole_closed, whole_records}
 use Rattle.zic_columns.proofs.Taking.{takes_blank}
 use Rattle.zic_columns.proofs.columns.Column.at_hand.Goals as goal
 

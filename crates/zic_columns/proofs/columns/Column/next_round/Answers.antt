@@ -1,8 +1,6 @@
-use Rattle.std.proofs.Common.{[]}
 use Rattle.std.proofs.lemmas.Result.{IfOk-weaker}
 use Rattle.zic_columns.specs.Round.{taken_records, unread}
-use Rattle.zic_columns.specs.code.Hand.{to_come}
-use Rattle.zic_columns.proofs.Taking.{takes_next, takes_open, within_both}
+use Rattle.zic_columns.proofs.Taking.{takes_next, within_both}
 use Rattle.zic_columns.proofs.columns.Column.next_round.Goals as goal
 
 pub returns-in-Records-clause-limit : goal.returns-in-Records-clause-limit

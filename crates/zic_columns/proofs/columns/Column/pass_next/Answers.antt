@@ -1,7 +1,5 @@
-use Rattle.std.proofs.Common.{◌∙◌, ap, refl, rules, sym}
-use Rattle.zic_columns.specs.Round.{ColumnOf, unread}
-use Rattle.zic_columns.specs.code.Hand.{to_come}
-use Rattle.zic_columns.proofs.Passing.{is_open_own, long_next, own_next, passes_next, passes_open}
+use Rattle.zic_columns.specs.Round.{unread}
+use Rattle.zic_columns.proofs.Passing.{long_next, own_next, passes_next}
 use Rattle.zic_columns.proofs.Taking.{within_both}
 use Rattle.zic_columns.proofs.columns.Column.pass_next.Goals as goal
 
@@ -11,13 +9,13 @@ returns-in_ok-pass_first-in-Records-clause-passes g c =
     let mid = c.gather.new.self in
     let new = c.pass_first.new.self in
     passes_next old.by (unread g.R.Read.remaining old) (unread g.R.Read.remaining mid) (unread g.R.Read.remaining new) c.in_ok-count.ensures.takes
-    (rw c.gather.ensures.by at c.in_ok-pass_first.ensures.passes)
+    (rw c.gather.ensures.by at c.in_ok-pass_first-in-Records.ensures.passes)
 
 pub returns-in_ok-pass_first-in-Records-clause-own : goal.returns-in_ok-pass_first-in-Records-clause-own
 returns-in_ok-pass_first-in-Records-clause-own g c =
     let old = c.args.self.now in
     let mid = c.gather.new.self in
-    own_next old.by _ (unread g.R.Read.remaining old) (unread g.R.Read.remaining mid) c.in_ok-count.ensures.takes (rw c.gather.ensures.by at c.in_ok-pass_first.ensures.own)
+    own_next old.by _ (unread g.R.Read.remaining old) (unread g.R.Read.remaining mid) c.in_ok-count.ensures.takes (rw c.gather.ensures.by at c.in_ok-pass_first-in-Records.ensures.own)
 
 pub returns-in_ok-pass_first-in-Records-clause-limit : goal.returns-in_ok-pass_first-in-Records-clause-limit
 returns-in_ok-pass_first-in-Records-clause-limit g c = within_both g.R.Read.remaining c.args.self.now c.gather.new.self c.pass_first.new.self c.gather.ensures.limit c.pass_first.ensures.limit

@@ -1,10 +1,9 @@
 use Rattle.std.proofs.Common.{◌≡◌, ◌+◌, ◌∙◌, ◌++◌, ◌∷◌, [], ℕ, List, ap, ap₂, refl, sym}
 use Rattle.std.proofs.lemmas.Result.{on_ok_weaker}
 use Rattle.zic_columns.specs.Lines.{exchanged_record}
-use Rattle.zic_columns.specs.Exchange.{exchanged}
 use Rattle.zic_columns.specs.Record.{record_at}
 use Rattle.zic_plan.specs.Noted.{RowNote}
-use Rattle.zic_layout_rows.specs.LayoutRows.{faulty_text, if_aside}
+use Rattle.zic_layout_rows.specs.LayoutRows.{faulty_text}
 use Rattle.zic_layout_rows.specs.PieceRows.{RowsOf}
 use Rattle.zic_layout_rows.proofs.NextRows.{next_end, next_faulty, next_row}
 use Rattle.zic_layout_rows.proofs.PutBack.{fault_same, outside}
@@ -50,5 +49,4 @@ returns-clause-next c =
     c.in_ok-push.ensures ∙ ap (λ (l : List ℕ). q.text ++ l) (c.deref.ensures.value ∙ c.in_ok-push_faulty-in-Err-2.ensures ∙ ap (λ (l : List ℕ). l ++ row) c.clear.ensures.items) in
     rw (← c.self.view_is) (next_faulty layout piece.zones.now piece.most number (exchanged_record d row_record) old _ c.in-Err.kind (same ∙ c.in-Err.ensures) (c.if-ends_run.ensures.goes_on refl)
     (ap₂ (λ (l : List ℕ) (f : List RowNote). record { text = l; count = q.count + 1; fault = q.fault; faults = f }) made (c.in_ok-push-in-Err-2.ensures.items
-    ∙ ap (λ (o : List ℕ). q.faults.items ++ record { fault = record { row = number; kind = c.in-Err.kind }; own = o } ∷ [])
-    (c.in_ok-own-in-Err-2.ensures ∙ ap (λ (l : List ℕ). if_aside layout.at_fault (exchanged d l)) c.of.ensures))))
+    ∙ ap (λ (n : RowNote). q.faults.items ++ n ∷ []) c.in_ok-note-in-Err-2.ensures)))

@@ -1,0 +1,114 @@
+//! What is noted of a row with a fault.
+
+ghost use Rattle.std.specs.Prelude.{◌≡◌, ◌≤◌, length, IfOk};
+ghost use Rattle.zic_columns.specs.Exchange.{exchanged};
+ghost use Rattle.zic_columns.specs.Record.{IsSplit, bytes_at};
+ghost use Rattle.zic_layout_rows.specs.LayoutRows.{if_aside};
+ghost use Rattle.zic_layout_rows.specs.code.Batch.{wanted_by};
+
+use crate::faulty::{aside, copy_field, copy_zone};
+use crate::piece::Piece;
+use std::alloc::{AllocError, Global};
+use zic_base::{RowFault, RowKind};
+use zic_columns::{Record, line_end_at, line_feeds};
+use zic_plan::{FaultDetail, FaultyRow};
+
+/// An index of a piece, and the number of line feeds before it.
+#[derive(Clone, Copy, Drop)]
+pub(crate) struct LinesPassed {
+    at: usize,
+    line_feeds: u64,
+}
+
+impl LinesPassed {
+    /// Returns the start of a piece.
+    pub(crate) fn new() -> LinesPassed {
+        LinesPassed {
+            at: 0,
+            line_feeds: 0,
+        }
+    }
+
+    /// Goes on to an index of the piece, and returns the number of line feeds before it.
+    fn go_to(&mut self, piece: &[u8], at: usize) -> u64
+        requires { at ≤ length piece.now }
+    {
+        if self.at < at {
+            let more = line_feeds(&piece[self.at..at]);
+            self.at = at;
+            self.line_feeds = self.line_feeds.saturating_add(more);
+        }
+        self.line_feeds
+    }
+}
+
+/// Returns the field of a record that a fault is of, without double quotes, and with the delimiter and
+/// commas put back in their places. Returns no bytes where the fault isn't of one field.
+fn value_at_fault(
+    alloc: Global,
+    piece: &Piece<'_, '_>,
+    given: &Record,
+    kind: RowKind,
+) -> Result<Vec<u8>, AllocError>
+    requires { IsSplit piece.now.bytes.now (wanted_by piece.now.layout.now) given.now }
+{
+    match kind {
+        RowKind::RowZone => copy_zone(alloc, piece, given),
+        RowKind::RowInstant
+        | RowKind::RowLocal
+        | RowKind::RowRange
+        | RowKind::RowSkipped
+        | RowKind::RowRepeated => copy_field(alloc, piece, given.time),
+        RowKind::TooManyRows | RowKind::RowTooLong | RowKind::RowQuote | RowKind::RowFields => {
+            Ok(Vec::new(alloc))
+        }
+    }
+}
+
+/// Returns the line where a record with a fault begins, and the field at fault, where details are noted.
+fn detail_of(
+    alloc: Global,
+    piece: &Piece<'_, '_>,
+    given: &Record,
+    kind: RowKind,
+    passed: &mut LinesPassed,
+) -> Result<Option<FaultDetail>, AllocError>
+    requires { IsSplit piece.now.bytes.now (wanted_by piece.now.layout.now) given.now }
+{
+    let Some(before) = piece.lines_before else {
+        return Ok(None);
+    };
+    let within = passed.go_to(piece.bytes, given.own.start);
+    let value = value_at_fault(alloc, piece, given, kind)?;
+    Ok(Some(FaultDetail {
+        line: before.saturating_add(within).saturating_add(1),
+        value,
+    }))
+}
+
+/// Returns what is noted of a record with a fault: its own bytes where it is put aside, how its line
+/// ends, and its line and the field at fault where details are noted. The record has the delimiter and the
+/// comma in each other's place. Lines are counted on from the ones that were passed before.
+pub(crate) fn note_of(
+    alloc: Global,
+    piece: &Piece<'_, '_>,
+    given: &Record,
+    fault: RowFault,
+    passed: &mut LinesPassed,
+) -> Result<FaultyRow, AllocError>
+    requires { IsSplit piece.now.bytes.now (wanted_by piece.now.layout.now) given.now }
+    ensures { IfOk result (λ row. row ≡ record {
+      fault = fault;
+      own = if_aside piece.now.layout.now.at_fault (exchanged piece.now.layout.now.delimiter
+          (bytes_at piece.now.bytes.now given.now.own));
+    }) }
+{
+    let own = aside(alloc, piece.layout, given.own.of(piece.bytes))?;
+    let detail = detail_of(alloc, piece, given, fault.kind, passed)?;
+    Ok(FaultyRow {
+        fault,
+        own,
+        line_end: line_end_at(piece.bytes, given.own.end),
+        detail,
+    })
+}
