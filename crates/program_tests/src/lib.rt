@@ -14,6 +14,8 @@ mod commands;
 #[cfg(test)]
 mod counted;
 #[cfg(test)]
+mod details;
+#[cfg(test)]
 mod differences;
 #[cfg(test)]
 mod explaining;

@@ -19,7 +19,7 @@ use Rattle.zic_base.specs.declared.run_stop.RunStop.{RunStop}
 use Rattle.zic_base.specs.declared.run_stop.RunStop.TheVariants as stop
 use Rattle.zic_convert.specs.Column.{AreRowRecords, header_of, header_text, names_line, names_of, own_line}
 use Rattle.zic_layout_rows.specs.LayoutRows.{faults_by}
-use Rattle.zic_convert.specs.Run.{AreFew, EndsAfterLines, EndsIn, HasNames, Notes, WritesRows}
+use Rattle.zic_convert.specs.Run.{AreFew, EndsAfterLines, EndsAtHeader, EndsIn, HasNames, Notes, WritesRows}
 use Rattle.zic_convert.specs.code.Progress.{ConvertsColumn, EndsInColumn, output}
 use Rattle.zic_convert.proofs.Bytes.{starts_later}
 use Rattle.zic_convert.proofs.Options.{for_some, if_some}
@@ -164,9 +164,25 @@ module _ (layout : Layout) (most : ℕ) (limit : Option ℕ) (known : Option (Li
       (row_records, are, rows_after_names layout files most limit column row_records old mid new log last begun n w))
 
   pub column_ends_after_names : (why : RunStop) → EndsInColumn layout most limit known why (output mid new log last) files
-      → IfSome known (λ column. (row_records : List CsvRecord) × AreRowRecords layout column row_records × EndsIn layout files most limit (header_text layout column) row_records why (output old new log last)
-      × HasNames layout (output old new log last))
-  column_ends_after_names why ends = if_some known _ (λ column e.
-      let (row_records, are, w) = for_some known _ column ends e in
-      let both = ends_after_names layout files most limit column row_records old mid new log last begun why w in
-      (row_records, are, both.0, both.1))
+      → IfSome known (λ column. EndsAtHeader layout column why (names_line layout) (output old new log last)
+      ⊎ ((row_records : List CsvRecord) × AreRowRecords layout column row_records × EndsIn layout files most limit (header_text layout column) row_records why (output old new log last)
+      × HasNames layout (output old new log last)))
+  column_ends_after_names why ends = if_some known _ (λ column e. below column (for_some known _ column ends e))
+    where
+      below : (column : List ℕ) → EndsAtHeader layout column why [] (output mid new log last)
+          ⊎ ((row_records : List CsvRecord) × AreRowRecords layout column row_records × EndsIn layout files most limit (own_line layout column) row_records why (output mid new log last))
+          → EndsAtHeader layout column why (names_line layout) (output old new log last)
+          ⊎ ((row_records : List CsvRecord) × AreRowRecords layout column row_records × EndsIn layout files most limit (header_text layout column) row_records why (output old new log last)
+          × HasNames layout (output old new log last))
+      below column (inl h) = inl (record {
+        is = h.is;
+        header = h.header;
+        all = h.all;
+        are = h.are;
+        long = h.long;
+        wrote = subst (λ (l : List ℕ). Appends old new l) (append-nil (names_line layout)) (appends-more old mid new (names_line layout) [] begun h.wrote);
+        noted = h.noted;
+      })
+      below column (inr (row_records, are, w)) =
+          let both = ends_after_names layout files most limit column row_records old mid new log last begun why w in
+          inr (row_records, are, both.0, both.1)

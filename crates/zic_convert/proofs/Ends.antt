@@ -86,15 +86,23 @@ read_as layout files most limit header row_records why out w = record {
 
 module _ (layout : Layout) (most : ℕ) (limit : Option ℕ) (known : Option (List ℕ)) (out : Output) (files : List File) where
   all_read : (n : ℕ) → ConvertsColumn layout most limit known n out files → EndsInColumn layout most limit known stop.ReadFailed out files
-  all_read n all = if_some known _ (λ column e. (let (row_records, are, w) = for_some known _ column all e in (row_records, are, all_lines layout files most limit _ row_records n stop.ReadFailed out w)))
+  all_read n all = if_some known _ (λ column e. (let (row_records, are, w) = for_some known _ column all e in inr (row_records, are, all_lines layout files most limit _ row_records n stop.ReadFailed out w)))
 
   ends_as_read : {R : Type 0} (reader : Counts R) (failures taken most_bytes : ℕ) (why : RunStop) → IsReadingStop reader failures taken most_bytes why → EndsInColumn layout most limit known stop.ReadFailed out files
       → EndsInColumn layout most limit known why out files
   ends_as_read reader failures taken most_bytes stop.ReadFailed is ends = ends
   ends_as_read reader failures taken most_bytes stop.ColumnTooLong is ends =
-      if_some known _ (λ column e. (let (row_records, are, w) = for_some known _ column ends e in (row_records, are, read_as layout files most limit _ row_records stop.ColumnTooLong out w)))
+      if_some known _ (λ column e.
+      elim (for_some known _ column ends e) [
+        | inl header ↦ absurd (cc header.is)
+        | inr rows ↦ inr (rows.0, rows.1, read_as layout files most limit _ rows.0 stop.ColumnTooLong out rows.2)
+      ])
   ends_as_read reader failures taken most_bytes stop.Memory is ends =
-      if_some known _ (λ column e. (let (row_records, are, w) = for_some known _ column ends e in (row_records, are, read_as layout files most limit _ row_records stop.Memory out w)))
+      if_some known _ (λ column e.
+      elim (for_some known _ column ends e) [
+        | inl header ↦ absurd (cc header.is)
+        | inr rows ↦ inr (rows.0, rows.1, read_as layout files most limit _ rows.0 stop.Memory out rows.2)
+      ])
   ends_as_read reader failures taken most_bytes (stop.Row row kind) is ends = absurd is
   ends_as_read reader failures taken most_bytes (stop.Source fault) is ends = absurd is
   ends_as_read reader failures taken most_bytes stop.WriteFailed is ends = absurd is

@@ -1,6 +1,6 @@
 -- The header before rows, and the rows of a column after it.
-use Rattle.std.proofs.Common.{◌≡◌, ◌∙◌, ◌⊎◌, ℕ, true, List, [], Option, Some, drop, map, inl, inr, refl, sym, ap, subst}
-use Rattle.std.proofs.lemmas.List.{append-nil, drop-map}
+use Rattle.std.proofs.Common.{◌≡◌, ◌∙◌, ◌⊎◌, ℕ, true, List, [], ◌∷◌, Option, Some, drop, map, inl, inr, refl, sym, ap, ap₂, subst}
+use Rattle.std.proofs.lemmas.List.{append-nil, drop-map, length-map}
 use Rattle.std.specs.Io.{StartsWith}
 use Rattle.std.specs.Io.KnownBytes.{Appends}
 use Rattle.std.specs.Prelude.{IfErr, IfOk, IfSome, Result, Ok, Err, option_map}
@@ -10,28 +10,31 @@ use Rattle.zic_columns.specs.Exchange.{exchanged}
 use Rattle.zic_columns.specs.Laws.{RecordsByAreExchanged, TextsByAreExchanged}
 use Rattle.zic_columns.specs.Lines.{records_by, texts_by, exchanged_record}
 use Rattle.zic_columns.specs.Own.{CsvRecord}
+use Rattle.zic_columns.specs.Round.{BeginsTooLong}
 use Rattle.zic_counted.specs.Counts.{Counts}
 use Rattle.zic_counted.specs.Written.{FailsWithin}
 use Rattle.zic_tzif.specs.Laws.{FilesAnswerOnce}
 use Rattle.zic_files.specs.File.{File}
 use Rattle.zic_files.specs.Sound.{AreSoundFiles}
-use Rattle.zic_plan.specs.Delimiter.{is_delimiter}
+use Rattle.zic_plan.specs.Delimiter.{exchange, is_delimiter}
 use Rattle.zic_plan.specs.Layout.{records_before}
 use Rattle.zic_plan.specs.declared.layout.Layout.{Layout}
+use Rattle.zic_plan.specs.declared.layout.Records.{Records}
 use Rattle.zic_plan.specs.Noted.{RowNote}
+use Rattle.zic_base.specs.declared.row_fault.RowKind.{RowKind}
 use Rattle.zic_base.specs.declared.run_stop.RunStop.{RunStop}
 use Rattle.zic_base.specs.declared.run_stop.RunStop.TheVariants as stop
 use Rattle.zic_convert.specs.Column.{AreRowRecords, header_of, own_header, own_line, read_by}
-use Rattle.zic_convert.specs.Run.{EndsAfterLines, EndsIn, WritesRows}
+use Rattle.zic_convert.specs.Run.{EndsAfterLines, EndsAtHeader, EndsIn, WritesRows}
 use Rattle.zic_convert.specs.code.Halt.{IsCauseOfHalt, stop_of}
-use Rattle.zic_convert.specs.code.Progress.{BeginsRows, ConvertsColumn, ConvertsRest, EndsInColumn, EndsInRest, HaltsAtHead, output, own_line_in}
+use Rattle.zic_convert.specs.code.Progress.{BeginsRows, ConvertsColumn, ConvertsRest, EndsInColumn, EndsInRest, HaltsAtBegin, HaltsAtHead, HaltsAtHeader, IsAtLongHeader, output, own_line_in}
 use Rattle.zic_convert.specs.code.Row.{records_in}
 use Rattle.zic_convert.specs.code.Written.{EndsAtHead, Wrote}
 use Rattle.zic_convert.specs.declared.halt.Halt.{Halt}
 use Rattle.zic_convert.specs.declared.halt.Halt.TheVariants as halt
 use Rattle.zic_convert.proofs.Below.{ends_below, rows_below}
 use Rattle.zic_convert.proofs.Bytes.{fails_later, starts_later, wrote_both}
-use Rattle.zic_convert.proofs.Delimited.{own_line_delimited, records_alike}
+use Rattle.zic_convert.proofs.Delimited.{can_delimit, own_line_delimited, records_alike}
 use Rattle.zic_convert.proofs.Logs.{notes_none}
 use Rattle.zic_convert.proofs.Options.{for_some, if_some}
 use Rattle.zic_convert.proofs.Sounds.{all_known}
@@ -66,16 +69,49 @@ module _ {W : Type 0} (contents : W → Option (List ℕ)) where
     halts_before own is stop.ColumnTooLong ends = absurd ends
     halts_before own is stop.NoThread ends = absurd ends
 
+    -- the column was not begun, and nothing was written
+    pub halts_begun : (why : Halt) → HaltsAtBegin layout known why → new ≡ old → HaltsAtHead contents old new layout known why
+    halts_begun halt.Unread begun same = same
+    halts_begun (halt.Stop (stop.Row row kind)) begun same = (same, begun)
+    halts_begun (halt.Stop (stop.Source fault)) begun same = absurd begun
+    halts_begun (halt.Stop stop.ReadFailed) begun same = absurd begun
+    halts_begun (halt.Stop stop.WriteFailed) begun same = absurd begun
+    halts_begun (halt.Stop stop.ColumnTooLong) begun same = absurd begun
+    halts_begun (halt.Stop stop.Memory) begun same = absurd begun
+    halts_begun (halt.Stop stop.NoThread) begun same = absurd begun
+
     -- the cause
     pub cause_at_head : (why : Halt) → HaltsAtHead contents old new layout known why → IsCauseOfHalt old new why
     cause_at_head halt.Unread same = tt
     cause_at_head (halt.Stop stop.Memory) same = tt
     cause_at_head (halt.Stop stop.WriteFailed) failed = failed.0
-    cause_at_head (halt.Stop (stop.Row row kind)) ends = absurd ends
+    cause_at_head (halt.Stop (stop.Row row kind)) ends = ap (λ (w : Counts W). w.failures) ends.0
     cause_at_head (halt.Stop (stop.Source fault)) ends = absurd ends
     cause_at_head (halt.Stop stop.ReadFailed) ends = absurd ends
     cause_at_head (halt.Stop stop.ColumnTooLong) ends = absurd ends
     cause_at_head (halt.Stop stop.NoThread) ends = absurd ends
+
+-- a column was not begun, whose header could not be passed over
+pub header_halts : (layout : Layout) (known left : Option (List ℕ)) (mode : Records) → mode ≡ layout.records → IfSome known (λ bytes. left ≡ Some (strip_bom bytes)) → records_before layout.header ≡ 1 → (why : Halt)
+    → HaltsAtHeader layout.max_record mode left why → HaltsAtBegin layout known why
+header_halts layout known left mode by bytes header halt.Unread is = tt
+header_halts layout known left mode by bytes header (halt.Stop (stop.Row row kind)) is = record {
+  is = ap₂ (λ (n : ℕ) (k : RowKind). stop.Row n k) is.0 is.1;
+  header = header;
+  long = if_some known _ (λ column e.
+      subst (λ (m : Records). BeginsTooLong layout.max_record (records_by m (strip_bom column))) by (for_some left _ (strip_bom column) is.2 (for_some known _ column bytes e)));
+}
+header_halts layout known left mode by bytes header (halt.Stop (stop.Source fault)) is = absurd is
+header_halts layout known left mode by bytes header (halt.Stop stop.ReadFailed) is = absurd is
+header_halts layout known left mode by bytes header (halt.Stop stop.WriteFailed) is = absurd is
+header_halts layout known left mode by bytes header (halt.Stop stop.ColumnTooLong) is = absurd is
+header_halts layout known left mode by bytes header (halt.Stop stop.Memory) is = absurd is
+header_halts layout known left mode by bytes header (halt.Stop stop.NoThread) is = absurd is
+
+-- the first record is as long with the delimiter put back
+long_put : (d : ℕ) (most : Option ℕ) (given : List CsvRecord) → BeginsTooLong most given → BeginsTooLong most (map (exchanged_record d) given)
+long_put d most [] none = none
+long_put d most (first ∷ others) is = rw (length-map first.own (exchange d)) is
 
 -- not even a header was written whole
 no_line : FilesAnswerOnce → (layout : Layout) (files : List File) (most : ℕ) (limit : Option ℕ) → AreSoundFiles files → (head : List ℕ) (row_records : List CsvRecord) (why : RunStop) (old new : Option (List ℕ)) (log : Option (List RowNote))
@@ -109,26 +145,42 @@ module _ (layout : Layout) (most : ℕ) (limit : Option ℕ) (law : RecordsByAre
 
   -- the rows of a column did not begin
   module _ {W : Type 0} (contents : W → Option (List ℕ)) (once : FilesAnswerOnce) (old new : Counts W) (log : Option (List RowNote)) (files : List File) (sound : AreSoundFiles files) where
-    none_written : (why : RunStop) → IfSome known (λ column. (row_records : List CsvRecord) × AreRowRecords layout column row_records
-        × EndsAfterLines layout files most limit (own_line layout column) row_records why (output (contents old.inner) (contents old.inner) log log))
-    none_written why = if_some known _ (λ column e. (
+    none_written : (why : RunStop) → IfSome known (λ column. EndsAtHeader layout column why [] (output (contents old.inner) (contents old.inner) log log)
+        ⊎ ((row_records : List CsvRecord) × AreRowRecords layout column row_records
+        × EndsAfterLines layout files most limit (own_line layout column) row_records why (output (contents old.inner) (contents old.inner) log log)))
+    none_written why = if_some known _ (λ column e. inr (
       row_wholes column,
       records_alike layout law can column,
       no_line once layout files most limit sound (own_line layout column) (row_wholes column) why (contents old.inner) (contents old.inner) log [] refl (appends-none (contents old.inner)) (inl refl),
     ))
+
+    -- the header has too many bytes
+    header_long : (why : RunStop) → IsAtLongHeader layout inside why → EndsInColumn layout most limit known why (output (contents old.inner) (contents old.inner) log log) files
+    header_long why at = if_some known _ (λ column e.
+        let text = exchanged layout.delimiter (read_by layout column) in
+        inl (record {
+          is = at.is;
+          header = at.header;
+          all = records_in layout (strip_bom text);
+          are = law layout.records layout.delimiter (read_by layout column) (can_delimit layout.delimiter can);
+          long = long_put layout.delimiter layout.max_record (records_by layout.records (strip_bom text)) (for_some inside _ text at.long (within column e));
+          wrote = appends-none (contents old.inner);
+          noted = notes_none log;
+        }))
 
     pub ends_at_head : (why : Halt) → HaltsAtHead contents old new layout inside why → EndsInColumn layout most limit known (stop_of why) (output (contents old.inner) (contents new.inner) log log) files
     ends_at_head halt.Unread same = rw same (none_written stop.ReadFailed)
     ends_at_head (halt.Stop stop.Memory) same = rw same (none_written stop.Memory)
     ends_at_head (halt.Stop stop.WriteFailed) failed = if_some known _ (λ column e.
         let fails = for_some inside _ (exchanged layout.delimiter (read_by layout column)) failed.1 (within column e) in
-        let same = own_line_delimited layout own_law can column in (
+        let same = own_line_delimited layout own_law can column in
+        inr (
           row_wholes column,
           records_alike layout law can column,
           no_line once layout files most limit sound (own_line layout column) (row_wholes column) stop.WriteFailed (contents old.inner) (contents new.inner) log fails.part
               (subst (λ (l : List ℕ). StartsWith l fails.part) same fails.starts) fails.wrote (inr refl),
         ))
-    ends_at_head (halt.Stop (stop.Row row kind)) ends = absurd ends
+    ends_at_head (halt.Stop (stop.Row row kind)) ends = rw ends.0 (header_long (stop.Row row kind) ends.1)
     ends_at_head (halt.Stop (stop.Source fault)) ends = absurd ends
     ends_at_head (halt.Stop stop.ReadFailed) ends = absurd ends
     ends_at_head (halt.Stop stop.ColumnTooLong) ends = absurd ends
@@ -158,6 +210,7 @@ module _ (layout : Layout) (most : ℕ) (limit : Option ℕ) (law : RecordsByAre
         (λ column row_records line w. rows_below layout files most limit row_records (own_line layout column) old mid new log last line n w)
 
     pub ends_column : (why : RunStop) → EndsInRest layout most limit left why (output mid new log last) files → EndsInColumn layout most limit known why (output old new log last) files
-    ends_column why = begun_as (λ row_records. EndsIn layout files most limit [] row_records why (output mid new log last))
+    ends_column why ends = if_some known _ (λ column e. inr (for_some known _ column
+        (begun_as (λ row_records. EndsIn layout files most limit [] row_records why (output mid new log last))
         (λ column row_records. EndsIn layout files most limit (own_line layout column) row_records why (output old new log last))
-        (λ column row_records line w. ends_below layout files most limit row_records (own_line layout column) old mid new log last line why w)
+        (λ column row_records line w. ends_below layout files most limit row_records (own_line layout column) old mid new log last line why w) ends) e))

@@ -18,7 +18,7 @@ use Rattle.zic_columns.specs.Own.{CsvRecord}
 use Rattle.zic_tzif.specs.Laws.{FilesAnswerOnce}
 use Rattle.zic_files.specs.File.{File}
 use Rattle.zic_files.specs.Sound.{AreSoundFiles}
-use Rattle.zic_plan.specs.Layout.{HasPlainRows}
+use Rattle.zic_plan.specs.Layout.{HasPlainRows, records_before}
 use Rattle.zic_plan.specs.declared.layout.Header.TheVariants as header
 use Rattle.zic_plan.specs.declared.layout.Layout.{Layout}
 use Rattle.zic_convert.specs.Column.{AreRowRecords, ConvertsTo, header_text, names_line}
@@ -132,7 +132,11 @@ module _ (alike : PlainColumnsConvertAlike) (layout : Layout) (plain : HasPlainR
     source_ends run why zones zones' are (inr ends) =
         let same = ends.grown ∙ are in
         let by = ends.by files (sym same, subst AreSoundFiles (sym same) sound) in
-        if_some run.column _ (λ column e. (let (row_records, of, w, names) = for_some run.column _ column by e in ends_in run column row_records of why w))
+        if_some run.column _ (λ column e.
+        elim (for_some run.column _ column by e) [
+          | inl long ↦ absurd (let some : 0 ≡ 1 = sym (ap records_before none) ∙ long.header in cc some)
+          | inr rows ↦ ends_in run column rows.0 rows.1 why rows.2
+        ])
 
     -- what holds in the end by all files that may be holds by those of the source
     pub at_files : {E : Type 0} (zones zones' : List File) → zones ≡ files → (result : Result ℕ E) → IfOk result (λ _. zones' ≡ zones) → (P : ℕ → List File → Type 0)

@@ -196,6 +196,6 @@ module _ (d : ℕ) (can : is_delimiter d ≡ true) (settled : List ℕ → Type 
   pub taken_known : (taken : Taken) (pieces : List (List ℕ)) → All settled (map (zone_in from) (records_of pieces)) → All (IsKnownZone from known files) (taken_rows d taken pieces)
   taken_known taken.Round pieces all = round_known pieces all
   taken_known (taken.OpenLine line) pieces all =
-      All-cons (IsKnownZone from known files) (exchanged_record d (open_record line.items)) [] (λ no. absurd (cc no)) (λ k dflt lt. absurd (omega (arith, lt)))
+      All-cons (IsKnownZone from known files) (exchanged_record d (open_record line.own.items)) [] (λ no. absurd (cc no)) (λ k dflt lt. absurd (omega (arith, lt)))
   taken_known taken.TooLong pieces all = λ k dflt lt. absurd (omega (arith, lt))
   taken_known taken.End pieces all = λ k dflt lt. absurd (omega (arith, lt))

@@ -1,18 +1,23 @@
 -- How the conversion of a column went: own choice.
-use Rattle.std.specs.Prelude.{◌≡◌, ◌≤◌, ◌⊎◌, ℕ, ◌-◌, List, ◌∷◌, ◌++◌, length, take, Option, Some, None, IfSome}
+use Rattle.std.specs.Prelude.{◌≡◌, ◌≤◌, ◌⊎◌, ℕ, ◌-◌, List, [], ◌∷◌, ◌++◌, length, take, Option, Some, None, IfSome}
 use Rattle.std.specs.List.{concat}
 use Rattle.std.specs.Io.{StartsWith}
 use Rattle.std.specs.Io.KnownBytes.{Appends}
+use Rattle.csv.specs.Reading.{strip_bom}
+use Rattle.zic_columns.specs.Lines.{AreRecordsBy}
 use Rattle.zic_columns.specs.Own.{CsvRecord}
+use Rattle.zic_columns.specs.Round.{BeginsTooLong}
 use Rattle.zic_counted.specs.Counts.{Counts}
 use Rattle.zic_files.specs.File.{File}
+use Rattle.zic_plan.specs.Layout.{records_before}
 use Rattle.zic_plan.specs.declared.layout.Layout.{Layout}
 use Rattle.zic_base.specs.Growth.{Gains}
 use Rattle.zic_plan.specs.Noted.{RowNote}
 use Rattle.zic_base.specs.declared.row_fault.RowKind.{RowKind}
+use Rattle.zic_base.specs.declared.row_fault.RowKind.TheVariants as kind
 use Rattle.zic_base.specs.declared.run_stop.RunStop.{RunStop}
 use Rattle.zic_base.specs.declared.run_stop.RunStop.TheVariants as stop
-use Rattle.zic_convert.specs.Column.{AreRowRecords, header_text, names_line}
+use Rattle.zic_convert.specs.Column.{AreRowRecords, header_text, names_line, read_by}
 use Rattle.zic_convert.specs.Convert.{WritesAllOf, WritesUpToOf}
 use Rattle.zic_layout_rows.specs.LayoutRows.{RecordsConvertBy, faults_by}
 
@@ -120,10 +125,22 @@ ConvertsAllBy layout most limit n run files = IfSome run.column (λ column.
 abbrev pub HasNames : Layout → Output → Type 0
 HasNames layout out = (rest : List ℕ) × Appends out.held out.held' (names_line layout ++ rest)
 
--- by these files, the conversion of the column ended early, after the line of names
+-- The header has more bytes of its own than a record may have. Rows count from 1, and row 0 is the header: the conversion ends there. Nothing
+-- was written but these bytes, and no fault was noted.
+pub record EndsAtHeader (layout : Layout) (column : List ℕ) (why : RunStop) (bytes : List ℕ) (out : Output) : Type 0 where
+  pub is : why ≡ stop.Row 0 kind.RowTooLong
+  pub header : records_before layout.header ≡ 1
+  pub all : List CsvRecord
+  pub are : AreRecordsBy layout.records layout.delimiter (strip_bom (read_by layout column)) all
+  pub long : BeginsTooLong layout.max_record all
+  pub wrote : Appends out.held out.held' bytes
+  pub noted : Notes out.log out.log' []
+
+-- by these files, the conversion of the column ended early, after the line of names: at the header, or later
 abbrev pub EndsBy : {R W : Type 0} → Layout → ℕ → Option ℕ → RunStop → Run R W → List File → Type 0
 EndsBy layout most limit why run files = IfSome run.column (λ column.
-    (row_records : List CsvRecord) × AreRowRecords layout column row_records × EndsIn layout files most limit (header_text layout column) row_records why run.output × HasNames layout run.output)
+    EndsAtHeader layout column why (names_line layout) run.output
+    ⊎ ((row_records : List CsvRecord) × AreRowRecords layout column row_records × EndsIn layout files most limit (header_text layout column) row_records why run.output × HasNames layout run.output))
 
 -- The line of names could not be written: nothing was read of the column, and no fault was noted.
 pub record EndsAtNames {R W : Type 0} (layout : Layout) (why : RunStop) (run : Run R W) : Type 0 where

@@ -64,6 +64,7 @@ pub fn rows_of_column(
         layout: &layout,
         first: 1,
         most: max_rows,
+        lines_before: None,
     };
     let text = RowText::with_capacity(alloc, room_for(column.len()))?;
     let rows = rows_of_piece(alloc, &piece, text)?;

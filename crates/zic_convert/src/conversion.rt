@@ -4,7 +4,8 @@ ghost use Rattle.std.specs.Prelude.{◌≡◌, ◌≤◌, ◌<◌, ◌+◌, ◌�
 ghost use Rattle.std.specs.Io.KnownBytes.{Appends};
 ghost use Rattle.csv.specs.Reading.{strip_bom};
 ghost use Rattle.zic_columns.specs.Lines.{texts_by};
-ghost use Rattle.zic_columns.specs.Round.{ArePiecesOf, records_of, unread};
+ghost use Rattle.zic_columns.specs.Own.{first_text};
+ghost use Rattle.zic_columns.specs.Round.{ArePiecesOf, PassesRecord, records_of, unread};
 ghost use Rattle.zic_columns.specs.declared.pieces.TheConstants.{MAX_ROUND_PIECES};
 ghost use Rattle.zic_counted.specs.Counts.{HasFailedSince};
 ghost use Rattle.zic_files.specs.File.{File};
@@ -16,7 +17,7 @@ ghost use Rattle.zic_convert.specs.Run.{ConvertsAllBy, EndsAtNames, EndsBy, Ends
 ghost use Rattle.zic_convert.specs.Run.{output_of, run_of};
 ghost use Rattle.zic_convert.specs.code.Halt.{IsCauseOfHalt, IsEnd, IsReadingStop, stop_of};
 ghost use Rattle.zic_convert.specs.code.Progress.{BeginsRows, ConvertsColumn, ConvertsRest};
-ghost use Rattle.zic_convert.specs.code.Progress.{EndsInColumn, EndsInRest, HaltsAtHead};
+ghost use Rattle.zic_convert.specs.code.Progress.{EndsInColumn, EndsInRest, HaltsAtBegin, HaltsAtHead, HaltsAtHeader};
 ghost use Rattle.zic_convert.specs.code.Progress.{EndsAtTaking, TakesNext, longest_of, own_line_in};
 ghost use Rattle.zic_convert.specs.code.Row.{taken_rows};
 ghost use Rattle.zic_convert.specs.code.Written.{EndsInRecords, WritesRecords};
@@ -34,11 +35,11 @@ use std::alloc::Global;
 use std::io::{Read, Write};
 use std::sync::Wait;
 use std::thread::Threads;
-use zic_base::RunStop;
+use zic_base::{RowKind, RunStop};
 use zic_columns::laws::{
     column_records_are_read, records_by_are_exchanged, texts_by_are_exchanged,
 };
-use zic_columns::{Column, Exchanged, Round, Taken, Truncated, Unread};
+use zic_columns::{Column, Exchanged, Round, Taken, Truncated, Unpassed};
 use zic_counted::Counted;
 use zic_files::Files;
 use zic_layout_rows::aside;
@@ -237,37 +238,67 @@ struct Begun<R: Read> {
     header: Vec<u8>,
 }
 
+/// Passes over the header of a column, and returns its own bytes.
+///
+/// # Errors
+///
+/// `Unread` where the column can't be read on, or the row 0 where the header has more bytes than the
+/// layout allows: rows count from 1.
+fn pass_header<R: Read>(
+    alloc: Global,
+    plan: &Plan,
+    layout: &Layout,
+    column: &mut Column<R>,
+) -> Result<Vec<u8>, Halt>
+    ensures by { column.new.by ≡ column.old.by }
+    ensures passes { IfOk result (λ _. PassesRecord R.remaining column.old column.new) }
+    ensures own { IfOk result (λ own. IfSome (unread R.remaining column.old)
+        (λ bytes. own.items ≡ first_text (texts_by column.old.by bytes))) }
+    ensures halt { IfErr result (HaltsAtHeader layout.now.max_record column.old.by
+        (unread R.remaining column.old)) }
+{
+    match column.pass_record(alloc, round_len(plan), layout.max_record) {
+        Ok(own) => Ok(own),
+        Err(Unpassed::Unread) => Err(Halt::Unread),
+        Err(Unpassed::TooLong) => Err(Halt::Stop(RunStop::Row {
+            row: 0,
+            kind: RowKind::RowTooLong,
+        })),
+    }
+}
+
 /// Begins a column after its header, if it has one.
 ///
 /// # Errors
 ///
-/// `Unread` where the column can't be read on, or the header is longer than the layout allows.
+/// As [`pass_header`].
 fn begin_column<R: Read + Drop>(
     alloc: Global,
     plan: &Plan,
     layout: &Layout,
     reader: R,
-) -> Result<Begun<R>, Unread>
+) -> Result<Begun<R>, Halt>
     ensures by { IfOk result (λ begun. begun.column.by ≡ layout.now.records) }
     ensures begins { IfOk result (λ begun. IfSome (R.remaining reader)
         (λ bytes. BeginsRows layout.now bytes (unread R.remaining begun.column))) }
     ensures header { IfOk result (λ begun. IfSome (R.remaining reader)
         (λ bytes. begun.header.items
         ≡ own_header layout.now.header (texts_by layout.now.records (strip_bom bytes)))) }
+    ensures halt { IfErr result (HaltsAtBegin layout.now (R.remaining reader)) }
 {
-    let mut column = Column::new(alloc, reader, plan.max_bytes(), layout.records)?;
-    let (wanted, longest) = (round_len(plan), layout.max_record);
+    let most = plan.max_bytes();
+    let mut column = Column::new(alloc, reader, most, layout.records, layout.notes)?;
     match layout.header {
         Header::Absent => {
             let header = Vec::new(alloc);
             Ok(Begun { column, header })
         }
         Header::First => {
-            let header = column.pass_record(alloc, wanted, longest)?;
+            let header = pass_header(alloc, plan, layout, &mut column)?;
             Ok(Begun { column, header })
         }
         Header::Skipped => {
-            let _skipped = column.pass_record(alloc, wanted, longest)?;
+            let _skipped = pass_header(alloc, plan, layout, &mut column)?;
             let header = Vec::new(alloc);
             Ok(Begun { column, header })
         }
@@ -279,7 +310,7 @@ fn begin_column<R: Read + Drop>(
 ///
 /// # Errors
 ///
-/// `Unread` where the column can't be read on, `Memory`, or `WriteFailed`.
+/// As [`pass_header`], `Memory`, or `WriteFailed`.
 pub(crate) fn begin_rows<R: Read + Drop, W: Write, L: RowLog>(
     alloc: Global,
     plan: &Plan,
@@ -418,8 +449,10 @@ fn ended<R>(
 /// fault that is written has the instant or the local time as its record has it, and empty fields in
 /// place of the others; where the record has another number of fields than the layout's, too many bytes,
 /// or is a line whose double quotes are open at its end, the row is only the record's own bytes. The log
-/// takes note of the fault, and of the record's own bytes where it is put aside. A header that is such a
-/// line is one as any other. Where each line is a record and the run goes on at faults, no more than four
+/// takes note of the fault, and of the record's own bytes where it is put aside, with how its line ends
+/// in the column; where the layout's `notes` are details, also of the line where the record begins, from
+/// 1, with the header and lines without a byte, and of the field at fault. A header that is such a line is
+/// one as any other. Where each line is a record and the run goes on at faults, no more than four
 /// bytes of a line are read beyond the most that the layout allows, and the others are dropped: they
 /// are in no row and no note. Where the run goes on at faults and `max_faults` is a number, it goes on after
 /// this many rows with a fault. The next ends the conversion, and is neither written nor noted.
@@ -439,15 +472,16 @@ fn ended<R>(
 ///   no instant or local time, a local time that no instant or more than one has, or a whole second out
 ///   of range. All rows before it were written and flushed, and no failure of the writer was counted.
 ///   Where rows with faults are written or their records put aside, `Row` is only `TooManyRows`,
-///   `RowTooLong` of a record of CSV, and the fault after `max_faults` others.
+///   `RowTooLong` of a record of CSV, and the fault after `max_faults` others. Row 0 is the header: `Row`
+///   with `RowTooLong` where it has more bytes than the layout allows, also where rows with faults are
+///   written. Only the line of names was written then, and no fault was noted.
 /// - `ReadFailed` or `WriteFailed` where the reader or writer counted a failure. Each error of the
 ///   reader or writer ends the call, also one at which others try again, and so does a write that
 ///   takes no byte. A reader that ended is not read again. Where the line of names can't be written,
 ///   nothing is read of the column.
 /// - `ColumnTooLong` where the reader gave more bytes than the plan allows, or its count of bytes
 ///   stands at the greatest `u64`.
-/// - `Memory` where memory is refused, or the header has more bytes than a record may have. Where memory
-///   is refused as zones are made ready, these are of no use.
+/// - `Memory` where memory is refused. Where it is refused as zones are made ready, these are of no use.
 ///
 /// `Source` and `NoThread` are never returned. After every error other than `Row`, the lines up to
 /// some line were written, of the header and of the rows; the faults of the rows up to there were

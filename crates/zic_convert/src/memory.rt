@@ -83,6 +83,7 @@ fn rows_of_round(by: &RowsBy<'_, '_>, round: &Round<'_>, first: u64) -> Result<R
             layout: by.layout,
             first: first + rows.count,
             most: by.most,
+            lines_before: round.lines_before(i),
         };
         let text = RowText::with_capacity(by.alloc, room_for(piece.bytes.len()))?;
         let more = rows_of_piece(by.alloc, &piece, text)?;

@@ -5,7 +5,7 @@ ghost use Rattle.zic_columns.specs.Exchange.{exchanged};
 ghost use Rattle.zic_columns.specs.Lines.{exchanged_record, open_record};
 ghost use Rattle.zic_files.specs.File.{File};
 ghost use Rattle.zic_plan.specs.declared.plan.TheConstants.{MAX_ROWS};
-ghost use Rattle.zic_layout_rows.specs.LayoutRows.{fault_by, unless_aside};
+ghost use Rattle.zic_layout_rows.specs.LayoutRows.{fault_by, if_aside, unless_aside};
 ghost use Rattle.zic_layout_rows.specs.PieceRows.{AreRowsOf};
 ghost use Rattle.zic_convert.specs.code.Written.{EndsInRecords, WritesRecords};
 
@@ -15,10 +15,10 @@ use crate::tally::{Tally, left_after};
 use std::alloc::{AllocError, Global};
 use std::io::Write;
 use zic_base::{RowFault, RowKind, RunStop};
-use zic_columns::may_have;
+use zic_columns::{TakenLine, may_have};
 use zic_counted::Counted;
 use zic_layout_rows::{Rows, aside, ends_run, push_own};
-use zic_plan::{AtFault, FaultyRow, Layout, LineEnd, RowLog};
+use zic_plan::{AtFault, FaultDetail, FaultyRow, Layout, RowLog};
 use zic_rows::RowText;
 
 /// Returns the fault of an open line, the row of this number: `TooManyRows` if that is above `most`, else
@@ -51,6 +51,36 @@ fn open_text(alloc: Global, layout: &Layout, line: &[u8]) -> Result<Vec<u8>, All
     Ok(text)
 }
 
+/// Returns what is noted of an open line: its own bytes where it is put aside, how it ends, and its number
+/// among lines where details are noted. The fault isn't of one field. The line has the delimiter and the
+/// comma in each other's place.
+fn open_note(
+    alloc: Global,
+    layout: &Layout,
+    line: &TakenLine,
+    fault: RowFault,
+) -> Result<FaultyRow, AllocError>
+    ensures { IfOk result (λ row. row ≡ record {
+      fault = fault;
+      own = if_aside layout.now.at_fault (exchanged layout.now.delimiter line.now.own.items);
+    }) }
+{
+    let own = aside(alloc, layout, &line.own)?;
+    let detail = match line.lines_before {
+        Some(before) => Some(FaultDetail {
+            line: before.saturating_add(1),
+            value: Vec::new(alloc),
+        }),
+        None => None,
+    };
+    Ok(FaultyRow {
+        fault,
+        own,
+        line_end: line.line_end,
+        detail,
+    })
+}
+
 /// Returns the row of an open line, which has a fault, or the fault that ends the run there. The line is
 /// the row of this number, and has the delimiter and the comma in each other's place.
 pub(crate) fn open_row(
@@ -58,28 +88,24 @@ pub(crate) fn open_row(
     layout: &Layout,
     most: u64,
     number: u64,
-    line: &[u8],
+    line: &TakenLine,
 ) -> Result<Rows, AllocError>
     ensures { IfOk result (λ rows. (files : List File) → AreRowsOf layout.now files most number
-        (exchanged_record layout.now.delimiter (open_record line.now) ∷ []) rows) }
+        (exchanged_record layout.now.delimiter (open_record line.now.own.items) ∷ []) rows) }
 {
     let mut rows = Rows::new(alloc, RowText::new(alloc));
-    let kind = open_kind(layout, most, number, line);
+    let own: &[u8] = &line.own;
+    let kind = open_kind(layout, most, number, own);
     if ends_run(layout.at_fault, layout.records, kind) {
         rows.fault = Some(kind);
         return Ok(rows);
     }
-    let text = open_text(alloc, layout, line)?;
+    let text = open_text(alloc, layout, own)?;
     rows.text.push(&text)?;
     rows.count = 1;
-    let own = aside(alloc, layout, line)?;
     let fault = RowFault { row: number, kind };
-    rows.faults.push(FaultyRow {
-        fault,
-        own,
-        line_end: LineEnd::Lf,
-        detail: None,
-    })?;
+    let note = open_note(alloc, layout, line, fault)?;
+    rows.faults.push(note)?;
     Ok(rows)
 }
 
@@ -92,7 +118,7 @@ pub(crate) fn open_row(
 /// `Row` where the fault ends the run or is one too many, `Memory`, or `WriteFailed`.
 pub(crate) fn write_open_line<T, G, W: Write, L: RowLog>(
     conversion: &Conversion<'_, T, G>,
-    line: &[u8],
+    line: &TakenLine,
     number: u64,
     left: Option<u64>,
     writer: &mut Counted<W>,
@@ -101,11 +127,13 @@ pub(crate) fn write_open_line<T, G, W: Write, L: RowLog>(
     requires { number ≤ MAX_ROWS + 1 }
     ensures ok { IfOk result (λ tally. (files : List File) → WritesRecords
         conversion.now.layout.now files conversion.now.plan.now.max_rows left number
-        (exchanged_record conversion.now.layout.now.delimiter (open_record line.now) ∷ [])
+        (exchanged_record conversion.now.layout.now.delimiter (open_record line.now.own.items)
+        ∷ [])
         W.contents writer.old writer.new (L.noted log.old) (L.noted log.new) tally) }
     ensures stop { IfErr result (λ why. (files : List File) → EndsInRecords
         conversion.now.layout.now files conversion.now.plan.now.max_rows left number
-        (exchanged_record conversion.now.layout.now.delimiter (open_record line.now) ∷ [])
+        (exchanged_record conversion.now.layout.now.delimiter (open_record line.now.own.items)
+        ∷ [])
         W.contents writer.old writer.new (L.noted log.old) (L.noted log.new) why) }
 {
     let most = conversion.plan.max_rows();

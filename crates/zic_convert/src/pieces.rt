@@ -169,6 +169,7 @@ impl<'a, 's> RowPieces<'a, 's> {
             layout: self.layout,
             first: self.first + i * self.size,
             most: self.most,
+            lines_before: self.round.lines_before(i as usize),
         };
         let text = self.spare.take(alloc, room_for(piece.bytes.len()))?;
         rows_of_piece(alloc, &piece, text)

@@ -62,7 +62,11 @@ pub(crate) fn copy_field(
 }
 
 /// Copies the name of a record's zone, as [`copy_field`] does a field.
-pub(crate) fn copy_zone(alloc: Global, piece: &Piece<'_, '_>, given: &Record) -> Result<Vec<u8>, AllocError>
+pub(crate) fn copy_zone(
+    alloc: Global,
+    piece: &Piece<'_, '_>,
+    given: &Record,
+) -> Result<Vec<u8>, AllocError>
     requires { IsSplit piece.now.bytes.now (wanted_by piece.now.layout.now) given.now }
     ensures { IfOk result (λ copy. copy.items ≡ zone_in piece.now.layout.now.zone
         (exchanged_record piece.now.layout.now.delimiter (record_at piece.now.bytes.now given.now)).fields) }

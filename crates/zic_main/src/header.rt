@@ -4,11 +4,12 @@ use crate::failure::Refusal;
 use csv::{ByteRecord, ReaderBuilder};
 use std::alloc::{AllocError, Global};
 use std::io::{self, ErrorKind, Read};
-use zic_columns::{Column, Exchanged, Unread, exchange};
+use zic_base::RowKind;
+use zic_columns::{Column, Exchanged, Unpassed, exchange};
 use zic_command_line::{Conversion, Request};
 use zic_commands::Failure;
 use zic_counted::Counted;
-use zic_plan::Layout;
+use zic_plan::{Layout, Notes};
 
 /// The number of bytes that are read at once.
 const READ: usize = 65_536;
@@ -105,7 +106,8 @@ fn order_by_header<R: Read + Drop>(
     })
 }
 
-/// Reads the header of a column, and returns its fields; none where the column has no record.
+/// Reads the header of a column, and returns its fields; none where the column has no record. A header
+/// that is too long is the row 0: rows count from 1.
 fn read_header<R: Read + Drop>(
     alloc: Global,
     order: &Conversion,
@@ -120,6 +122,10 @@ fn read_header<R: Read + Drop>(
     };
     match first_record(alloc, &order.layout, most, copied) {
         Ok(own) => Ok(fields_of(alloc, &own, order.layout.delimiter.byte())?),
+        Err(Unpassed::TooLong) => Err(Failure::Row {
+            row: 0,
+            kind: RowKind::RowTooLong,
+        }),
         Err(_) if input.has_failed_since(0) => Err(Failure::CannotReadColumn),
         Err(_) if input.taken() > most => Err(Failure::ColumnTooLong),
         Err(_) => Err(Failure::Memory),
@@ -132,10 +138,10 @@ fn first_record<R: Read + Drop>(
     layout: &Layout,
     most: u64,
     reader: R,
-) -> Result<Vec<u8>, Unread> {
+) -> Result<Vec<u8>, Unpassed> {
     let delimiter = layout.delimiter.byte();
     let exchanged = Exchanged::new(reader, delimiter);
-    let mut column = Column::new(alloc, exchanged, most, layout.records)?;
+    let mut column = Column::new(alloc, exchanged, most, layout.records, Notes::Faults)?;
     let mut own = column.pass_record(alloc, READ, layout.max_record)?;
     exchange(&mut own, delimiter);
     Ok(own)

@@ -6,8 +6,11 @@ use crate::samples::{Device, count_of, expect, expect_text, must};
 use std::alloc::Global;
 use std::io::ErrorKind;
 use std::process::Abort;
-use zic_columns::{BATCH, Column, Field, Record, Round, Span, Splitter, Taken, Wanted, push_field};
-use zic_plan::Records;
+use zic_columns::{
+    BATCH, Column, Field, Record, Round, Span, Splitter, Taken, Unpassed, Wanted, line_end_at,
+    line_feeds, push_field,
+};
+use zic_plan::{LineEnd, Notes, Records};
 
 /// The fields of a record that are shown.
 const SHOWN: Wanted = Wanted {
@@ -70,7 +73,7 @@ fn push_round(
     match column.next_round(alloc, wanted, size, None).ok()? {
         Taken::Round => {}
         Taken::OpenLine(line) => {
-            must(rt, text.extend_from_slice(&line));
+            must(rt, text.extend_from_slice(&line.own));
             must(rt, text.extend_from_slice(b"!|"));
         }
         Taken::End => return Some(false),
@@ -130,7 +133,7 @@ pub(super) fn shown(
     most: u64,
     plan: (usize, usize),
 ) -> Option<(Vec<u8>, u32)> {
-    let column = Column::new(alloc, device, most, Records::Csv).ok()?;
+    let column = Column::new(alloc, device, most, Records::Csv, Notes::Faults).ok()?;
     rest_of(rt, alloc, column, plan)
 }
 
@@ -189,7 +192,10 @@ fn after_first(
     step: usize,
 ) -> Vec<u8> {
     let mut device = Device::new(column, step, Ok(()));
-    let mut column = must(rt, Column::new(alloc, &mut device, 100, records));
+    let mut column = must(
+        rt,
+        Column::new(alloc, &mut device, 100, records, Notes::Faults),
+    );
     let mut text = must(rt, column.pass_record(alloc, 1000, None));
     let (rest, _) = must(rt, rest_of(rt, alloc, column, (1000, 2)).ok_or(()));
     must(rt, text.push(b'>'));
@@ -256,7 +262,10 @@ fn up_to_long(
     longest: u64,
 ) -> Vec<u8> {
     let mut device = Device::new(column, 1, Ok(()));
-    let mut column = must(rt, Column::new(alloc, &mut device, 100, records));
+    let mut column = must(
+        rt,
+        Column::new(alloc, &mut device, 100, records, Notes::Faults),
+    );
     let mut text = Vec::new(alloc);
     for _ in 0..1_000 {
         match must(rt, column.next_round(alloc, 1000, 2, Some(longest))) {
@@ -264,7 +273,7 @@ fn up_to_long(
                 push_pieces(rt, &mut text, &column.round());
             }
             Taken::OpenLine(line) => {
-                must(rt, text.extend_from_slice(&line));
+                must(rt, text.extend_from_slice(&line.own));
                 must(rt, text.extend_from_slice(b"!|"));
             }
             Taken::TooLong => {
@@ -303,9 +312,14 @@ fn a_long_first_record_is_not_passed_over(rt: HostRuntime) {
         for (longest, passes) in [(12, true), (11, false), (1, false)] {
             let mut device = Device::new(b"zone,instant\na,0\n", step, Ok(()));
             let alloc = rt.alloc();
-            let mut column = must(&rt, Column::new(alloc, &mut device, 100, Records::Csv));
-            let passed = column.pass_record(alloc, 1000, Some(longest)).is_ok();
-            expect(&rt, passed == passes, "a first record of 12 bytes");
+            let begun = Column::new(alloc, &mut device, 100, Records::Csv, Notes::Faults);
+            let mut column = must(&rt, begun);
+            let passed = match column.pass_record(alloc, 1000, Some(longest)) {
+                Ok(_) => passes,
+                Err(Unpassed::TooLong) => !passes,
+                Err(Unpassed::Unread) => false,
+            };
+            expect(&rt, passed, "a first record of 12 bytes");
         }
     }
 }
@@ -519,6 +533,52 @@ static FIRST_READS: [(&[u8], usize, usize); 9] = [
 /// Ends the test where a column in reads of this length isn't begun, or in another number of reads.
 fn expect_first_reads(rt: &impl Abort, alloc: Global, column: &[u8], step: usize, want: usize) {
     let mut device = Device::new(column, step, Ok(()));
-    let begun = Column::new(alloc, &mut device, 100, Records::Csv).is_ok();
+    let begun = Column::new(alloc, &mut device, 100, Records::Csv, Notes::Faults).is_ok();
     expect(rt, begun && device.reads() == want, "the first reads");
+}
+
+/// Adds the number of line feeds before each piece of a round to a text, in a digit, and how the line ends
+/// that begins there.
+fn push_places(rt: &impl Abort, text: &mut Vec<u8>, round: &Round<'_>) {
+    for i in 0..round.len() {
+        let piece = round.piece(i);
+        let own = count_until_end(piece);
+        let end = match line_end_at(piece, own) {
+            LineEnd::Lf => b'n',
+            LineEnd::CrLf => b'r',
+        };
+        let before = round.lines_before(i).unwrap_or(9).min(9) as u8;
+        must(rt, text.push(b'0' + before));
+        must(rt, text.push(end));
+    }
+}
+
+/// Returns the number of bytes before the first line end.
+fn count_until_end(piece: &[u8]) -> usize {
+    for i in 0..piece.len() {
+        if piece[i] == b'\r' || piece[i] == b'\n' {
+            return i;
+        }
+    }
+    piece.len()
+}
+
+#[test]
+fn pieces_know_their_lines(rt: HostRuntime) {
+    let column = b"\xEF\xBB\xBF\na,0\r\n\nb,\"\n\"\r\nc,1\nd,2";
+    expect(&rt, line_feeds(column) == 6, "the line feeds");
+    for step in STEPS {
+        let mut device = Device::new(column, step, Ok(()));
+        let alloc = rt.alloc();
+        let begun = Column::new(alloc, &mut device, 100, Records::Csv, Notes::Details);
+        let mut column = must(&rt, begun);
+        let mut text = Vec::new(alloc);
+        for _ in 0..100 {
+            match must(&rt, column.next_round(alloc, 1000, 1, None)) {
+                Taken::Round => push_places(&rt, &mut text, &column.round()),
+                _ => break,
+            }
+        }
+        expect_text(&rt, &text, b"1r3n5n6n", "the lines before pieces");
+    }
 }

@@ -1,5 +1,5 @@
 -- How far a conversion has come.
-use Rattle.std.specs.Prelude.{◌≡◌, ◌≤◌, ◌<◌, ◌↔◌, ℕ, List, [], ◌++◌, length, drop, Option, Some, None, IfSome}
+use Rattle.std.specs.Prelude.{◌≡◌, ◌≤◌, ◌<◌, ◌↔◌, ◌⊎◌, ℕ, List, [], ◌++◌, length, drop, Option, Some, None, IfSome}
 use Rattle.std.specs.List.{concat}
 use Rattle.std.specs.Io.KnownBytes.{Appends}
 use Rattle.csv.specs.Reading.{strip_bom}
@@ -7,7 +7,7 @@ use Rattle.zic_columns.specs.Exchange.{exchanged}
 use Rattle.zic_columns.specs.Lines.{records_by, texts_by}
 use Rattle.zic_columns.specs.Own.{CsvRecord}
 use Rattle.zic_columns.specs.Round as Columns
-use Rattle.zic_columns.specs.Round.{ArePiecesOf, ColumnOf, HasNoRecord, IsNextTooLong, taken_records, unread}
+use Rattle.zic_columns.specs.Round.{ArePiecesOf, BeginsTooLong, ColumnOf, HasNoRecord, IsNextTooLong, taken_records, unread}
 use Rattle.zic_columns.specs.declared.columns.Taken.{Taken}
 use Rattle.zic_columns.specs.declared.columns.Taken.TheVariants as taken
 use Rattle.zic_columns.specs.declared.pieces.TheConstants.{MAX_ROUND_PIECES}
@@ -20,12 +20,13 @@ use Rattle.zic_plan.specs.declared.layout.Layout.{Layout}
 use Rattle.zic_plan.specs.declared.layout.Records.{Records}
 use Rattle.zic_plan.specs.declared.layout.Records.TheVariants as by
 use Rattle.zic_plan.specs.Noted.{RowNote}
+use Rattle.zic_base.specs.declared.row_fault.RowKind.TheVariants as kinds
 use Rattle.zic_base.specs.declared.run_stop.RunStop.{RunStop}
 use Rattle.zic_base.specs.declared.run_stop.RunStop.TheVariants as stop
 use Rattle.zic_files.specs.File.{File}
 use Rattle.zic_convert.specs.Column.{AreRowRecords, header_of, own_header, own_line}
 use Rattle.zic_layout_rows.specs.LayoutRows.{RecordsConvertBy, faults_by}
-use Rattle.zic_convert.specs.Run.{EndsIn, Notes, Output, WritesRows}
+use Rattle.zic_convert.specs.Run.{EndsAtHeader, EndsIn, Notes, Output, WritesRows}
 use Rattle.zic_convert.specs.code.Row.{records_in}
 use Rattle.zic_convert.specs.code.Written.{IsLeft}
 use Rattle.zic_convert.specs.declared.halt.Halt.{Halt}
@@ -70,10 +71,11 @@ abbrev pub ConvertsColumn : Layout → ℕ → Option ℕ → Option (List ℕ) 
 ConvertsColumn layout most limit known n out files = IfSome known (λ column.
     (row_records : List CsvRecord) × AreRowRecords layout column row_records × WritesRows layout files most limit (own_line layout column) row_records n out)
 
--- the conversion of that column ended early
+-- the conversion of that column ended early: at its header, or later
 abbrev pub EndsInColumn : Layout → ℕ → Option ℕ → Option (List ℕ) → RunStop → Output → List File → Type 0
 EndsInColumn layout most limit known why out files = IfSome known (λ column.
-    (row_records : List CsvRecord) × AreRowRecords layout column row_records × EndsIn layout files most limit (own_line layout column) row_records why out)
+    EndsAtHeader layout column why [] out
+    ⊎ ((row_records : List CsvRecord) × AreRowRecords layout column row_records × EndsIn layout files most limit (own_line layout column) row_records why out))
 
 -- the column's own header with names added, but for the delimiter of the column
 abbrev pub own_line_in : Layout → List ℕ → List ℕ
@@ -83,11 +85,30 @@ own_line_in layout column = header_of layout.start layout.style layout.from layo
 abbrev pub BeginsRows : Layout → List ℕ → Option (List ℕ) → Type 0
 BeginsRows layout column left = (rest : List ℕ) × (left ≡ Some rest) × (records_by layout.records rest ≡ drop (records_before layout.header) (records_by layout.records (strip_bom column)))
 
+-- the header of a column, where the bytes that are left are known, could not be passed over: the column can't be read on, or it is too long
+abbrev pub HaltsAtHeader : Option ℕ → Records → Option (List ℕ) → Halt → Type 0
+HaltsAtHeader most by known halt.Unread = Unit {0}
+HaltsAtHeader most by known (halt.Stop (stop.Row row kind)) = (row ≡ 0) × (kind ≡ kinds.RowTooLong) × IsNextTooLong most by known
+HaltsAtHeader most by known (halt.Stop _) = ⊥
+
+-- a stop at the header of a column, which has too many bytes, where the bytes of the column are known
+pub record IsAtLongHeader (layout : Layout) (known : Option (List ℕ)) (why : RunStop) : Type 0 where
+  pub is : why ≡ stop.Row 0 kinds.RowTooLong
+  pub header : records_before layout.header ≡ 1
+  pub long : IfSome known (λ column. BeginsTooLong layout.max_record (records_by layout.records (strip_bom column)))
+
+-- a column could not be begun: it can't be read on, or its header is too long
+abbrev pub HaltsAtBegin : Layout → Option (List ℕ) → Halt → Type 0
+HaltsAtBegin layout known halt.Unread = Unit {0}
+HaltsAtBegin layout known (halt.Stop (stop.Row row kind)) = IsAtLongHeader layout known (stop.Row row kind)
+HaltsAtBegin layout known (halt.Stop _) = ⊥
+
 -- the conversion of a column, where its bytes are known, ended before its rows began
 abbrev pub HaltsAtHead : {W : Type 0} → (W → Option (List ℕ)) → Counts W → Counts W → Layout → Option (List ℕ) → Halt → Type 0
 HaltsAtHead contents old new layout known halt.Unread = new ≡ old
 HaltsAtHead contents old new layout known (halt.Stop stop.Memory) = new ≡ old
 HaltsAtHead contents old new layout known (halt.Stop stop.WriteFailed) = HasFailedSince new old.failures × IfSome known (λ column. FailsWithin contents old new (own_line_in layout column))
+HaltsAtHead contents old new layout known (halt.Stop (stop.Row row kind)) = (new ≡ old) × IsAtLongHeader layout known (stop.Row row kind)
 HaltsAtHead contents old new layout known (halt.Stop _) = ⊥
 
 -- the most bytes that a record may have, where one with more ends the run

@@ -20,7 +20,7 @@ records_of_all delimiter pieces = flat_map (csv_records_in delimiter) pieces
 -- long is left
 abbrev pub taken_rows : ℕ → Taken → List (List ℕ) → List CsvRecord
 taken_rows delimiter taken.Round pieces = records_of_all delimiter pieces
-taken_rows delimiter (taken.OpenLine line) pieces = exchanged_record delimiter (open_record line.items) ∷ []
+taken_rows delimiter (taken.OpenLine line) pieces = exchanged_record delimiter (open_record line.own.items) ∷ []
 taken_rows delimiter taken.TooLong pieces = []
 taken_rows delimiter taken.End pieces = []
 

@@ -12,17 +12,18 @@ pub returns-then-ends_run : goal.returns-then-ends_run
 returns-then-ends_run c = λ files.
     let layout = c.args.layout.now in
     let kind = c.open_kind-kind.result in
-    let given : CsvRecord = exchanged_record layout.delimiter (open_record c.args.line.now) in
+    let given : CsvRecord = exchanged_record layout.delimiter (open_record c.deref-own.result.now) in
     let none = c.rows.view_is ∙ c.new-rows.ensures in
-    subst (λ (r : RowsOf). AreRowsOf layout files c.args.most c.args.number (given ∷ []) r) (sym (ap (λ (r : RowsOf). record r { fault = Some kind }) none))
-    (one_ends layout files c.args.most c.args.number given kind (c.open_kind-kind.ensures files) (c.if-ends_run.ensures.ends refl))
+    rw (← c.deref-own.ensures.value)
+    (subst (λ (r : RowsOf). AreRowsOf layout files c.args.most c.args.number (given ∷ []) r) (sym (ap (λ (r : RowsOf). record r { fault = Some kind }) none))
+    (one_ends layout files c.args.most c.args.number given kind (c.open_kind-kind.ensures files) (c.if-ends_run.ensures.ends refl)))
 
 pub returns : goal.returns
 returns c = λ files.
     let layout = c.args.layout.now in
     let d = layout.delimiter in
     let kind = c.open_kind-kind.result in
-    let line = c.args.line.now in
+    let line = c.deref-own.result.now in
     let given : CsvRecord = exchanged_record d (open_record line) in
     let is = c.open_kind-kind.ensures files in
     let goes = c.if-ends_run.ensures.goes_on refl in
@@ -31,8 +32,9 @@ returns c = λ files.
     ∙ sym (open_text layout files c.args.most c.args.number kind (exchanged d line) is goes) in
     let fault = ap (λ (r : RowsOf). r.fault) none in
     let one : RowNote = record { fault = record { row = c.args.number; kind = kind }; own = if_aside layout.at_fault (exchanged d line) } in
-    let faults = c.in_ok-push-2.ensures.items ∙ ap₂ (λ (l : List RowNote) (o : List ℕ). l ++ record { fault = record { row = c.args.number; kind = kind }; own = o } ∷ [])
-    (ap (λ (r : RowsOf). r.faults) none) c.in_ok-own.ensures in
-    subst (λ (r : RowsOf). AreRowsOf layout files c.args.most c.args.number (given ∷ []) r)
+    let faults = c.in_ok-push-2.ensures.items ∙ ap₂ (λ (l : List RowNote) (n : RowNote). l ++ n ∷ []) (ap (λ (r : RowsOf). r.faults) none)
+    (rw (← c.deref-own.ensures.value) at c.in_ok-note.ensures) in
+    rw (← c.deref-own.ensures.value)
+    (subst (λ (r : RowsOf). AreRowsOf layout files c.args.most c.args.number (given ∷ []) r)
     (sym (same_rows c.push.new.self (faulty_text layout kind given) c.rows-2.inside.fault c.push-2.new.self.items (one ∷ []) text fault faults))
-    (one_faulty layout files c.args.most c.args.number given kind is goes)
+    (one_faulty layout files c.args.most c.args.number given kind is goes))

@@ -11,7 +11,7 @@ pub write_rows-requires : goal.write_rows-requires
 write_rows-requires g c =
     let layout = c.args.conversion.now.layout.now in
     let most = c.max_rows-most.result in
-    let given : CsvRecord = exchanged_record layout.delimiter (open_record c.args.line.now) in
+    let given : CsvRecord = exchanged_record layout.delimiter (open_record c.args.line.now.own.items) in
     let all = alone layout [] most c.args.number given c.in-Ok.row (c.in-Ok.ensures []) in
     omega (arith, few layout [] most c.args.number (given ∷ []) (joined (c.in-Ok.row ∷ [])) all, c.requires)
 
@@ -19,7 +19,7 @@ pub returns-in-Ok-left_after-clause-stop : goal.returns-in-Ok-left_after-clause-
 returns-in-Ok-left_after-clause-stop g c = λ files.
     let layout = c.args.conversion.now.layout.now in
     let most = c.args.conversion.now.plan.now.max_rows in
-    let given : CsvRecord = exchanged_record layout.delimiter (open_record c.args.line.now) in
+    let given : CsvRecord = exchanged_record layout.delimiter (open_record c.args.line.now.own.items) in
     let row = c.in-Ok.row in
     let are = rw c.max_rows-most.ensures.rows at (c.in-Ok.ensures files) in
     inr (
@@ -33,7 +33,7 @@ pub returns-clause-stop : goal.returns-clause-stop
 returns-clause-stop g c = λ files.
     let layout = c.args.conversion.now.layout.now in
     let most = c.args.conversion.now.plan.now.max_rows in
-    let given : CsvRecord = exchanged_record layout.delimiter (open_record c.args.line.now) in
+    let given : CsvRecord = exchanged_record layout.delimiter (open_record c.args.line.now.own.items) in
     let row = c.in-Ok.row in
     let fault = c.in-Err.fault in
     let are = rw c.max_rows-most.ensures.rows at (c.in-Ok.ensures files) in
