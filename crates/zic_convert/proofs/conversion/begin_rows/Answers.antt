@@ -15,7 +15,7 @@ returns-in_err-write_header-clause-halt g c =
 
 pub returns-in_err-column-clause-halt : goal.returns-in_err-column-clause-halt
 returns-in_err-column-clause-halt g c =
-    let p = err_from_is_err_and c.from_residual-in_err-column.result c.from_residual-in_err-column.ensures.1 in
+    let p = err_from_is_err_and c.from_residual.result c.from_residual.ensures.1 in
     rw (p.1, p.2) (halts_begun g.W.Write.contents c.args.writer.now c.args.writer.now c.args.layout.now (g.R.Read.remaining c.args.reader) c.in_err-column.field-0.0 c.in_err-column.ensures.halt refl)
 
 pub returns-clause-head : goal.returns-clause-head
