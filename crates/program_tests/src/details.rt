@@ -36,7 +36,8 @@ fn push_note(alloc: Global, text: &mut Vec<u8>, row: &FaultyRow) -> Result<(), A
     if let Some(detail) = &row.detail {
         text.extend_from_slice(&detail.value)?;
     }
-    text.push(b'|')
+    text.push(b'|')?;
+    Ok(())
 }
 
 /// A log that is a text.

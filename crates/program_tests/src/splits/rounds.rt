@@ -1,5 +1,6 @@
 //! Rounds of columns that come in reads of each length, and readers that fail.
 
+ghost use Rattle.std.specs.Prelude.{◌≤◌, length};
 ghost use Rattle.zic_columns.specs.Record.{IsWithinPiece};
 
 use crate::samples::{Device, count_of, expect, expect_text, must};
@@ -537,30 +538,33 @@ fn expect_first_reads(rt: &impl Abort, alloc: Global, column: &[u8], step: usize
     expect(rt, begun && device.reads() == want, "the first reads");
 }
 
-/// Adds the number of line feeds before each piece of a round to a text, in a digit, and how the line ends
-/// that begins there.
-fn push_places(rt: &impl Abort, text: &mut Vec<u8>, round: &Round<'_>) {
-    for i in 0..round.len() {
-        let piece = round.piece(i);
-        let own = count_until_end(piece);
-        let end = match line_end_at(piece, own) {
-            LineEnd::Lf => b'n',
-            LineEnd::CrLf => b'r',
-        };
-        let before = round.lines_before(i).unwrap_or(9).min(9) as u8;
-        must(rt, text.push(b'0' + before));
-        must(rt, text.push(end));
-    }
-}
-
-/// Returns the number of bytes before the first line end.
-fn count_until_end(piece: &[u8]) -> usize {
-    for i in 0..piece.len() {
-        if piece[i] == b'\r' || piece[i] == b'\n' {
+/// Returns the number of first bytes up to one that ends a line, or up to one that ends none.
+fn count_until(bytes: &[u8], ends_line: bool) -> usize
+    ensures { result ≤ length bytes.now }
+{
+    for i in 0..bytes.len() {
+        if (bytes[i] == b'\r' || bytes[i] == b'\n') == ends_line {
             return i;
         }
     }
-    piece.len()
+    bytes.len()
+}
+
+/// Adds to a text how many line feeds stand before the first record of each piece of a round, in a digit,
+/// and how its first line ends.
+fn push_places(rt: &impl Abort, text: &mut Vec<u8>, round: &Round<'_>) {
+    for i in 0..round.len() {
+        let piece = round.piece(i);
+        let (blank, record) = piece.split_at(count_until(piece, false));
+        let end = match line_end_at(record, count_until(record, true)) {
+            LineEnd::Lf => b'n',
+            LineEnd::CrLf => b'r',
+        };
+        let before = round.lines_before(i).unwrap_or(9);
+        let digit = before.saturating_add(line_feeds(blank)).min(9) as u8;
+        must(rt, text.push(b'0' + digit));
+        must(rt, text.push(end));
+    }
 }
 
 #[test]
