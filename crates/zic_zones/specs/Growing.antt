@@ -3,9 +3,10 @@ use Rattle.std.proofs.Common.{subst, sym, ap, append_assoc, ◌∙◌}
 use Rattle.std.proofs.lemmas.List.{append-nil}
 use Rattle.std.specs.Prelude.{List, [], ◌++◌, Option, None, Some}
 use Rattle.zic_files.specs.File.{File}
-use Rattle.zic_files.specs.Tree.{Gains, IsKnown, IsLearntFrom, Reply}
-use Rattle.zic_zones.specs.Tree.{Grows, TreeOf}
-use Rattle.zic_zones.specs.Zones.{Agree}
+use Rattle.zic_files.specs.Tree.{Gains, IsKnown, IsLearntFrom, Learnt, Reply}
+use Rattle.zic_zones.specs.Tree.{Grows, MayHave, TreeOf}
+use Rattle.zic_zones.specs.Zones.{OldAgree, ReleasesAgree, alone}
+use Rattle.zic_zones.specs.declared.releases.Releases.{Releases}
 
 gains_none : (replied : Option (List Reply)) → Gains replied replied []
 gains_none None = tt
@@ -42,10 +43,19 @@ grows_then replied a b c first second = record {
 }
 
 -- Files that agree with what was learnt agree with what was learnt before.
-pub grows_narrows : {T : Type 0} (replied : T → Option (List Reply)) (a b : TreeOf T) (files : List File) → Grows replied a b → Agree (IsKnown b.learnt) b.learnt.files files
-    → Agree (IsKnown a.learnt) a.learnt.files files
-grows_narrows replied a b files grows are = record {
-  sound = are.sound;
-  still = λ file has. are.still file (grows.files file has);
-  only = λ file has known. grows.only file (are.only file has (λ proper. grows.requested file.name (known proper))) known;
+pub grows_narrows : {T : Type 0} (replied : T → Option (List Reply)) (a b : TreeOf T) (releases : Releases) → Grows replied a b → MayHave b.learnt releases → MayHave a.learnt releases
+grows_narrows replied a b releases grows are = record {
+  agree = record {
+    sound = are.agree.sound;
+    still = λ file has. are.agree.still file (grows.files file has);
+    only = λ file has known. grows.only file (are.agree.only file has (λ proper. grows.requested file.name (known proper))) known;
+  };
+  alone = are.alone;
+}
+
+-- They agree with those that are known.
+pub grows_agrees : (learnt : Learnt) (releases : Releases) → MayHave learnt releases → ReleasesAgree (IsKnown learnt) (alone learnt.files) releases
+grows_agrees learnt releases are = record {
+  zones = are.agree;
+  old = subst (λ (old : Option (List File)). OldAgree (IsKnown learnt) None old) (sym are.alone) tt;
 }

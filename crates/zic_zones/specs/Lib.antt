@@ -3,6 +3,7 @@ pub mod States
 pub mod Source
 pub mod Tree
 pub mod Growing
+pub mod Compared
 pub mod Laws
 pub mod Resolved
 pub mod code

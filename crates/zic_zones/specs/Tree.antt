@@ -1,12 +1,19 @@
 -- The zones of a tree of which names were requested: own choice.
-use Rattle.std.specs.Prelude.{ℕ, List, ◌++◌, Option, Contains}
+use Rattle.std.specs.Prelude.{◌≡◌, ℕ, List, ◌++◌, Option, None, Contains}
 use Rattle.zic_files.specs.File.{File}
 use Rattle.zic_files.specs.Tree.{AreRequestedOnce, AreOfName, Gains, IsKnown, IsLearntFrom, Learnt, Reply}
+use Rattle.zic_zones.specs.Zones.{Agree}
+use Rattle.zic_zones.specs.declared.releases.Releases.{Releases}
 
 -- a tree, and the names and files that were learnt of it
 pub record TreeOf (T : Type 0) : Type 0 where
   pub tree : T
   pub learnt : Learnt
+
+-- The files of a release that is compared with none agree with those that were learnt.
+pub record MayHave (learnt : Learnt) (releases : Releases) : Type 0 where
+  pub agree : Agree (IsKnown learnt) learnt.files releases.zones
+  pub alone : releases.old ≡ None
 
 -- More names of zones were requested of the tree, each once, and its files were learnt. The names and files from before stay, and no file
 -- of a name that was known was added to them.

@@ -9,6 +9,7 @@ use Rattle.zic_plan.specs.declared.layout.ZoneFrom.TheVariants as zone
 use Rattle.zic_posix.specs.declared.instants.Instants.{Instants}
 use Rattle.zic_tzif.specs.Answer.{Answers, AnswersThroughout}
 use Rattle.zic_tzif.specs.States.{IsStateOfNumber}
+use Rattle.zic_zones.specs.declared.releases.Releases.{Releases}
 
 -- some file has this name
 abbrev pub is_named : List File → List ℕ → Bool
@@ -33,6 +34,22 @@ pub record Agree (settled : List ℕ → Type 0) (known files : List File) : Typ
   pub sound : AreSoundFiles files
   pub still : (file : File) → Contains known file → Contains files file
   pub only : (file : File) → Contains files file → settled file.name → Contains known file
+
+-- the files of a release that is compared with none
+abbrev pub alone : List File → Releases
+alone files = record { zones = files; old = None }
+
+-- The files of another release agree with those of it that are known. Both have another release, or neither has.
+abbrev pub OldAgree : (List ℕ → Type 0) → Option (List File) → Option (List File) → Type 0
+OldAgree settled None None = Unit {0}
+OldAgree settled None (Some files) = ⊥
+OldAgree settled (Some known) None = ⊥
+OldAgree settled (Some known) (Some files) = Agree settled known files
+
+-- The files of one release or of two agree with those that are known.
+pub record ReleasesAgree (settled : List ℕ → Type 0) (known releases : Releases) : Type 0 where
+  pub zones : Agree settled known.zones releases.zones
+  pub old : OldAgree settled known.old releases.old
 
 -- the file of this number shows the state of that number at the second
 abbrev pub IsShownAt : List File → ℕ → ℤ → ℕ → Type 0

@@ -2,10 +2,12 @@
 //! once its name is needed.
 #![tactic(auto)]
 
+mod compared;
 pub mod laws;
 mod name_keys;
 mod near;
 mod ready;
+mod releases;
 mod row_states;
 mod row_zones;
 mod runs;
@@ -16,6 +18,8 @@ mod texts;
 mod tree_zones;
 mod zones;
 
+pub use compared::Compared;
+pub use releases::Releases;
 pub use row_states::RowStates;
 pub use row_zones::{OnlyInstant, RowSpan, RowZones};
 pub use source_zones::SourceZones;

@@ -4,6 +4,7 @@ ghost use Rattle.std.specs.Prelude.{◌≡◌, IfOk};
 ghost use Rattle.zic_zones.specs.code.Ready.{AreReady};
 
 use crate::ready::Ready;
+use crate::releases::Releases;
 use crate::row_zones::RowZones;
 use crate::tables::Expected;
 use crate::zones::Zones;
@@ -119,12 +120,13 @@ impl<'a> Zones for SourceZones<'a> {
     ghost use Rattle.std.specs.Prelude.{◌≡◌, refl};
     ghost use Rattle.zic_files.specs.Sound.{AreSoundFiles};
     ghost use Rattle.zic_zones.specs.Source.{source_agrees, source_narrows, source_then};
+    ghost use Rattle.zic_zones.specs.Zones.{alone};
 
-    ghost known = { λ z. z };
+    ghost known = { λ z. alone z };
 
     ghost settled = { λ z name. Unit {0} };
 
-    ghost may_be = { λ z files. (files ≡ z) × AreSoundFiles z };
+    ghost may_be = { λ z releases. (releases ≡ alone z) × AreSoundFiles z };
 
     ghost grown = { λ a b. b ≡ a };
 
@@ -161,11 +163,12 @@ impl<'a> Zones for SourceZones<'a> {
         Ok(())
     }
 
-    fn ready(&self) -> RowZones<'_> {
-        RowZones {
+    fn ready(&self) -> Releases<'_> {
+        let zones = RowZones {
             files: self.files,
             ready: &self.ready,
-        }
+        };
+        Releases { zones, old: None }
     }
 
     ghost same = { λ _. refl };

@@ -9,6 +9,7 @@ ghost use Rattle.zic_zones.specs.Tree.{Breaks, Grows};
 ghost use Rattle.zic_zones.specs.Zones.{field_at};
 
 use crate::ready::Ready;
+use crate::releases::Releases;
 use crate::row_zones::RowZones;
 use crate::tables::Expected;
 use crate::zones::Zones;
@@ -142,15 +143,15 @@ impl<T: ZoneTree> TreeZones<T> {
 
 impl<T: ZoneTree> Zones for TreeZones<T> {
     ghost use Rattle.zic_files.specs.Tree.{IsKnown};
-    ghost use Rattle.zic_zones.specs.Growing.{grows_narrows, grows_same, grows_then};
-    ghost use Rattle.zic_zones.specs.Tree.{Requests, Breaks, Grows};
-    ghost use Rattle.zic_zones.specs.Zones.{Agree};
+    ghost use Rattle.zic_zones.specs.Growing.{grows_agrees, grows_narrows, grows_same, grows_then};
+    ghost use Rattle.zic_zones.specs.Tree.{Breaks, Grows, MayHave, Requests};
+    ghost use Rattle.zic_zones.specs.Zones.{alone};
 
-    ghost known = { λ z. z.learnt.files };
+    ghost known = { λ z. alone z.learnt.files };
 
     ghost settled = { λ z name. IsKnown z.learnt name };
 
-    ghost may_be = { λ z files. Agree (IsKnown z.learnt) z.learnt.files files };
+    ghost may_be = { λ z releases. MayHave z.learnt releases };
 
     ghost grown = { λ a b. Grows T.replied a b };
 
@@ -181,11 +182,12 @@ impl<T: ZoneTree> Zones for TreeZones<T> {
         }
     }
 
-    fn ready(&self) -> RowZones<'_> {
-        RowZones {
+    fn ready(&self) -> Releases<'_> {
+        let zones = RowZones {
             files: self.learnt.files(),
             ready: &self.ready,
-        }
+        };
+        Releases { zones, old: None }
     }
 
     ghost same = { grows_same T.replied };
@@ -194,7 +196,7 @@ impl<T: ZoneTree> Zones for TreeZones<T> {
 
     ghost narrows = { grows_narrows T.replied };
 
-    ghost agrees = { λ z files are. are };
+    ghost agrees = { λ z releases are. grows_agrees z.learnt releases are };
 }
 
 /// Returns whether two fields of a piece have the same bytes, and so the same text.

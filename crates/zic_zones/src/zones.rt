@@ -1,6 +1,6 @@
 //! Zones by name, which may get to know more.
 
-use crate::row_zones::RowZones;
+use crate::releases::Releases;
 use std::alloc::{AllocError, Global};
 use zic_columns::Round;
 use zic_plan::ZoneFrom;
@@ -9,17 +9,17 @@ use zic_plan::ZoneFrom;
 pub trait Zones {
     ghost use Rattle.std.specs.Prelude.{◌≡◌, List, ℕ, All, map, OnOk, OnErr};
     ghost use Rattle.zic_columns.specs.Round.{records_of};
-    ghost use Rattle.zic_files.specs.File.{File};
-    ghost use Rattle.zic_zones.specs.Zones.{Agree, zone_in};
+    ghost use Rattle.zic_zones.specs.Zones.{ReleasesAgree, zone_in};
+    ghost use Rattle.zic_zones.specs.declared.releases.Releases.{Releases};
 
-    // the files that are known
-    ghost known: { Self → List File };
+    // the files that are known, of a release or of two
+    ghost known: { Self → Releases };
 
-    // No other file of this name will be known.
+    // No other file of this name will be known, of no release.
     ghost settled: { Self → List ℕ → Type 0 };
 
     // Rows may be made by these files, as far as is known.
-    ghost may_be: { Self → List File → Type 0 };
+    ghost may_be: { Self → Releases → Type 0 };
 
     // Asking for names can turn the first into the second.
     ghost grown: { Self → Self → Type 0 };
@@ -58,16 +58,16 @@ pub trait Zones {
         ensures broken { OnErr result (broken self.old self.new) };
 
     /// Returns the files that are known, ready for rows.
-    fn ready(&self) -> RowZones<'_>
+    fn ready(&self) -> Releases<'_>
         ensures { result ≡ known self.now };
 
     ghost same: { (z : Self) → grown z z };
 
     ghost then: { (a b c : Self) → grown a b → grown b c → grown a c };
 
-    ghost narrows: { (a b : Self) (files : List File) → grown a b → may_be b files
-        → may_be a files };
+    ghost narrows: { (a b : Self) (releases : Releases) → grown a b → may_be b releases
+        → may_be a releases };
 
-    ghost agrees: { (z : Self) (files : List File) → may_be z files
-        → Agree (settled z) (known z) files };
+    ghost agrees: { (z : Self) (releases : Releases) → may_be z releases
+        → ReleasesAgree (settled z) (known z) releases };
 }
