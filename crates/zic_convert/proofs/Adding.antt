@@ -11,7 +11,7 @@ use Rattle.zic_columns.specs.Laws.{RecordsByAreExchanged, TextsByAreExchanged}
 use Rattle.zic_columns.specs.Lines.{records_by, exchanged_record}
 use Rattle.zic_columns.specs.Own.{CsvRecord}
 use Rattle.zic_columns.specs.Round.{HasNoRecord, IsNextTooLong, may_have}
-use Rattle.zic_files.specs.File.{File}
+use Rattle.zic_zones.specs.declared.releases.Releases.{Releases}
 use Rattle.zic_plan.specs.Delimiter.{is_delimiter}
 use Rattle.zic_plan.specs.Layout.{records_before}
 use Rattle.zic_plan.specs.declared.layout.Layout.{Layout}
@@ -39,59 +39,59 @@ pub ok_if : {X E : Type 0} (r : Result X E) (P : Type 0) → is_err r ≡ false 
 ok_if (Ok x) P e h = h
 ok_if (Err x) P e h = absurd (cc e)
 
-module _ (layout : Layout) (files : List File) (most : ℕ) where
+module _ (layout : Layout) (releases : Releases) (most : ℕ) where
   -- there are no more rows than there may be
-  texts_within : (number : ℕ) (xs : List CsvRecord) (ts : List (List ℕ)) (fault : Option RowKind) → RecordsConvertBy layout files most number xs ts fault → number ≤ most + 1 → number + length ts ≤ most + 1
+  texts_within : (number : ℕ) (xs : List CsvRecord) (ts : List (List ℕ)) (fault : Option RowKind) → RecordsConvertBy layout releases most number xs ts fault → number ≤ most + 1 → number + length ts ≤ most + 1
   texts_within number xs [] fault come h = omega (arith, h)
   texts_within number [] (t ∷ ts) fault come h = absurd cc
   texts_within number (x ∷ xs) (t ∷ ts) fault come h =
-      let here = within layout files most number x come.0 in
+      let here = within layout releases most number x come.0 in
       let rest = texts_within (number + 1) xs ts fault come.2 (omega (arith, here)) in
       omega (arith, rest)
 
-  pub rows_within : (number : ℕ) (xs : List CsvRecord) (rows : RowsOf) → AreRowsOf layout files most number xs rows → number ≤ most + 1 → number + rows.count ≤ most + 1
+  pub rows_within : (number : ℕ) (xs : List CsvRecord) (rows : RowsOf) → AreRowsOf layout releases most number xs rows → number ≤ most + 1 → number + rows.count ≤ most + 1
   rows_within number xs rows are h = omega (arith, are.count, texts_within number xs are.texts rows.fault are.come h)
 
   -- rows that a fault ended are those of more records
-  pub ended_more : (first : ℕ) (xs ys : List CsvRecord) (rows : RowsOf) → IsSome rows.fault → AreRowsOf layout files most first xs rows → AreRowsOf layout files most first (xs ++ ys) rows
+  pub ended_more : (first : ℕ) (xs ys : List CsvRecord) (rows : RowsOf) → IsSome rows.fault → AreRowsOf layout releases most first xs rows → AreRowsOf layout releases most first (xs ++ ys) rows
   ended_more first xs ys rows has are = by_fault rows.fault refl where
-    by_fault : (fault : Option RowKind) → rows.fault ≡ fault → AreRowsOf layout files most first (xs ++ ys) rows
+    by_fault : (fault : Option RowKind) → rows.fault ≡ fault → AreRowsOf layout releases most first (xs ++ ys) rows
     by_fault None e = absurd (cc (subst IsSome e has))
-    by_fault (Some kind) e = rows_followed layout files most first xs ys rows rows (Some kind) e are (λ none. absurd (cc (sym none ∙ e)))
+    by_fault (Some kind) e = rows_followed layout releases most first xs ys rows rows (Some kind) e are (λ none. absurd (cc (sym none ∙ e)))
 
   -- rows, none of which ends the run, and those of the records after theirs
-  pub rows_on : (first : ℕ) (xs ys : List CsvRecord) (rows more : RowsOf) → rows.fault ≡ None → AreRowsOf layout files most first xs rows → AreRowsOf layout files most (first + rows.count) ys more
-      → AreRowsOf layout files most first (xs ++ ys) (followed_by rows more None)
+  pub rows_on : (first : ℕ) (xs ys : List CsvRecord) (rows more : RowsOf) → rows.fault ≡ None → AreRowsOf layout releases most first xs rows → AreRowsOf layout releases most (first + rows.count) ys more
+      → AreRowsOf layout releases most first (xs ++ ys) (followed_by rows more None)
   rows_on first xs ys rows more none are next =
-      rows_followed layout files most first xs ys rows more None none are
-      (λ _. subst (λ (n : ℕ). AreRowsOf layout files most (first + n) ys more) (as_many layout files most first xs rows are none) next)
+      rows_followed layout releases most first xs ys rows more None none are
+      (λ _. subst (λ (n : ℕ). AreRowsOf layout releases most (first + n) ys more) (as_many layout releases most first xs rows are none) next)
 
   -- those of the pieces of a round
-  pub round_ended : (first i : ℕ) (pieces : List (List ℕ)) (rows : RowsOf) → IsSome rows.fault → AreRowsOf layout files most first (records_of_all layout.delimiter (take i pieces)) rows
-      → AreRowsOf layout files most first (records_of_all layout.delimiter pieces) rows
+  pub round_ended : (first i : ℕ) (pieces : List (List ℕ)) (rows : RowsOf) → IsSome rows.fault → AreRowsOf layout releases most first (records_of_all layout.delimiter (take i pieces)) rows
+      → AreRowsOf layout releases most first (records_of_all layout.delimiter pieces) rows
   round_ended first i pieces rows has are =
       let d = layout.delimiter in
       let parts : records_of_all d (take i pieces) ++ records_of_all d (drop i pieces) ≡ records_of_all d pieces =
       sym (ap (records_of_all d) (sym (take-append-drop i pieces)) ∙ flat_map-append (csv_records_in d) (take i pieces) (drop i pieces)) in
-      subst (λ (l : List CsvRecord). AreRowsOf layout files most first l rows) parts (ended_more first (records_of_all d (take i pieces)) (records_of_all d (drop i pieces)) rows has are)
+      subst (λ (l : List CsvRecord). AreRowsOf layout releases most first l rows) parts (ended_more first (records_of_all d (take i pieces)) (records_of_all d (drop i pieces)) rows has are)
 
   pub round_on : (first i : ℕ) (pieces : List (List ℕ)) (piece : List ℕ) (rows more : RowsOf) → slice_get pieces i ≡ Some piece → rows.fault ≡ None
-      → AreRowsOf layout files most first (records_of_all layout.delimiter (take i pieces)) rows → AreRowsOf layout files most (first + rows.count) (csv_records_in layout.delimiter piece) more
-      → AreRowsOf layout files most first (records_of_all layout.delimiter (take (i + 1) pieces)) (followed_by rows more None)
+      → AreRowsOf layout releases most first (records_of_all layout.delimiter (take i pieces)) rows → AreRowsOf layout releases most (first + rows.count) (csv_records_in layout.delimiter piece) more
+      → AreRowsOf layout releases most first (records_of_all layout.delimiter (take (i + 1) pieces)) (followed_by rows more None)
   round_on first i pieces piece rows more at none are next =
       let d = layout.delimiter in
       let parts : records_of_all d (take i pieces) ++ csv_records_in d piece ≡ records_of_all d (take (i + 1) pieces) =
       sym (ap (records_of_all d) (take_next pieces i piece at) ∙ flat_map-append (csv_records_in d) (take i pieces) (piece ∷ [])
       ∙ ap (λ (l : List CsvRecord). records_of_all d (take i pieces) ++ l) (append-nil (csv_records_in d piece))) in
-      subst (λ (l : List CsvRecord). AreRowsOf layout files most first l (followed_by rows more None)) parts (rows_on first (records_of_all d (take i pieces)) (csv_records_in d piece) rows more none are next)
+      subst (λ (l : List CsvRecord). AreRowsOf layout releases most first l (followed_by rows more None)) parts (rows_on first (records_of_all d (take i pieces)) (csv_records_in d piece) rows more none are next)
 
   -- those of what is left of a column: none yet
-  pub left_at_start : (known : Option (List ℕ)) → AreRowsSoFar layout files most known known (record { text = []; count = 0; fault = None; faults = [] })
-  left_at_start known = if_some known _ (λ bytes e. ([], bytes, e, refl, no_rows layout files most 1))
+  pub left_at_start : (known : Option (List ℕ)) → AreRowsSoFar layout releases most known known (record { text = []; count = 0; fault = None; faults = [] })
+  left_at_start known = if_some known _ (λ bytes e. ([], bytes, e, refl, no_rows layout releases most 1))
 
   -- those of what was taken next
-  pub left_on : (known left next : Option (List ℕ)) (rs : List CsvRecord) (rows more : RowsOf) → rows.fault ≡ None → AreRowsSoFar layout files most known left rows → Takes layout left next rs
-      → AreRowsOf layout files most (rows.count + 1) rs more → AreRowsSoFar layout files most known next (followed_by rows more None)
+  pub left_on : (known left next : Option (List ℕ)) (rs : List CsvRecord) (rows more : RowsOf) → rows.fault ≡ None → AreRowsSoFar layout releases most known left rows → Takes layout left next rs
+      → AreRowsOf layout releases most (rows.count + 1) rs more → AreRowsSoFar layout releases most known next (followed_by rows more None)
   left_on known left next rs rows more none far takes are = if_some known _ (λ bytes e.
       let (done, rest, at, same, so_far) = for_some known _ bytes far e in
       let (after, there, parts) = for_some left _ rest takes at in
@@ -100,45 +100,45 @@ module _ (layout : Layout) (files : List File) (most : ℕ) where
         after,
         there,
         same ∙ ap (λ (l : List CsvRecord). done ++ l) parts ∙ sym (append_assoc done rs (records_in layout after)),
-        rows_on 1 done rs rows more none so_far (subst (λ (n : ℕ). AreRowsOf layout files most n rs more) number are),
+        rows_on 1 done rs rows more none so_far (subst (λ (n : ℕ). AreRowsOf layout releases most n rs more) number are),
       ))
 
   -- a fault ended them
-  pub left_ended : (known left : Option (List ℕ)) (rows : RowsOf) → IsSome rows.fault → AreRowsSoFar layout files most known left rows → AreRowsOfLeft layout files most known rows
+  pub left_ended : (known left : Option (List ℕ)) (rows : RowsOf) → IsSome rows.fault → AreRowsSoFar layout releases most known left rows → AreRowsOfLeft layout releases most known rows
   left_ended known left rows has far = if_some known _ (λ bytes e.
       let (done, rest, at, same, so_far) = for_some known _ bytes far e in
-      subst (λ (l : List CsvRecord). AreRowsOf layout files most 1 l rows) (sym same) (ended_more 1 done (records_in layout rest) rows has so_far))
+      subst (λ (l : List CsvRecord). AreRowsOf layout releases most 1 l rows) (sym same) (ended_more 1 done (records_in layout rest) rows has so_far))
 
   -- or no record is left
-  pub left_done : (known left next : Option (List ℕ)) (rows : RowsOf) → AreRowsSoFar layout files most known left rows → Takes layout left next [] → HasNoRecord layout.records next
-      → AreRowsOfLeft layout files most known rows
+  pub left_done : (known left next : Option (List ℕ)) (rows : RowsOf) → AreRowsSoFar layout releases most known left rows → Takes layout left next [] → HasNoRecord layout.records next
+      → AreRowsOfLeft layout releases most known rows
   left_done known left next rows far takes end = if_some known _ (λ bytes e.
       let (done, rest, at, same, so_far) = for_some known _ bytes far e in
       let (after, there, parts) = for_some left _ rest takes at in
       let last : records_in layout after ≡ [] = ap (map (exchanged_record layout.delimiter)) (for_some next _ after end there) in
       let all : done ≡ records_in layout bytes = sym (same ∙ ap (λ (l : List CsvRecord). done ++ l) (parts ∙ last) ∙ append-nil done) in
-      subst (λ (l : List CsvRecord). AreRowsOf layout files most 1 l rows) all so_far)
+      subst (λ (l : List CsvRecord). AreRowsOf layout releases most 1 l rows) all so_far)
 
   -- or the next record has too many bytes
-  pub left_long : (known left next : Option (List ℕ)) (rows : RowsOf) (kind : RowKind) → rows.fault ≡ None → AreRowsSoFar layout files most known left rows → Takes layout left next []
+  pub left_long : (known left next : Option (List ℕ)) (rows : RowsOf) (kind : RowKind) → rows.fault ≡ None → AreRowsSoFar layout releases most known left rows → Takes layout left next []
       → IsNextTooLong (longest_of layout) layout.records next
-      → ((given : CsvRecord) → may_have (longest_of layout) (length given.own) ≡ false → ends_by layout files most (rows.count + 1) given ≡ Some kind)
-      → AreRowsOfLeft layout files most known (record rows { fault = Some kind })
+      → ((given : CsvRecord) → may_have (longest_of layout) (length given.own) ≡ false → ends_by layout releases.zones most (rows.count + 1) given ≡ Some kind)
+      → AreRowsOfLeft layout releases most known (record rows { fault = Some kind })
   left_long known left next rows kind none far takes long ends = if_some known _ (λ bytes e.
       let (done, rest, at, same, so_far) = for_some known _ bytes far e in
       let (after, there, parts) = for_some left _ rest takes at in
       let (given, over, others, first) = long_comes_next layout next long after there in
       let number : rows.count + 1 ≡ 1 + rows.count = omega arith in
-      let here = subst (λ (n : ℕ). ends_by layout files most n given ≡ Some kind) number (ends given over) in
-      let are = subst (λ (f : Option RowKind). AreRowsOf layout files most 1 done (record rows { fault = f })) none so_far in
-      subst (λ (l : List CsvRecord). AreRowsOf layout files most 1 l (record rows { fault = Some kind })) (ap (λ (l : List CsvRecord). done ++ l) (sym (parts ∙ first)) ∙ sym same)
-      (one_fault layout files most 1 done rows.text rows.count rows.faults are given others kind here))
+      let here = subst (λ (n : ℕ). ends_by layout releases.zones most n given ≡ Some kind) number (ends given over) in
+      let are = subst (λ (f : Option RowKind). AreRowsOf layout releases most 1 done (record rows { fault = f })) none so_far in
+      subst (λ (l : List CsvRecord). AreRowsOf layout releases most 1 l (record rows { fault = Some kind })) (ap (λ (l : List CsvRecord). done ++ l) (sym (parts ∙ first)) ∙ sym same)
+      (one_fault layout releases most 1 done rows.text rows.count rows.faults are given others kind here))
 
   -- the header and the rows of a column in which the delimiter and commas are exchanged
   pub rows_by : RecordsByAreExchanged → TextsByAreExchanged → is_delimiter layout.delimiter ≡ true → (column : List ℕ) (inside left : Option (List ℕ)) → inside ≡ Some (exchanged layout.delimiter (read_by layout column))
       → IfSome inside (λ bytes. BeginsRows layout bytes left) → (empty named headed text : List ℕ) → empty ≡ [] → Appends (Some empty) (Some named) (names_line layout)
-      → IfSome inside (λ bytes. Appends (Some named) (Some headed) (own_line_in layout bytes)) → (rows : RowsOf) → AreRowsOfLeft layout files most left rows → text ≡ headed ++ rows.text
-      → AreRowsByLayout files layout most column text rows.count rows.fault rows.faults
+      → IfSome inside (λ bytes. Appends (Some named) (Some headed) (own_line_in layout bytes)) → (rows : RowsOf) → AreRowsOfLeft layout releases most left rows → text ≡ headed ++ rows.text
+      → AreRowsByLayout releases layout most column text rows.count rows.fault rows.faults
   rows_by law own_law can column inside left is begins empty named headed text none names head rows are e =
       let d = layout.delimiter in
       let k = records_before layout.header in
@@ -147,7 +147,7 @@ module _ (layout : Layout) (files : List File) (most : ℕ) where
       let all : records_in layout rest ≡ drop k (records_in layout (strip_bom bytes)) =
       ap (map (exchanged_record d)) same ∙ sym (drop-map (exchanged_record d) k (records_by layout.records (strip_bom bytes))) in
       let line = subst (λ (l : List ℕ). Appends (Some named) (Some headed) l) (own_line_delimited layout own_law can column) (for_some inside _ bytes head is) in
-      let made = subst (λ (l : List CsvRecord). AreRowsOf layout files most 1 l rows) all (for_some left _ rest are at) in
+      let made = subst (λ (l : List CsvRecord). AreRowsOf layout releases most 1 l rows) all (for_some left _ rest are at) in
       record {
         row_records = drop k (records_in layout (strip_bom bytes));
         are = records_alike layout law can column;

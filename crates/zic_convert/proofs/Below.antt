@@ -7,7 +7,7 @@ use Rattle.std.specs.List.{concat}
 use Rattle.std.specs.Prelude.{IfSome}
 use Rattle.csv.proofs.WriteFacts.{appends-more}
 use Rattle.zic_columns.specs.Own.{CsvRecord}
-use Rattle.zic_files.specs.File.{File}
+use Rattle.zic_zones.specs.declared.releases.Releases.{Releases}
 use Rattle.zic_plan.specs.declared.layout.Header.{Header}
 use Rattle.zic_plan.specs.declared.layout.Layout.{Layout}
 use Rattle.zic_plan.specs.declared.layout.RowStart.{RowStart}
@@ -24,11 +24,11 @@ use Rattle.zic_convert.specs.code.Progress.{ConvertsColumn, EndsInColumn, output
 use Rattle.zic_convert.proofs.Bytes.{starts_later}
 use Rattle.zic_convert.proofs.Options.{for_some, if_some}
 
-module _ (layout : Layout) (files : List File) (most : ℕ) (limit : Option ℕ) (row_records : List CsvRecord) (head : List ℕ) (old mid new : Option (List ℕ)) (log last : Option (List RowNote)) (begun : Appends old mid head) where
-  pub rows_below : (n : ℕ) → WritesRows layout files most limit [] row_records n (output mid new log last) → WritesRows layout files most limit head row_records n (output old new log last)
+module _ (layout : Layout) (releases : Releases) (most : ℕ) (limit : Option ℕ) (row_records : List CsvRecord) (head : List ℕ) (old mid new : Option (List ℕ)) (log last : Option (List RowNote)) (begun : Appends old mid head) where
+  pub rows_below : (n : ℕ) → WritesRows layout releases most limit [] row_records n (output mid new log last) → WritesRows layout releases most limit head row_records n (output old new log last)
   rows_below n w = (record { texts = w.0.texts; converts = w.0.converts; count = w.0.count; wrote = appends-more old mid new head (concat w.0.texts) begun w.0.wrote }, w.1, w.2)
 
-  module _ (why : RunStop) (w : EndsAfterLines layout files most limit [] row_records why (output mid new log last)) where
+  module _ (why : RunStop) (w : EndsAfterLines layout releases most limit [] row_records why (output mid new log last)) where
     -- the first lines, with the header before them
     with_head : (k : ℕ) → concat (take (suc (k - 1)) (head ∷ w.texts)) ≡ head ++ concat (take k ([] ∷ w.texts))
     with_head zero = refl
@@ -36,7 +36,7 @@ module _ (layout : Layout) (files : List File) (most : ℕ) (limit : Option ℕ)
         let same : suc k - 1 ≡ k = omega arith in
         ap (λ (j : ℕ). concat (take (suc j) (head ∷ w.texts))) same
 
-    pub lines_below : EndsAfterLines layout files most limit head row_records why (output old new log last)
+    pub lines_below : EndsAfterLines layout releases most limit head row_records why (output old new log last)
     lines_below =
         let first = concat (take w.lines ([] ∷ w.texts)) in
         let all = concat (take w.upto ([] ∷ w.texts)) in
@@ -57,12 +57,12 @@ module _ (layout : Layout) (files : List File) (most : ℕ) (limit : Option ℕ)
             | inr failed ↦ inr failed
           ];
           wrote = appends-more old mid new head w.part begun w.wrote;
-          noted = subst (λ (k : ℕ). Notes log last (faults_by layout files most 1 (take k row_records))) (sym lines) w.noted;
-          few = subst (λ (k : ℕ). AreFew limit (faults_by layout files most 1 (take k row_records))) (sym lines) w.few;
-          may = subst (λ (k : ℕ). AreFew limit (faults_by layout files most 1 (take k row_records))) (sym upto) w.may;
+          noted = subst (λ (k : ℕ). Notes log last (faults_by layout releases.zones most 1 (take k row_records))) (sym lines) w.noted;
+          few = subst (λ (k : ℕ). AreFew limit (faults_by layout releases.zones most 1 (take k row_records))) (sym lines) w.few;
+          may = subst (λ (k : ℕ). AreFew limit (faults_by layout releases.zones most 1 (take k row_records))) (sym upto) w.may;
         }
 
-  pub ends_below : (why : RunStop) → EndsIn layout files most limit [] row_records why (output mid new log last) → EndsIn layout files most limit head row_records why (output old new log last)
+  pub ends_below : (why : RunStop) → EndsIn layout releases most limit [] row_records why (output mid new log last) → EndsIn layout releases most limit head row_records why (output old new log last)
   ends_below (stop.Row row kind) (inl w) = inl
       (record { texts = w.0.texts; converts = w.0.converts; number = w.0.number; wrote = appends-more old mid new head (concat w.0.texts) begun w.0.wrote }, w.1, w.2)
   ends_below (stop.Row row kind) (inr w) = inr (record {
@@ -82,25 +82,25 @@ module _ (layout : Layout) (files : List File) (most : ℕ) (limit : Option ℕ)
   ends_below stop.NoThread w = lines_below stop.NoThread w
 
 -- one of the two lines of a header has no byte
-one_line : (start : RowStart) (style : Style) (time : TimeFrom) (header : Header) (d : ℕ) (line own : List ℕ) → (names_of start header line ≡ []) ⊎ (header_of start style time d own ≡ [])
-one_line starts.Fields style time header d line own = inr refl
-one_line starts.Record style time header d line own = inl refl
+one_line : (start : RowStart) (names : List ℕ) (header : Header) (d : ℕ) (line own : List ℕ) → (names_of start header line ≡ []) ⊎ (header_of start names d own ≡ [])
+one_line starts.Fields names header d line own = inr refl
+one_line starts.Record names header d line own = inl refl
 
 -- ---- below the line of names
 
-module _ (layout : Layout) (files : List File) (most : ℕ) (limit : Option ℕ) (column : List ℕ) (row_records : List CsvRecord) (old mid new : Option (List ℕ)) (log last : Option (List RowNote))
+module _ (layout : Layout) (releases : Releases) (most : ℕ) (limit : Option ℕ) (column : List ℕ) (row_records : List CsvRecord) (old mid new : Option (List ℕ)) (log last : Option (List RowNote))
     (begun : Appends old mid (names_line layout)) where
   longer : (texts : List (List ℕ)) → Appends mid new (own_line layout column ++ concat texts) → Appends old new (header_text layout column ++ concat texts)
   longer texts wrote =
       subst (λ (l : List ℕ). Appends old new l) (sym (append_assoc (names_line layout) (own_line layout column) (concat texts)))
       (appends-more old mid new (names_line layout) (own_line layout column ++ concat texts) begun wrote)
 
-  pub rows_after_names : (n : ℕ) → WritesRows layout files most limit (own_line layout column) row_records n (output mid new log last) → WritesRows layout files most limit (header_text layout column) row_records n (output old new log last)
+  pub rows_after_names : (n : ℕ) → WritesRows layout releases most limit (own_line layout column) row_records n (output mid new log last) → WritesRows layout releases most limit (header_text layout column) row_records n (output old new log last)
   rows_after_names n w = (record { texts = w.0.texts; converts = w.0.converts; count = w.0.count; wrote = longer w.0.texts w.0.wrote }, w.1, w.2)
 
   module _ (why : RunStop) where
-    no_names : (names own : List ℕ) → Appends old mid names → names ≡ [] → EndsAfterLines layout files most limit own row_records why (output mid new log last)
-        → EndsAfterLines layout files most limit (names ++ own) row_records why (output old new log last)
+    no_names : (names own : List ℕ) → Appends old mid names → names ≡ [] → EndsAfterLines layout releases most limit own row_records why (output mid new log last)
+        → EndsAfterLines layout releases most limit (names ++ own) row_records why (output old new log last)
     no_names names own first none w = rw none (record {
       texts = w.texts;
       fault = w.fault;
@@ -117,28 +117,28 @@ module _ (layout : Layout) (files : List File) (most : ℕ) (limit : Option ℕ)
       may = w.may;
     })
 
-    no_own : (names own : List ℕ) → Appends old mid names → own ≡ [] → EndsAfterLines layout files most limit own row_records why (output mid new log last)
-        → EndsAfterLines layout files most limit (names ++ own) row_records why (output old new log last)
+    no_own : (names own : List ℕ) → Appends old mid names → own ≡ [] → EndsAfterLines layout releases most limit own row_records why (output mid new log last)
+        → EndsAfterLines layout releases most limit (names ++ own) row_records why (output old new log last)
     no_own names own first none w =
-        subst (λ (l : List ℕ). EndsAfterLines layout files most limit l row_records why (output old new log last)) (sym (ap (λ (l : List ℕ). names ++ l) none ∙ append-nil names))
-        (lines_below layout files most limit row_records names old mid new log last first why (rw none at w))
+        subst (λ (l : List ℕ). EndsAfterLines layout releases most limit l row_records why (output old new log last)) (sym (ap (λ (l : List ℕ). names ++ l) none ∙ append-nil names))
+        (lines_below layout releases most limit row_records names old mid new log last first why (rw none at w))
 
-    lines_after_names : EndsAfterLines layout files most limit (own_line layout column) row_records why (output mid new log last)
-        → EndsAfterLines layout files most limit (header_text layout column) row_records why (output old new log last)
+    lines_after_names : EndsAfterLines layout releases most limit (own_line layout column) row_records why (output mid new log last)
+        → EndsAfterLines layout releases most limit (header_text layout column) row_records why (output old new log last)
     lines_after_names w = elim (one_line layout.start layout.style layout.from layout.header layout.delimiter _ _) [
       | inl none ↦ no_names (names_line layout) (own_line layout column) begun none w
       | inr none ↦ no_own (names_line layout) (own_line layout column) begun none w
     ]
 
-    with_names : EndsAfterLines layout files most limit (own_line layout column) row_records why (output mid new log last) → HasNames layout (output old new log last)
+    with_names : EndsAfterLines layout releases most limit (own_line layout column) row_records why (output mid new log last) → HasNames layout (output old new log last)
     with_names w = (w.part, appends-more old mid new (names_line layout) w.part begun w.wrote)
 
-    both : EndsAfterLines layout files most limit (own_line layout column) row_records why (output mid new log last)
-        → EndsAfterLines layout files most limit (header_text layout column) row_records why (output old new log last) × HasNames layout (output old new log last)
+    both : EndsAfterLines layout releases most limit (own_line layout column) row_records why (output mid new log last)
+        → EndsAfterLines layout releases most limit (header_text layout column) row_records why (output old new log last) × HasNames layout (output old new log last)
     both w = (lines_after_names w, with_names w)
 
-  pub ends_after_names : (why : RunStop) → EndsIn layout files most limit (own_line layout column) row_records why (output mid new log last)
-      → EndsIn layout files most limit (header_text layout column) row_records why (output old new log last) × HasNames layout (output old new log last)
+  pub ends_after_names : (why : RunStop) → EndsIn layout releases most limit (own_line layout column) row_records why (output mid new log last)
+      → EndsIn layout releases most limit (header_text layout column) row_records why (output old new log last) × HasNames layout (output old new log last)
   ends_after_names (stop.Row row kind) (inr w) = (
     inr (record { texts = w.texts; fault = w.fault; come = w.come; before = w.before; too_many = w.too_many; wrote = longer (take (row - 1) w.texts) w.wrote; noted = w.noted }),
     (own_line layout column ++ concat (take (row - 1) w.texts), appends-more old mid new (names_line layout) (own_line layout column ++ concat (take (row - 1) w.texts)) begun w.wrote),
@@ -156,23 +156,23 @@ module _ (layout : Layout) (files : List File) (most : ℕ) (limit : Option ℕ)
 
 -- ---- a column below the line of names
 
-module _ (layout : Layout) (most : ℕ) (limit : Option ℕ) (known : Option (List ℕ)) (files : List File) (old mid new : Option (List ℕ)) (log last : Option (List RowNote)) (begun : Appends old mid (names_line layout)) where
-  pub column_after_names : (n : ℕ) → ConvertsColumn layout most limit known n (output mid new log last) files
-      → IfSome known (λ column. (row_records : List CsvRecord) × AreRowRecords layout column row_records × WritesRows layout files most limit (header_text layout column) row_records n (output old new log last))
+module _ (layout : Layout) (most : ℕ) (limit : Option ℕ) (known : Option (List ℕ)) (releases : Releases) (old mid new : Option (List ℕ)) (log last : Option (List RowNote)) (begun : Appends old mid (names_line layout)) where
+  pub column_after_names : (n : ℕ) → ConvertsColumn layout most limit known n (output mid new log last) releases
+      → IfSome known (λ column. (row_records : List CsvRecord) × AreRowRecords layout column row_records × WritesRows layout releases most limit (header_text layout column) row_records n (output old new log last))
   column_after_names n all = if_some known _ (λ column e.
       let (row_records, are, w) = for_some known _ column all e in
-      (row_records, are, rows_after_names layout files most limit column row_records old mid new log last begun n w))
+      (row_records, are, rows_after_names layout releases most limit column row_records old mid new log last begun n w))
 
-  pub column_ends_after_names : (why : RunStop) → EndsInColumn layout most limit known why (output mid new log last) files
+  pub column_ends_after_names : (why : RunStop) → EndsInColumn layout most limit known why (output mid new log last) releases
       → IfSome known (λ column. EndsAtHeader layout column why (names_line layout) (output old new log last)
-      ⊎ ((row_records : List CsvRecord) × AreRowRecords layout column row_records × EndsIn layout files most limit (header_text layout column) row_records why (output old new log last)
+      ⊎ ((row_records : List CsvRecord) × AreRowRecords layout column row_records × EndsIn layout releases most limit (header_text layout column) row_records why (output old new log last)
       × HasNames layout (output old new log last)))
   column_ends_after_names why ends = if_some known _ (λ column e. below column (for_some known _ column ends e))
     where
       below : (column : List ℕ) → EndsAtHeader layout column why [] (output mid new log last)
-          ⊎ ((row_records : List CsvRecord) × AreRowRecords layout column row_records × EndsIn layout files most limit (own_line layout column) row_records why (output mid new log last))
+          ⊎ ((row_records : List CsvRecord) × AreRowRecords layout column row_records × EndsIn layout releases most limit (own_line layout column) row_records why (output mid new log last))
           → EndsAtHeader layout column why (names_line layout) (output old new log last)
-          ⊎ ((row_records : List CsvRecord) × AreRowRecords layout column row_records × EndsIn layout files most limit (header_text layout column) row_records why (output old new log last)
+          ⊎ ((row_records : List CsvRecord) × AreRowRecords layout column row_records × EndsIn layout releases most limit (header_text layout column) row_records why (output old new log last)
           × HasNames layout (output old new log last))
       below column (inl h) = inl (record {
         is = h.is;
@@ -184,5 +184,5 @@ module _ (layout : Layout) (most : ℕ) (limit : Option ℕ) (known : Option (Li
         noted = h.noted;
       })
       below column (inr (row_records, are, w)) =
-          let both = ends_after_names layout files most limit column row_records old mid new log last begun why w in
+          let both = ends_after_names layout releases most limit column row_records old mid new log last begun why w in
           inr (row_records, are, both.0, both.1)

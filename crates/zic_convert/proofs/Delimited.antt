@@ -20,7 +20,7 @@ use Rattle.zic_plan.specs.declared.layout.Header.{Header}
 use Rattle.zic_plan.specs.declared.layout.Header.TheVariants as headers
 use Rattle.zic_plan.specs.declared.layout.Layout.{Layout}
 use Rattle.zic_zones.specs.Zones.{field_at}
-use Rattle.zic_convert.specs.Column.{AreRowRecords, header_of, own_header, own_line, read_by}
+use Rattle.zic_convert.specs.Column.{AreRowRecords, header_of, names_added, own_header, own_line, read_by}
 use Rattle.zic_convert.specs.code.Progress.{own_line_in}
 use Rattle.zic_convert.specs.code.Row.{records_in}
 
@@ -120,4 +120,4 @@ own_line_delimited layout own_law is column =
     let d = layout.delimiter in
     let bytes = read_by layout column in
     let texts = texts_by layout.records (strip_bom (exchanged d bytes)) in
-    ap (header_of layout.start layout.style layout.from d) (header_put d layout.header texts ∙ ap (own_header layout.header) (sym (own_law layout.records d bytes (can_delimit d is))))
+    ap (header_of layout.start (names_added layout) d) (header_put d layout.header texts ∙ ap (own_header layout.header) (sym (own_law layout.records d bytes (can_delimit d is))))

@@ -9,7 +9,7 @@ use Rattle.zic_base.specs.declared.run_stop.RunStop.{RunStop}
 use Rattle.zic_base.specs.declared.run_stop.RunStop.TheVariants as stop
 use Rattle.zic_columns.specs.Own.{CsvRecord}
 use Rattle.zic_counted.specs.Counts.{Counts}
-use Rattle.zic_files.specs.File.{File}
+use Rattle.zic_zones.specs.declared.releases.Releases.{Releases}
 use Rattle.zic_plan.specs.declared.layout.Layout.{Layout}
 use Rattle.zic_convert.specs.Convert.{IsCauseOf}
 use Rattle.zic_layout_rows.specs.LayoutRows.{faults_by}
@@ -38,12 +38,12 @@ module _ {R : Type 0} (reader : Counts R) (failures taken most : ℕ) where
   err_end (Err (halt.Stop stop)) (Err why) P Q S all read stops is p q = subst S (sym is.stops) (stops stop q)
 
 -- all lines were written
-all_lines : (layout : Layout) (files : List File) (most : ℕ) (limit : Option ℕ) (header : List ℕ) (row_records : List CsvRecord) (n : ℕ) (why : RunStop) (out : Output) → WritesRows layout files most limit header row_records n out
-    → EndsAfterLines layout files most limit header row_records why out
-all_lines layout files most limit header row_records n why out w =
+all_lines : (layout : Layout) (releases : Releases) (most : ℕ) (limit : Option ℕ) (header : List ℕ) (row_records : List CsvRecord) (n : ℕ) (why : RunStop) (out : Output) → WritesRows layout releases most limit header row_records n out
+    → EndsAfterLines layout releases most limit header row_records why out
+all_lines layout releases most limit header row_records n why out w =
     let texts = w.0.texts in
     let all : concat (take (suc n) (header ∷ texts)) ≡ header ++ concat texts = ap (λ (l : List (List ℕ)). header ++ concat l) (take_all n texts (omega (arith, w.0.count))) in
-    let many = all_texts layout files most 1 row_records texts w.0.converts in
+    let many = all_texts layout releases most 1 row_records texts w.0.converts in
     let rows : suc n - 1 ≡ n = omega arith in
     let row_record : take (suc n - 1) row_records ≡ row_records = ap (λ (k : ℕ). take k row_records) rows ∙ take_all n row_records (omega (arith, w.0.count, many)) in
     record {
@@ -57,15 +57,15 @@ all_lines layout files most limit header row_records n why out w =
       least = subst (λ (l : List ℕ). StartsWith (header ++ concat texts) l) (sym all) (take-length (header ++ concat texts));
       exact = inl (sym all);
       wrote = w.0.wrote;
-      noted = subst (λ (l : List CsvRecord). Notes out.log out.log' (faults_by layout files most 1 l)) (sym row_record) w.1;
-      few = subst (λ (l : List CsvRecord). AreFew limit (faults_by layout files most 1 l)) (sym row_record) w.2;
-      may = subst (λ (l : List CsvRecord). AreFew limit (faults_by layout files most 1 l)) (sym row_record) w.2;
+      noted = subst (λ (l : List CsvRecord). Notes out.log out.log' (faults_by layout releases.zones most 1 l)) (sym row_record) w.1;
+      few = subst (λ (l : List CsvRecord). AreFew limit (faults_by layout releases.zones most 1 l)) (sym row_record) w.2;
+      may = subst (λ (l : List CsvRecord). AreFew limit (faults_by layout releases.zones most 1 l)) (sym row_record) w.2;
     }
 
 -- where a read failed, other causes leave the same output
-read_as : (layout : Layout) (files : List File) (most : ℕ) (limit : Option ℕ) (header : List ℕ) (row_records : List CsvRecord) (why : RunStop) (out : Output)
-    → EndsAfterLines layout files most limit header row_records stop.ReadFailed out → EndsAfterLines layout files most limit header row_records why out
-read_as layout files most limit header row_records why out w = record {
+read_as : (layout : Layout) (releases : Releases) (most : ℕ) (limit : Option ℕ) (header : List ℕ) (row_records : List CsvRecord) (why : RunStop) (out : Output)
+    → EndsAfterLines layout releases most limit header row_records stop.ReadFailed out → EndsAfterLines layout releases most limit header row_records why out
+read_as layout releases most limit header row_records why out w = record {
   texts = w.texts;
   fault = w.fault;
   come = w.come;
@@ -84,24 +84,24 @@ read_as layout files most limit header row_records why out w = record {
   may = w.may;
 }
 
-module _ (layout : Layout) (most : ℕ) (limit : Option ℕ) (known : Option (List ℕ)) (out : Output) (files : List File) where
-  all_read : (n : ℕ) → ConvertsColumn layout most limit known n out files → EndsInColumn layout most limit known stop.ReadFailed out files
-  all_read n all = if_some known _ (λ column e. (let (row_records, are, w) = for_some known _ column all e in inr (row_records, are, all_lines layout files most limit _ row_records n stop.ReadFailed out w)))
+module _ (layout : Layout) (most : ℕ) (limit : Option ℕ) (known : Option (List ℕ)) (out : Output) (releases : Releases) where
+  all_read : (n : ℕ) → ConvertsColumn layout most limit known n out releases → EndsInColumn layout most limit known stop.ReadFailed out releases
+  all_read n all = if_some known _ (λ column e. (let (row_records, are, w) = for_some known _ column all e in inr (row_records, are, all_lines layout releases most limit _ row_records n stop.ReadFailed out w)))
 
-  ends_as_read : {R : Type 0} (reader : Counts R) (failures taken most_bytes : ℕ) (why : RunStop) → IsReadingStop reader failures taken most_bytes why → EndsInColumn layout most limit known stop.ReadFailed out files
-      → EndsInColumn layout most limit known why out files
+  ends_as_read : {R : Type 0} (reader : Counts R) (failures taken most_bytes : ℕ) (why : RunStop) → IsReadingStop reader failures taken most_bytes why → EndsInColumn layout most limit known stop.ReadFailed out releases
+      → EndsInColumn layout most limit known why out releases
   ends_as_read reader failures taken most_bytes stop.ReadFailed is ends = ends
   ends_as_read reader failures taken most_bytes stop.ColumnTooLong is ends =
       if_some known _ (λ column e.
       elim (for_some known _ column ends e) [
         | inl header ↦ absurd (cc header.is)
-        | inr rows ↦ inr (rows.0, rows.1, read_as layout files most limit _ rows.0 stop.ColumnTooLong out rows.2)
+        | inr rows ↦ inr (rows.0, rows.1, read_as layout releases most limit _ rows.0 stop.ColumnTooLong out rows.2)
       ])
   ends_as_read reader failures taken most_bytes stop.Memory is ends =
       if_some known _ (λ column e.
       elim (for_some known _ column ends e) [
         | inl header ↦ absurd (cc header.is)
-        | inr rows ↦ inr (rows.0, rows.1, read_as layout files most limit _ rows.0 stop.Memory out rows.2)
+        | inr rows ↦ inr (rows.0, rows.1, read_as layout releases most limit _ rows.0 stop.Memory out rows.2)
       ])
   ends_as_read reader failures taken most_bytes (stop.Row row kind) is ends = absurd is
   ends_as_read reader failures taken most_bytes (stop.Source fault) is ends = absurd is
@@ -109,26 +109,26 @@ module _ (layout : Layout) (most : ℕ) (limit : Option ℕ) (known : Option (Li
   ends_as_read reader failures taken most_bytes stop.NoThread is ends = absurd is
 
 -- what holds of an outcome that is there, by zones
-both_ok : (outcome : Result ℕ Halt) (G : Type 0) (M : List File → Type 0) (C : ℕ → List File → Type 0) → IfOk outcome (λ _. G)
-    → ((files : List File) → M files → IfOk outcome (λ n. C n files)) → IfOk outcome (λ n. G × ((files : List File) → M files → C n files))
+both_ok : (outcome : Result ℕ Halt) (G : Type 0) (M : Releases → Type 0) (C : ℕ → Releases → Type 0) → IfOk outcome (λ _. G)
+    → ((releases : Releases) → M releases → IfOk outcome (λ n. C n releases)) → IfOk outcome (λ n. G × ((releases : Releases) → M releases → C n releases))
 both_ok (Ok n) G M C g all = (g, all)
 both_ok (Err why) G M C g all = tt
 
 -- how a conversion by zones ends early
-pub zones_end : {R Z : Type 0} (reader : Counts R) (failures taken most_bytes : ℕ) (grown broken : Z → Z → Type 0) (may_be : Z → List File → Type 0) (old new : Z)
+pub zones_end : {R Z : Type 0} (reader : Counts R) (failures taken most_bytes : ℕ) (grown broken : Z → Z → Type 0) (may_be : Z → Releases → Type 0) (old new : Z)
     (layout : Layout) (most : ℕ) (limit : Option ℕ) (known : Option (List ℕ)) (out : Output) (outcome : Result ℕ Halt) (result : Result ℕ RunStop) → IsEnd reader failures taken most_bytes outcome result
     → IfOk outcome (λ _. grown old new)
-    → ((files : List File) → may_be new files → IfOk outcome (λ n. ConvertsColumn layout most limit known n out files))
+    → ((releases : Releases) → may_be new releases → IfOk outcome (λ n. ConvertsColumn layout most limit known n out releases))
     → IfErr outcome (λ why. EndsByZones grown broken may_be old new (stop_of why) (EndsInColumn layout most limit known (stop_of why) out))
     → IfErr result (λ why. EndsByZones grown broken may_be old new why (EndsInColumn layout most limit known why out))
 zones_end reader failures taken most_bytes grown broken may_be old new layout most limit known out outcome result is grew all ends =
     err_end reader failures taken most_bytes outcome result
-    (λ n. grown old new × ((files : List File) → may_be new files → ConvertsColumn layout most limit known n out files))
+    (λ n. grown old new × ((releases : Releases) → may_be new releases → ConvertsColumn layout most limit known n out releases))
     (λ why. EndsByZones grown broken may_be old new (stop_of why) (EndsInColumn layout most limit known (stop_of why) out))
     (λ why. EndsByZones grown broken may_be old new why (EndsInColumn layout most limit known why out))
-    (λ n done. record { then = new; grown = done.0; ends = inl refl; by = λ files may. all_read layout most limit known out files n (done.1 files may) })
-    (λ why read ends. ends_map grown broken may_be old new stop.ReadFailed why _ _ (λ e. absurd (cc e)) (λ files part. ends_as_read layout most limit known out files reader failures taken most_bytes why read part) ends)
-    (λ why ends. ends) is (both_ok outcome (grown old new) (may_be new) (λ n files. ConvertsColumn layout most limit known n out files) grew all) ends
+    (λ n done. record { then = new; grown = done.0; ends = inl refl; by = λ releases may. all_read layout most limit known out releases n (done.1 releases may) })
+    (λ why read ends. ends_map grown broken may_be old new stop.ReadFailed why _ _ (λ e. absurd (cc e)) (λ releases part. ends_as_read layout most limit known out releases reader failures taken most_bytes why read part) ends)
+    (λ why ends. ends) is (both_ok outcome (grown old new) (may_be new) (λ n releases. ConvertsColumn layout most limit known n out releases) grew all) ends
 
 -- nothing is asked of rows
 all_of : (outcome : Result ℕ Halt) → IfOk outcome (λ n. Unit {0})

@@ -3,8 +3,8 @@ use Rattle.std.proofs.Common.{◌≡◌, ◌≤◌, ◌+◌, ℕ, List, [], leng
 use Rattle.zic_columns.specs.Own.{CsvRecord}
 use Rattle.zic_counted.specs.Counts.{Counts}
 use Rattle.zic_counted.specs.Written.{FailsWithin}
-use Rattle.zic_files.specs.File.{File}
-use Rattle.zic_files.specs.Sound.{AreSoundFiles}
+use Rattle.zic_zones.specs.declared.releases.Releases.{Releases}
+use Rattle.zic_convert.specs.Laws.{AreSoundReleases}
 use Rattle.zic_tzif.specs.Laws.{FilesAnswerOnce}
 use Rattle.zic_plan.specs.declared.layout.Layout.{Layout}
 use Rattle.zic_plan.specs.Noted.{RowNote}
@@ -19,33 +19,33 @@ use Rattle.zic_layout_rows.proofs.Coming.{all_texts, all_within, few_texts}
 use Rattle.zic_convert.proofs.Progress.{ends_after, ends_here, up_to_fault, up_to_row}
 
 -- rows without a fault are as many as their records
-pub as_many : (layout : Layout) (files : List File) (most n : ℕ) (rs : List CsvRecord) (rows : RowsOf) → AreRowsOf layout files most n rs rows → rows.fault ≡ None → rows.count ≡ length rs
-as_many layout files most n rs rows are none = are.count ∙ all_texts layout files most n rs are.texts (rw none at are.come)
+pub as_many : (layout : Layout) (releases : Releases) (most n : ℕ) (rs : List CsvRecord) (rows : RowsOf) → AreRowsOf layout releases most n rs rows → rows.fault ≡ None → rows.count ≡ length rs
+as_many layout releases most n rs rows are none = are.count ∙ all_texts layout releases most n rs are.texts (rw none at are.come)
 
 -- and no more than there may be
-pub no_more : (layout : Layout) (files : List File) (most n : ℕ) (rs : List CsvRecord) (rows : RowsOf) → AreRowsOf layout files most (n + 1) rs rows → rows.fault ≡ None → n ≤ most → n + rows.count ≤ most
-no_more layout files most n rs rows are none within =
-    let all = all_within layout files most (n + 1) rs are.texts (rw none at are.come) (omega (arith, within)) in
+pub no_more : (layout : Layout) (releases : Releases) (most n : ℕ) (rs : List CsvRecord) (rows : RowsOf) → AreRowsOf layout releases most (n + 1) rs rows → rows.fault ≡ None → n ≤ most → n + rows.count ≤ most
+no_more layout releases most n rs rows are none within =
+    let all = all_within layout releases most (n + 1) rs are.texts (rw none at are.come) (omega (arith, within)) in
     omega (arith, are.count, all)
 
 -- rows are no more than their records
-pub few : (layout : Layout) (files : List File) (most n : ℕ) (rs : List CsvRecord) (rows : RowsOf) → AreRowsOf layout files most n rs rows → rows.count ≤ length rs
-few layout files most n rs rows are = omega (arith, are.count, few_texts layout files most n rs are.texts rows.fault are.come)
+pub few : (layout : Layout) (releases : Releases) (most n : ℕ) (rs : List CsvRecord) (rows : RowsOf) → AreRowsOf layout releases most n rs rows → rows.count ≤ length rs
+few layout releases most n rs rows are = omega (arith, are.count, few_texts layout releases most n rs are.texts rows.fault are.come)
 
-module _ {W : Type 0} (contents : W → Option (List ℕ)) (once : FilesAnswerOnce) (layout : Layout) (files : List File) (most : ℕ) (limit : Option ℕ) (sound : AreSoundFiles files) (all : List CsvRecord)
+module _ {W : Type 0} (contents : W → Option (List ℕ)) (once : FilesAnswerOnce) (layout : Layout) (releases : Releases) (most : ℕ) (limit : Option ℕ) (sound : AreSoundReleases releases) (all : List CsvRecord)
     (left : Option (List ℕ)) (n : ℕ) (more : Option ℕ) (old : Option (List ℕ)) (mid new : Counts W) (log now last : Option (List RowNote))
-    (far : IsSoFar layout files most limit all left n more (output old (contents mid.inner) log now)) where
+    (far : IsSoFar layout releases most limit all left n more (output old (contents mid.inner) log now)) where
   -- a row ends the run, or the writer failed
-  pub ends_in_rows : (rs : List CsvRecord) → ComeNext layout left rs → (rows : RowsOf) → AreRowsOf layout files most (n + 1) rs rows → (why : RunStop)
-      → EndsInRows contents mid new now last layout files most more (n + 1) rs rows why → EndsIn layout files most limit [] all why (output old (contents new.inner) log last)
+  pub ends_in_rows : (rs : List CsvRecord) → ComeNext layout left rs → (rows : RowsOf) → AreRowsOf layout releases most (n + 1) rs rows → (why : RunStop)
+      → EndsInRows contents mid new now last layout releases most more (n + 1) rs rows why → EndsIn layout releases most limit [] all why (output old (contents new.inner) log last)
   ends_in_rows rs come rows are (stop.Row row kind) (inl (h, few)) = inl
-      (subst (λ (k : ℕ). EndsAtRow layout files most limit [] all k kind (output old (contents new.inner) log last)) (sym h.1)
-      (up_to_row layout files most limit all left n more old (contents mid.inner) (contents new.inner) log now last far rs rows are come kind h.0 h.2.0 h.3 few))
+      (subst (λ (k : ℕ). EndsAtRow layout releases most limit [] all k kind (output old (contents new.inner) log last)) (sym h.1)
+      (up_to_row layout releases most limit all left n more old (contents mid.inner) (contents new.inner) log now last far rs rows are come kind h.0 h.2.0 h.3 few))
   ends_in_rows rs come rows are (stop.Row row kind) (inr h) = inr
-      (up_to_fault layout files most limit all left n more old (contents mid.inner) (contents new.inner) log now last far rs rows are come once sound row kind h.front h.rest h.come h.before h.too_many
+      (up_to_fault layout releases most limit all left n more old (contents mid.inner) (contents new.inner) log now last far rs rows are come once sound row kind h.front h.rest h.come h.before h.too_many
       h.number h.wrote.0 h.noted)
   ends_in_rows rs come rows are stop.WriteFailed h =
-      ends_after layout files most limit all left n more old (contents mid.inner) (contents new.inner) log now last far rs rows are come once sound h.done h.more h.parts h.front h.are
+      ends_after layout releases most limit all left n more old (contents mid.inner) (contents new.inner) log now last far rs rows are come once sound h.done h.more h.parts h.front h.are
       h.reached h.beyond h.within h.upto h.are_upto h.fails.part h.fails.starts h.fails.least stop.WriteFailed (inr refl) h.fails.wrote h.noted h.few h.may
   ends_in_rows rs come rows are (stop.Source fault) h = absurd h
   ends_in_rows rs come rows are stop.ReadFailed h = absurd h
@@ -53,16 +53,16 @@ module _ {W : Type 0} (contents : W → Option (List ℕ)) (once : FilesAnswerOn
   ends_in_rows rs come rows are stop.Memory h = absurd h
   ends_in_rows rs come rows are stop.NoThread h = absurd h
 
-module _ (once : FilesAnswerOnce) (layout : Layout) (files : List File) (most : ℕ) (limit : Option ℕ) (sound : AreSoundFiles files) (all : List CsvRecord)
-    (left : Option (List ℕ)) (n : ℕ) (more : Option ℕ) (old mid : Option (List ℕ)) (log now : Option (List RowNote)) (far : IsSoFar layout files most limit all left n more (output old mid log now)) where
+module _ (once : FilesAnswerOnce) (layout : Layout) (releases : Releases) (most : ℕ) (limit : Option ℕ) (sound : AreSoundReleases releases) (all : List CsvRecord)
+    (left : Option (List ℕ)) (n : ℕ) (more : Option ℕ) (old mid : Option (List ℕ)) (log now : Option (List RowNote)) (far : IsSoFar layout releases most limit all left n more (output old mid log now)) where
   -- nothing more was written
-  pub ends_still : (why : RunStop) → EndsAfterLines layout files most limit [] all why (output old mid log now)
-  ends_still why = ends_here layout files most limit all once sound left n more old mid mid log now far why [] refl (inl refl) (appends-none mid)
+  pub ends_still : (why : RunStop) → EndsAfterLines layout releases most limit [] all why (output old mid log now)
+  ends_still why = ends_here layout releases most limit all once sound left n more old mid mid log now far why [] refl (inl refl) (appends-none mid)
 
 -- the writer failed as it passed on what it held back
-pub ends_at_flush : {W : Type 0} (contents : W → Option (List ℕ)) (once : FilesAnswerOnce) (layout : Layout) (files : List File) (most : ℕ) (limit : Option ℕ) (sound : AreSoundFiles files) (all : List CsvRecord)
+pub ends_at_flush : {W : Type 0} (contents : W → Option (List ℕ)) (once : FilesAnswerOnce) (layout : Layout) (releases : Releases) (most : ℕ) (limit : Option ℕ) (sound : AreSoundReleases releases) (all : List CsvRecord)
     (left : Option (List ℕ)) (n : ℕ) (more : Option ℕ) (old : Option (List ℕ)) (mid new : Counts W) (log now : Option (List RowNote))
-    → IsSoFar layout files most limit all left n more (output old (contents mid.inner) log now) → FailsWithin contents mid new []
-    → EndsAfterLines layout files most limit [] all stop.WriteFailed (output old (contents new.inner) log now)
-ends_at_flush contents once layout files most limit sound all left n more old mid new log now far fails =
-    ends_here layout files most limit all once sound left n more old (contents mid.inner) (contents new.inner) log now far stop.WriteFailed fails.part fails.starts (inr refl) fails.wrote
+    → IsSoFar layout releases most limit all left n more (output old (contents mid.inner) log now) → FailsWithin contents mid new []
+    → EndsAfterLines layout releases most limit [] all stop.WriteFailed (output old (contents new.inner) log now)
+ends_at_flush contents once layout releases most limit sound all left n more old mid new log now far fails =
+    ends_here layout releases most limit all once sound left n more old (contents mid.inner) (contents new.inner) log now far stop.WriteFailed fails.part fails.starts (inr refl) fails.wrote

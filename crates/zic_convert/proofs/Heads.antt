@@ -14,8 +14,8 @@ use Rattle.zic_columns.specs.Round.{BeginsTooLong}
 use Rattle.zic_counted.specs.Counts.{Counts}
 use Rattle.zic_counted.specs.Written.{FailsWithin}
 use Rattle.zic_tzif.specs.Laws.{FilesAnswerOnce}
-use Rattle.zic_files.specs.File.{File}
-use Rattle.zic_files.specs.Sound.{AreSoundFiles}
+use Rattle.zic_zones.specs.declared.releases.Releases.{Releases}
+use Rattle.zic_convert.specs.Laws.{AreSoundReleases}
 use Rattle.zic_plan.specs.Delimiter.{exchange, is_delimiter}
 use Rattle.zic_plan.specs.Layout.{records_before}
 use Rattle.zic_plan.specs.declared.layout.Layout.{Layout}
@@ -24,7 +24,7 @@ use Rattle.zic_plan.specs.Noted.{RowNote}
 use Rattle.zic_base.specs.declared.row_fault.RowKind.{RowKind}
 use Rattle.zic_base.specs.declared.run_stop.RunStop.{RunStop}
 use Rattle.zic_base.specs.declared.run_stop.RunStop.TheVariants as stop
-use Rattle.zic_convert.specs.Column.{AreRowRecords, header_of, own_header, own_line, read_by}
+use Rattle.zic_convert.specs.Column.{AreRowRecords, header_of, names_added, own_header, own_line, read_by}
 use Rattle.zic_convert.specs.Run.{EndsAfterLines, EndsAtHeader, EndsIn, WritesRows}
 use Rattle.zic_convert.specs.code.Halt.{IsCauseOfHalt, stop_of}
 use Rattle.zic_convert.specs.code.Progress.{BeginsRows, ConvertsColumn, ConvertsRest, EndsInColumn, EndsInRest, HaltsAtBegin, HaltsAtHead, HaltsAtHeader, IsAtLongHeader, output, own_line_in}
@@ -37,7 +37,7 @@ use Rattle.zic_convert.proofs.Bytes.{fails_later, starts_later, wrote_both}
 use Rattle.zic_convert.proofs.Delimited.{can_delimit, own_line_delimited, records_alike}
 use Rattle.zic_convert.proofs.Logs.{notes_none}
 use Rattle.zic_convert.proofs.Options.{for_some, if_some}
-use Rattle.zic_convert.proofs.Sounds.{all_known}
+use Rattle.zic_convert.proofs.Sounds.{both_known}
 use Rattle.zic_convert.proofs.TooMany.{none_few}
 use Rattle.zic_convert.proofs.Totals.{all_come}
 
@@ -57,10 +57,10 @@ module _ {W : Type 0} (contents : W → Option (List ℕ)) where
   module _ (old new : Counts W) (layout : Layout) (known : Option (List ℕ)) where
     -- a header was not written whole
     pub halts_before : (own : List ℕ) → IfSome known (λ column. own ≡ own_header layout.header (texts_by layout.records (strip_bom column))) → (why : RunStop)
-        → EndsAtHead contents old new (header_of layout.start layout.style layout.from layout.delimiter (exchanged layout.delimiter own)) why → HaltsAtHead contents old new layout known (halt.Stop why)
+        → EndsAtHead contents old new (header_of layout.start (names_added layout) layout.delimiter (exchanged layout.delimiter own)) why → HaltsAtHead contents old new layout known (halt.Stop why)
     halts_before own is stop.WriteFailed fails = (
       fails.failed,
-      if_some known _ (λ column e. subst (λ (l : List ℕ). FailsWithin contents old new (header_of layout.start layout.style layout.from layout.delimiter (exchanged layout.delimiter l))) (for_some known _ column is e) fails),
+      if_some known _ (λ column e. subst (λ (l : List ℕ). FailsWithin contents old new (header_of layout.start (names_added layout) layout.delimiter (exchanged layout.delimiter l))) (for_some known _ column is e) fails),
     )
     halts_before own is stop.Memory same = same
     halts_before own is (stop.Row row kind) ends = absurd ends
@@ -114,10 +114,10 @@ long_put d most [] none = none
 long_put d most (first ∷ others) is = rw (length-map first.own (exchange d)) is
 
 -- not even a header was written whole
-no_line : FilesAnswerOnce → (layout : Layout) (files : List File) (most : ℕ) (limit : Option ℕ) → AreSoundFiles files → (head : List ℕ) (row_records : List CsvRecord) (why : RunStop) (old new : Option (List ℕ)) (log : Option (List RowNote))
-    (part : List ℕ) → StartsWith head part → Appends old new part → ((part ≡ []) ⊎ (why ≡ stop.WriteFailed)) → EndsAfterLines layout files most limit head row_records why (output old new log log)
-no_line once layout files most limit sound head row_records why old new log part starts wrote exact =
-    let (texts, fault, come) = all_come layout files most (all_known files sound once) 1 row_records in
+no_line : FilesAnswerOnce → (layout : Layout) (releases : Releases) (most : ℕ) (limit : Option ℕ) → AreSoundReleases releases → (head : List ℕ) (row_records : List CsvRecord) (why : RunStop) (old new : Option (List ℕ)) (log : Option (List RowNote))
+    (part : List ℕ) → StartsWith head part → Appends old new part → ((part ≡ []) ⊎ (why ≡ stop.WriteFailed)) → EndsAfterLines layout releases most limit head row_records why (output old new log log)
+no_line once layout releases most limit sound head row_records why old new log part starts wrote exact =
+    let (texts, fault, come) = all_come layout releases most (both_known releases sound once) 1 row_records in
     record {
       texts = texts;
       fault = fault;
@@ -144,18 +144,18 @@ module _ (layout : Layout) (most : ℕ) (limit : Option ℕ) (law : RecordsByAre
   row_wholes column = drop (records_before layout.header) (records_in layout (strip_bom (exchanged layout.delimiter (read_by layout column))))
 
   -- the rows of a column did not begin
-  module _ {W : Type 0} (contents : W → Option (List ℕ)) (once : FilesAnswerOnce) (old new : Counts W) (log : Option (List RowNote)) (files : List File) (sound : AreSoundFiles files) where
+  module _ {W : Type 0} (contents : W → Option (List ℕ)) (once : FilesAnswerOnce) (old new : Counts W) (log : Option (List RowNote)) (releases : Releases) (sound : AreSoundReleases releases) where
     none_written : (why : RunStop) → IfSome known (λ column. EndsAtHeader layout column why [] (output (contents old.inner) (contents old.inner) log log)
         ⊎ ((row_records : List CsvRecord) × AreRowRecords layout column row_records
-        × EndsAfterLines layout files most limit (own_line layout column) row_records why (output (contents old.inner) (contents old.inner) log log)))
+        × EndsAfterLines layout releases most limit (own_line layout column) row_records why (output (contents old.inner) (contents old.inner) log log)))
     none_written why = if_some known _ (λ column e. inr (
       row_wholes column,
       records_alike layout law can column,
-      no_line once layout files most limit sound (own_line layout column) (row_wholes column) why (contents old.inner) (contents old.inner) log [] refl (appends-none (contents old.inner)) (inl refl),
+      no_line once layout releases most limit sound (own_line layout column) (row_wholes column) why (contents old.inner) (contents old.inner) log [] refl (appends-none (contents old.inner)) (inl refl),
     ))
 
     -- the header has too many bytes
-    header_long : (why : RunStop) → IsAtLongHeader layout inside why → EndsInColumn layout most limit known why (output (contents old.inner) (contents old.inner) log log) files
+    header_long : (why : RunStop) → IsAtLongHeader layout inside why → EndsInColumn layout most limit known why (output (contents old.inner) (contents old.inner) log log) releases
     header_long why at = if_some known _ (λ column e.
         let text = exchanged layout.delimiter (read_by layout column) in
         inl (record {
@@ -168,7 +168,7 @@ module _ (layout : Layout) (most : ℕ) (limit : Option ℕ) (law : RecordsByAre
           noted = notes_none log;
         }))
 
-    pub ends_at_head : (why : Halt) → HaltsAtHead contents old new layout inside why → EndsInColumn layout most limit known (stop_of why) (output (contents old.inner) (contents new.inner) log log) files
+    pub ends_at_head : (why : Halt) → HaltsAtHead contents old new layout inside why → EndsInColumn layout most limit known (stop_of why) (output (contents old.inner) (contents new.inner) log log) releases
     ends_at_head halt.Unread same = rw same (none_written stop.ReadFailed)
     ends_at_head (halt.Stop stop.Memory) same = rw same (none_written stop.Memory)
     ends_at_head (halt.Stop stop.WriteFailed) failed = if_some known _ (λ column e.
@@ -177,7 +177,7 @@ module _ (layout : Layout) (most : ℕ) (limit : Option ℕ) (law : RecordsByAre
         inr (
           row_wholes column,
           records_alike layout law can column,
-          no_line once layout files most limit sound (own_line layout column) (row_wholes column) stop.WriteFailed (contents old.inner) (contents new.inner) log fails.part
+          no_line once layout releases most limit sound (own_line layout column) (row_wholes column) stop.WriteFailed (contents old.inner) (contents new.inner) log fails.part
               (subst (λ (l : List ℕ). StartsWith l fails.part) same fails.starts) fails.wrote (inr refl),
         ))
     ends_at_head (halt.Stop (stop.Row row kind)) ends = rw ends.0 (header_long (stop.Row row kind) ends.1)
@@ -187,7 +187,7 @@ module _ (layout : Layout) (most : ℕ) (limit : Option ℕ) (law : RecordsByAre
     ends_at_head (halt.Stop stop.NoThread) ends = absurd ends
 
   -- the rest of a column was converted, once its header was written
-  module _ (files : List File) (left : Option (List ℕ)) (old mid new : Option (List ℕ)) (log last : Option (List RowNote))
+  module _ (releases : Releases) (left : Option (List ℕ)) (old mid new : Option (List ℕ)) (log last : Option (List RowNote))
       (begins : IfSome inside (λ bytes. BeginsRows layout bytes left)) (head : IfSome inside (λ bytes. Appends old mid (own_line_in layout bytes))) where
     begun_as : (P : List CsvRecord → Type 0) (Q : List ℕ → List CsvRecord → Type 0)
         → ((column : List ℕ) (row_records : List CsvRecord) → Appends old mid (own_line layout column) → P row_records → Q column row_records)
@@ -204,13 +204,13 @@ module _ (layout : Layout) (most : ℕ) (limit : Option ℕ) (law : RecordsByAre
           below column (drop k (records_in layout (strip_bom text))) line (subst P all (for_some left _ rest p at)),
         ))
 
-    pub converts_column : (n : ℕ) → ConvertsRest layout most limit left n (output mid new log last) files → ConvertsColumn layout most limit known n (output old new log last) files
-    converts_column n = begun_as (λ row_records. WritesRows layout files most limit [] row_records n (output mid new log last))
-        (λ column row_records. WritesRows layout files most limit (own_line layout column) row_records n (output old new log last))
-        (λ column row_records line w. rows_below layout files most limit row_records (own_line layout column) old mid new log last line n w)
+    pub converts_column : (n : ℕ) → ConvertsRest layout most limit left n (output mid new log last) releases → ConvertsColumn layout most limit known n (output old new log last) releases
+    converts_column n = begun_as (λ row_records. WritesRows layout releases most limit [] row_records n (output mid new log last))
+        (λ column row_records. WritesRows layout releases most limit (own_line layout column) row_records n (output old new log last))
+        (λ column row_records line w. rows_below layout releases most limit row_records (own_line layout column) old mid new log last line n w)
 
-    pub ends_column : (why : RunStop) → EndsInRest layout most limit left why (output mid new log last) files → EndsInColumn layout most limit known why (output old new log last) files
+    pub ends_column : (why : RunStop) → EndsInRest layout most limit left why (output mid new log last) releases → EndsInColumn layout most limit known why (output old new log last) releases
     ends_column why ends = if_some known _ (λ column e. inr (for_some known _ column
-        (begun_as (λ row_records. EndsIn layout files most limit [] row_records why (output mid new log last))
-        (λ column row_records. EndsIn layout files most limit (own_line layout column) row_records why (output old new log last))
-        (λ column row_records line w. ends_below layout files most limit row_records (own_line layout column) old mid new log last line why w) ends) e))
+        (begun_as (λ row_records. EndsIn layout releases most limit [] row_records why (output mid new log last))
+        (λ column row_records. EndsIn layout releases most limit (own_line layout column) row_records why (output old new log last))
+        (λ column row_records line w. ends_below layout releases most limit row_records (own_line layout column) old mid new log last line why w) ends) e))

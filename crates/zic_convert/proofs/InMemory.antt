@@ -4,6 +4,7 @@ use Rattle.csv.specs.Reading.{strip_bom}
 use Rattle.zic_columns.specs.Column.{column_records}
 use Rattle.zic_columns.specs.Laws.{ColumnRecordsAreRead}
 use Rattle.zic_files.specs.File.{File}
+use Rattle.zic_zones.specs.Zones.{alone}
 use Rattle.zic_plan.specs.Layout.{HasPlainRows}
 use Rattle.zic_plan.specs.declared.layout.Layout.{Layout}
 use Rattle.zic_convert.specs.Column.{AreRowsOfColumn}
@@ -14,7 +15,7 @@ use Rattle.zic_convert.proofs.Plain.{come_plainly}
 use Rattle.zic_convert.proofs.PieceRecords.{as_many_in, comma_fields_in}
 
 module _ (layout : Layout) (plain : HasPlainRows layout) (files : List File) (most : ℕ) (column : List ℕ) (rows : RowsOf)
-    (are : AreRowsOf layout files most 1 (csv_records_in layout.delimiter (strip_bom column)) rows) where
+    (are : AreRowsOf layout (alone files) most 1 (csv_records_in layout.delimiter (strip_bom column)) rows) where
   -- the rows of all its records are those of the column
   pub rows_in_memory : ColumnRecordsAreRead → AreRowsOfColumn files most column rows.text rows.count rows.fault
   rows_in_memory read =
@@ -33,4 +34,4 @@ module _ (layout : Layout) (plain : HasPlainRows layout) (files : List File) (mo
 
   -- and there are no more of them than records
   pub few_rows : rows.count ≤ length (column_records (strip_bom column))
-  few_rows = omega (arith, are.count, few_texts layout files most 1 (csv_records_in layout.delimiter (strip_bom column)) are.texts rows.fault are.come, as_many_in layout.delimiter (strip_bom column))
+  few_rows = omega (arith, are.count, few_texts layout (alone files) most 1 (csv_records_in layout.delimiter (strip_bom column)) are.texts rows.fault are.come, as_many_in layout.delimiter (strip_bom column))

@@ -12,7 +12,7 @@ use Rattle.zic_columns.specs.Own.{CsvRecord}
 use Rattle.zic_columns.specs.declared.columns.Taken.{Taken}
 use Rattle.zic_columns.specs.declared.columns.Taken.TheVariants as taken
 use Rattle.zic_pieces.specs.Task.{AreValues}
-use Rattle.zic_files.specs.File.{File}
+use Rattle.zic_zones.specs.declared.releases.Releases.{Releases}
 use Rattle.zic_convert.specs.code.Row.{taken_rows, records_of_all}
 use Rattle.zic_layout_rows.specs.PieceRows.{AreRowsOf, RowsOf, csv_records_in}
 use Rattle.zic_convert.specs.code.Written.{EndsInPieces, EndsInRound, EndsInRows, HasOneTooMany, WritesRound}
@@ -31,18 +31,18 @@ use Rattle.zic_layout_rows.proofs.Coming.{come_more, faults_more, no_rows, rows_
 use Rattle.zic_convert.proofs.PieceRecords.{as_many_in, as_many_of_all}
 use Rattle.zic_convert.proofs.TooMany.{are_on, cut_ends, fails_before, few_of_front, row_within, rows_on, stops_before}
 
-module _ (layout : Layout) (files : List File) (most size : ℕ) where
+module _ (layout : Layout) (releases : Releases) (most size : ℕ) where
   -- the rows of pieces, by those of each
   abbrev AreRowsOfEach : ℕ → List (List ℕ) → List RowsOf → Type 0
   AreRowsOfEach first pieces values =
-      (i : ℕ) (x : RowsOf) → get_elem? values i ≡ some x → IfSome (slice_get pieces i) (λ piece. AreRowsOf layout files most (first + i * size) (csv_records_in layout.delimiter piece) x)
+      (i : ℕ) (x : RowsOf) → get_elem? values i ≡ some x → IfSome (slice_get pieces i) (λ piece. AreRowsOf layout releases most (first + i * size) (csv_records_in layout.delimiter piece) x)
 
   -- those of the first piece
   first_rows : (first : ℕ) (piece : List ℕ) (pieces : List (List ℕ)) (x : RowsOf) (values : List RowsOf) → AreRowsOfEach first (piece ∷ pieces) (x ∷ values)
-      → AreRowsOf layout files most first (csv_records_in layout.delimiter piece) x
+      → AreRowsOf layout releases most first (csv_records_in layout.delimiter piece) x
   first_rows first piece pieces x values each =
       let at : first + 0 * size ≡ first = omega arith in
-      subst (λ (n : ℕ). AreRowsOf layout files most n (csv_records_in layout.delimiter piece) x) at (each 0 x refl)
+      subst (λ (n : ℕ). AreRowsOf layout releases most n (csv_records_in layout.delimiter piece) x) at (each 0 x refl)
 
   -- those of the pieces after it
   later_rows : (first : ℕ) (piece : List ℕ) (pieces : List (List ℕ)) (x : RowsOf) (values : List RowsOf) → AreRowsOfEach first (piece ∷ pieces) (x ∷ values)
@@ -50,43 +50,43 @@ module _ (layout : Layout) (files : List File) (most size : ℕ) where
   later_rows first piece pieces x values each =
       λ i y e.
       let at : first + suc i * size ≡ first + size + i * size = grind arith in
-      subst (λ (n : ℕ). IfSome (slice_get pieces i) (λ piece. AreRowsOf layout files most n (csv_records_in layout.delimiter piece) y)) at (each (suc i) y e)
+      subst (λ (n : ℕ). IfSome (slice_get pieces i) (λ piece. AreRowsOf layout releases most n (csv_records_in layout.delimiter piece) y)) at (each (suc i) y e)
 
   -- the rows of all, where each piece but the last is full
   rows_of_all : (first : ℕ) (pieces : List (List ℕ)) (values : List RowsOf) → ArePiecesOf size pieces → length values ≡ length pieces → AreRowsOfEach first pieces values
-      → AreRowsOf layout files most first (records_of_all layout.delimiter pieces) (joined values)
-  rows_of_all first [] [] cut long each = no_rows layout files most first
+      → AreRowsOf layout releases most first (records_of_all layout.delimiter pieces) (joined values)
+  rows_of_all first [] [] cut long each = no_rows layout releases most first
   rows_of_all first [] (x ∷ values) cut long each = absurd (omega (arith, long))
   rows_of_all first (p ∷ ps) [] cut long each = absurd (omega (arith, long))
   rows_of_all first (p ∷ []) (x ∷ y ∷ values) cut long each = absurd (omega (arith, long))
   rows_of_all first (p ∷ []) (x ∷ []) cut long each =
-      rows_followed layout files most first (csv_records_in layout.delimiter p) [] x (joined []) x.fault refl (first_rows first p [] x [] each) (λ none. no_rows layout files most (first + length (csv_records_in layout.delimiter p)))
+      rows_followed layout releases most first (csv_records_in layout.delimiter p) [] x (joined []) x.fault refl (first_rows first p [] x [] each) (λ none. no_rows layout releases most (first + length (csv_records_in layout.delimiter p)))
   rows_of_all first (p ∷ q ∷ ps) (x ∷ values) cut long each =
       let after = rows_of_all (first + size) (q ∷ ps) values cut.1 (omega (arith, long)) (later_rows first p (q ∷ ps) x values each) in
-      rows_followed layout files most first (csv_records_in layout.delimiter p) (records_of_all layout.delimiter (q ∷ ps)) x (joined values) x.fault refl (first_rows first p (q ∷ ps) x values each)
-      (λ none. subst (λ (n : ℕ). AreRowsOf layout files most (first + n) (records_of_all layout.delimiter (q ∷ ps)) (joined values)) (sym (as_many_in layout.delimiter p ∙ cut.0)) after)
+      rows_followed layout releases most first (csv_records_in layout.delimiter p) (records_of_all layout.delimiter (q ∷ ps)) x (joined values) x.fault refl (first_rows first p (q ∷ ps) x values each)
+      (λ none. subst (λ (n : ℕ). AreRowsOf layout releases most (first + n) (records_of_all layout.delimiter (q ∷ ps)) (joined values)) (sym (as_many_in layout.delimiter p ∙ cut.0)) after)
 
   -- the rows of the first pieces
   rows_of_front : (i first : ℕ) (pieces : List (List ℕ)) (values : List RowsOf) → ArePiecesOf size pieces → length values ≡ length pieces → AreRowsOfEach first pieces values
-      → AreRowsOf layout files most first (records_of_all layout.delimiter (take i pieces)) (joined (take i values))
-  rows_of_front zero first pieces values cut long each = no_rows layout files most first
-  rows_of_front (suc i) first [] [] cut long each = no_rows layout files most first
+      → AreRowsOf layout releases most first (records_of_all layout.delimiter (take i pieces)) (joined (take i values))
+  rows_of_front zero first pieces values cut long each = no_rows layout releases most first
+  rows_of_front (suc i) first [] [] cut long each = no_rows layout releases most first
   rows_of_front (suc i) first [] (x ∷ values) cut long each = absurd (omega (arith, long))
   rows_of_front (suc i) first (p ∷ ps) [] cut long each = absurd (omega (arith, long))
   rows_of_front (suc i) first (p ∷ []) (x ∷ y ∷ values) cut long each = absurd (omega (arith, long))
   rows_of_front (suc zero) first (p ∷ []) (x ∷ []) cut long each =
-      rows_followed layout files most first (csv_records_in layout.delimiter p) [] x (joined []) x.fault refl (first_rows first p [] x [] each) (λ none. no_rows layout files most (first + length (csv_records_in layout.delimiter p)))
+      rows_followed layout releases most first (csv_records_in layout.delimiter p) [] x (joined []) x.fault refl (first_rows first p [] x [] each) (λ none. no_rows layout releases most (first + length (csv_records_in layout.delimiter p)))
   rows_of_front (suc (suc i)) first (p ∷ []) (x ∷ []) cut long each =
-      rows_followed layout files most first (csv_records_in layout.delimiter p) [] x (joined []) x.fault refl (first_rows first p [] x [] each) (λ none. no_rows layout files most (first + length (csv_records_in layout.delimiter p)))
+      rows_followed layout releases most first (csv_records_in layout.delimiter p) [] x (joined []) x.fault refl (first_rows first p [] x [] each) (λ none. no_rows layout releases most (first + length (csv_records_in layout.delimiter p)))
   rows_of_front (suc i) first (p ∷ q ∷ ps) (x ∷ values) cut long each =
       let after = rows_of_front i (first + size) (q ∷ ps) values cut.1 (omega (arith, long)) (later_rows first p (q ∷ ps) x values each) in
-      rows_followed layout files most first (csv_records_in layout.delimiter p) (records_of_all layout.delimiter (take i (q ∷ ps))) x (joined (take i values)) x.fault refl (first_rows first p (q ∷ ps) x values each)
-      (λ none. subst (λ (n : ℕ). AreRowsOf layout files most (first + n) (records_of_all layout.delimiter (take i (q ∷ ps))) (joined (take i values))) (sym (as_many_in layout.delimiter p ∙ cut.0)) after)
+      rows_followed layout releases most first (csv_records_in layout.delimiter p) (records_of_all layout.delimiter (take i (q ∷ ps))) x (joined (take i values)) x.fault refl (first_rows first p (q ∷ ps) x values each)
+      (λ none. subst (λ (n : ℕ). AreRowsOf layout releases most (first + n) (records_of_all layout.delimiter (take i (q ∷ ps))) (joined (take i values))) (sym (as_many_in layout.delimiter p ∙ cut.0)) after)
 
 -- the rows of all pieces of a round
 pub joined_round : (p : Pieces) (values : List RowsOf) → ArePieces p → AreValues (IsOutcomeOf p) (length p.pieces) values
-    → AreRowsOf p.layout p.files p.most p.first (records_of_all p.layout.delimiter p.pieces) (joined values)
-joined_round p values sound are = rows_of_all p.layout p.files p.most p.size p.first p.pieces values sound.cut are.0 (λ i rows at. (are.1 i rows at).0)
+    → AreRowsOf p.layout p.releases p.most p.first (records_of_all p.layout.delimiter p.pieces) (joined values)
+joined_round p values sound are = rows_of_all p.layout p.releases p.most p.size p.first p.pieces values sound.cut are.0 (λ i rows at. (are.1 i rows at).0)
 
 -- the records of the first pieces, and of the others
 wholes_split : (d i : ℕ) (pieces : List (List ℕ)) → records_of_all d pieces ≡ records_of_all d (take i pieces) ++ records_of_all d (drop i pieces)
@@ -96,13 +96,13 @@ wholes_split d i pieces = ap (records_of_all d) (sym (take-append-drop i pieces)
 module _ {W : Type 0} (contents : W → Option (List ℕ)) (old new : Counts W) (log log' : Option (List RowNote)) (p : Pieces) (limit : Option ℕ) (values : List RowsOf) (sound : ArePieces p)
     (are : AreValues (IsOutcomeOf p) (length p.pieces) values) (few : AreFew limit (joined values).faults) where
   pub pieces_end : (why : RunStop) → EndsInPieces contents old new log log' p.first values why
-      → EndsInRows contents old new log log' p.layout p.files p.most limit p.first (records_of_all p.layout.delimiter p.pieces) (joined values) why
+      → EndsInRows contents old new log log' p.layout p.releases p.most limit p.first (records_of_all p.layout.delimiter p.pieces) (joined values) why
   pieces_end (stop.Row row kind) h = inl (h, few)
   pieces_end stop.WriteFailed (i, fails, noted) =
       let done = records_of_all p.layout.delimiter (take i p.pieces) in
       let more = records_of_all p.layout.delimiter (drop i p.pieces) in
       let parts = wholes_split p.layout.delimiter i p.pieces in
-      let are_front = rows_of_front p.layout p.files p.most p.size i p.first p.pieces values sound.cut are.0 (λ k rows at. (are.1 k rows at).0) in
+      let are_front = rows_of_front p.layout p.releases p.most p.size i p.first p.pieces values sound.cut are.0 (λ k rows at. (are.1 k rows at).0) in
       record {
         done = done;
         more = more;
@@ -117,7 +117,7 @@ module _ {W : Type 0} (contents : W → Option (List ℕ)) (old new : Counts W) 
         fails = fails;
         noted = noted;
         may = few;
-        few = few_of_front p.layout p.files p.most limit p.first (records_of_all p.layout.delimiter p.pieces) done more parts (joined values) (joined_round p values sound are) (joined (take i values)) are_front few;
+        few = few_of_front p.layout p.releases p.most limit p.first (records_of_all p.layout.delimiter p.pieces) done more parts (joined values) (joined_round p values sound are) (joined (take i values)) are_front few;
       }
   pieces_end (stop.Source fault) h = absurd h
   pieces_end stop.ReadFailed h = absurd h
@@ -184,7 +184,7 @@ front_sound p i sound = record {
 -- a row with one fault too many has a number of its own
 pub row_positive : (p : Pieces) (limit : Option ℕ) (fault : RowFault) → ArePieces p → HasOneTooMany p limit fault → 1 ≤ fault.row
 row_positive p limit fault sound (rows, are, before, many) =
-    omega (arith, sound.least, (row_within p.layout p.files p.most limit p.first (records_of_all p.layout.delimiter p.pieces) rows are fault.row fault.kind before many).0)
+    omega (arith, sound.least, (row_within p.layout p.releases p.most limit p.first (records_of_all p.layout.delimiter p.pieces) rows are fault.row fault.kind before many).0)
 
 -- the records up to a piece, and its own
 front_records : (d size : ℕ) (pieces : List (List ℕ)) (i : ℕ) (piece : List ℕ) → ArePiecesOf size pieces → slice_get pieces i ≡ Some piece
@@ -199,9 +199,9 @@ front_records d size (p ∷ q ∷ ps) (suc i) piece cut e =
       ap (λ (r : List CsvRecord). csv_records_in d p ++ r) later.2 ∙ sym (append_assoc (csv_records_in d p) later.0 (csv_records_in d piece)),
     )
 
-module _ (layout : Layout) (files : List File) (most : ℕ) where
+module _ (layout : Layout) (releases : Releases) (most : ℕ) where
   -- records don't come to rows with a fault and without
-  one_way : (number : ℕ) (xs : List CsvRecord) (t u : List (List ℕ)) (fault : Option RowKind) → RecordsConvertBy layout files most number xs t None → RecordsConvertBy layout files most number xs u fault → IsSome fault → ⊥
+  one_way : (number : ℕ) (xs : List CsvRecord) (t u : List (List ℕ)) (fault : Option RowKind) → RecordsConvertBy layout releases most number xs t None → RecordsConvertBy layout releases most number xs u fault → IsSome fault → ⊥
   one_way number [] t u None first second has = cc has
   one_way number [] t u (Some kind) first second has = cc second.1
   one_way number (x ∷ xs) [] u fault first second has = cc first.1
@@ -210,18 +210,18 @@ module _ (layout : Layout) (files : List File) (most : ℕ) where
   one_way number (x ∷ xs) (t ∷ ts) (u ∷ us) fault first second has = one_way (number + 1) xs ts us fault first.2 second.2 has
 
   -- nor do some that come after others
-  clash : (number : ℕ) (xs ys : List CsvRecord) (t u : List (List ℕ)) (fault : Option RowKind) → RecordsConvertBy layout files most number (xs ++ ys) t None
-      → RecordsConvertBy layout files most (number + length xs) ys u fault → IsSome fault → ⊥
+  clash : (number : ℕ) (xs ys : List CsvRecord) (t u : List (List ℕ)) (fault : Option RowKind) → RecordsConvertBy layout releases most number (xs ++ ys) t None
+      → RecordsConvertBy layout releases most (number + length xs) ys u fault → IsSome fault → ⊥
   clash number [] ys t u fault first second has =
       let at : number + 0 ≡ number = omega arith in
-      one_way number ys t u fault first (subst (λ (n : ℕ). RecordsConvertBy layout files most n ys u fault) at second) has
+      one_way number ys t u fault first (subst (λ (n : ℕ). RecordsConvertBy layout releases most n ys u fault) at second) has
   clash number (x ∷ xs) ys [] u fault first second has = cc first.1
   clash number (x ∷ xs) ys (t ∷ ts) u fault first second has =
       let at : number + suc (length xs) ≡ number + 1 + length xs = omega arith in
-      clash (number + 1) xs ys ts u fault first.2 (subst (λ (n : ℕ). RecordsConvertBy layout files most n ys u fault) at second) has
+      clash (number + 1) xs ys ts u fault first.2 (subst (λ (n : ℕ). RecordsConvertBy layout releases most n ys u fault) at second) has
 
 -- the rows up to a piece that has a fault have one
-pub front_faults : (p : Pieces) (i : ℕ) (rows found : RowsOf) → ArePieces p → i < length p.pieces → AreRowsOf p.layout p.files p.most p.first (records_of_all p.layout.delimiter (take (i + 1) p.pieces)) rows
+pub front_faults : (p : Pieces) (i : ℕ) (rows found : RowsOf) → ArePieces p → i < length p.pieces → AreRowsOf p.layout p.releases p.most p.first (records_of_all p.layout.delimiter (take (i + 1) p.pieces)) rows
     → AreRowsOfPiece p i found → IsSome found.fault → rows.fault ≡ None → ⊥
 front_faults p i rows found sound lt are of_piece has none =
     let piece = get_or p.pieces i [] in
@@ -232,12 +232,12 @@ front_faults p i rows found sound lt are of_piece has none =
     let at : i + 1 ≡ suc i = omega arith in
     let all : records_of_all d (take (i + 1) p.pieces) ≡ parts.0 ++ csv_records_in d piece = ap (λ (n : ℕ). records_of_all d (take n p.pieces)) at ∙ parts.2 in
     let come = rw (none, all) at are.come in
-    clash p.layout p.files p.most p.first parts.0 (csv_records_in d piece) are.texts here.texts found.fault come
-    (subst (λ (n : ℕ). RecordsConvertBy p.layout p.files p.most (p.first + n) (csv_records_in d piece) here.texts found.fault) (sym parts.1) here.come) has
+    clash p.layout p.releases p.most p.first parts.0 (csv_records_in d piece) are.texts here.texts found.fault come
+    (subst (λ (n : ℕ). RecordsConvertBy p.layout p.releases p.most (p.first + n) (csv_records_in d piece) here.texts found.fault) (sym parts.1) here.come) has
 
 -- rows up to a fault are those of all
-pub front_of_all : (p : Pieces) (i : ℕ) (rows : RowsOf) (kind : RowKind) → AreRowsOf p.layout p.files p.most p.first (records_of_all p.layout.delimiter (take (i + 1) p.pieces)) rows → rows.fault ≡ Some kind
-    → AreRowsOf p.layout p.files p.most p.first (records_of_all p.layout.delimiter p.pieces) rows
+pub front_of_all : (p : Pieces) (i : ℕ) (rows : RowsOf) (kind : RowKind) → AreRowsOf p.layout p.releases p.most p.first (records_of_all p.layout.delimiter (take (i + 1) p.pieces)) rows → rows.fault ≡ Some kind
+    → AreRowsOf p.layout p.releases p.most p.first (records_of_all p.layout.delimiter p.pieces) rows
 front_of_all p i rows kind are has =
     let d = p.layout.delimiter in
     let all : records_of_all d p.pieces ≡ records_of_all d (take (i + 1) p.pieces) ++ records_of_all d (drop (i + 1) p.pieces) =
@@ -247,10 +247,10 @@ front_of_all p i rows kind are has =
     let come = rw has at are.come in
     record {
       texts = are.texts;
-      come = rw (all, has) (come_more p.layout p.files p.most p.first front rest_after are.texts kind come);
+      come = rw (all, has) (come_more p.layout p.releases p.most p.first front rest_after are.texts kind come);
       text = are.text;
       count = are.count;
-      faults = are.faults ∙ sym (faults_more p.layout p.files p.most p.first front rest_after are.texts kind come) ∙ ap (faults_by p.layout p.files p.most p.first) (sym all);
+      faults = are.faults ∙ sym (faults_more p.layout p.releases p.most p.first front rest_after are.texts kind come) ∙ ap (faults_by p.layout p.releases.zones p.most p.first) (sym all);
     }
 
 -- ---- a round that is converted again up to a fault
@@ -262,8 +262,8 @@ module _ (p : Pieces) (i : ℕ) (found : RowsOf) (sound : ArePieces p) (lt : i <
     again_ok tally wrote = front_faults p i wrote.0 found sound lt wrote.1 of_piece has wrote.2.0
 
     rows_again : (rows : RowsOf) (end : RowKind) → rows.fault ≡ Some end → (why : RunStop)
-        → EndsInRows contents old new log log' p.layout p.files p.most limit p.first (records_of_all p.layout.delimiter (take (i + 1) p.pieces)) rows why
-        → EndsInRows contents old new log log' p.layout p.files p.most limit p.first (records_of_all p.layout.delimiter p.pieces) rows why
+        → EndsInRows contents old new log log' p.layout p.releases p.most limit p.first (records_of_all p.layout.delimiter (take (i + 1) p.pieces)) rows why
+        → EndsInRows contents old new log log' p.layout p.releases p.most limit p.first (records_of_all p.layout.delimiter p.pieces) rows why
     rows_again rows end e (stop.Row row kind) (inl h) = inl h
     rows_again rows end e (stop.Row row kind) (inr h) =
         let d = p.layout.delimiter in
@@ -273,7 +273,7 @@ module _ (p : Pieces) (i : ℕ) (found : RowsOf) (sound : ArePieces p) (lt : i <
         inr (record {
           front = h.front;
           rest = h.rest;
-          come = rw (wholes_split d (i + 1) p.pieces, e) (come_more p.layout p.files p.most p.first front rest (h.front ++ h.rest) end come);
+          come = rw (wholes_split d (i + 1) p.pieces, e) (come_more p.layout p.releases p.most p.first front rest (h.front ++ h.rest) end come);
           before = h.before;
           too_many = h.too_many;
           number = h.number;
@@ -305,8 +305,8 @@ module _ (p : Pieces) (i : ℕ) (found : RowsOf) (sound : ArePieces p) (lt : i <
     rows_again rows end e stop.Memory h = absurd h
     rows_again rows end e stop.NoThread h = absurd h
 
-    by_fault : (rows : RowsOf) (fault : Option RowKind) → rows.fault ≡ fault → AreRowsOf p.layout p.files p.most p.first (records_of_all p.layout.delimiter (take (i + 1) p.pieces)) rows → (why : RunStop)
-        → EndsInRows contents old new log log' p.layout p.files p.most limit p.first (records_of_all p.layout.delimiter (take (i + 1) p.pieces)) rows why
+    by_fault : (rows : RowsOf) (fault : Option RowKind) → rows.fault ≡ fault → AreRowsOf p.layout p.releases p.most p.first (records_of_all p.layout.delimiter (take (i + 1) p.pieces)) rows → (why : RunStop)
+        → EndsInRows contents old new log log' p.layout p.releases p.most limit p.first (records_of_all p.layout.delimiter (take (i + 1) p.pieces)) rows why
         → EndsInRound p limit contents old new log log' why
     by_fault rows None e are why ends = absurd (front_faults p i rows found sound lt are of_piece has e)
     by_fault rows (Some kind) e are why ends = inr (rows, front_of_all p i rows kind are e, rows_again rows kind e why ends)
@@ -334,7 +334,7 @@ module _ (p : Pieces) (sound : ArePieces p) (fault : RowFault) where
   }
 
   module _ (values : List RowsOf) (are : AreValues (IsOutcomeOf low_of) (length p.pieces) values) where
-    pub joined_low : AreRowsOf p.layout p.files (fault.row - 1) p.first (records_of_all p.layout.delimiter p.pieces) (joined values)
+    pub joined_low : AreRowsOf p.layout p.releases (fault.row - 1) p.first (records_of_all p.layout.delimiter p.pieces) (joined values)
     joined_low = joined_round low_of values sound_low are
 
     module _ (limit : Option ℕ) (many : HasOneTooMany p limit fault) where
@@ -345,7 +345,7 @@ module _ (p : Pieces) (sound : ArePieces p) (fault : RowFault) where
       pub low_ends : (joined values).fault ≡ None → ⊥
       low_ends none =
           let (rows, are_rows, before, one) = many in
-          cut_ends p.layout p.files p.most limit p.first (records_of_all p.layout.delimiter p.pieces) rows are_rows fault.row fault.kind before one (fault.row - 1) at (joined values) joined_low none
+          cut_ends p.layout p.releases p.most limit p.first (records_of_all p.layout.delimiter p.pieces) rows are_rows fault.row fault.kind before one (fault.row - 1) at (joined values) joined_low none
 
       module _ {W : Type 0} (contents : W → Option (List ℕ)) (old new : Counts W) (log log' : Option (List RowNote)) where
         pub low_stops : (row : ℕ) (kind : RowKind) → EndsInPieces contents old new log log' p.first values (stop.Row row kind)
@@ -354,9 +354,9 @@ module _ (p : Pieces) (sound : ArePieces p) (fault : RowFault) where
             let (rows, are_rows, before, one) = many in
             let rs = records_of_all p.layout.delimiter p.pieces in
             inr (
-              rows_on p.layout p.files p.most limit p.first rs rows are_rows fault.row fault.kind before one (fault.row - 1) at (joined values) joined_low,
-              are_on p.layout p.files p.most limit p.first rs rows are_rows fault.row fault.kind before one (fault.row - 1) at (joined values) joined_low,
-              inr (stops_before p.layout p.files p.most limit p.first rs rows are_rows fault.row fault.kind before one (fault.row - 1) at (joined values) joined_low contents old new log log' row kind h),
+              rows_on p.layout p.releases p.most limit p.first rs rows are_rows fault.row fault.kind before one (fault.row - 1) at (joined values) joined_low,
+              are_on p.layout p.releases p.most limit p.first rs rows are_rows fault.row fault.kind before one (fault.row - 1) at (joined values) joined_low,
+              inr (stops_before p.layout p.releases p.most limit p.first rs rows are_rows fault.row fault.kind before one (fault.row - 1) at (joined values) joined_low contents old new log log' row kind h),
             )
 
         -- or the writer fails before it
@@ -366,9 +366,9 @@ module _ (p : Pieces) (sound : ArePieces p) (fault : RowFault) where
             let (rows, are_rows, before, one) = many in
             let rs = records_of_all p.layout.delimiter p.pieces in
             inr (
-              rows_on p.layout p.files p.most limit p.first rs rows are_rows fault.row fault.kind before one (fault.row - 1) at (joined values) joined_low,
-              are_on p.layout p.files p.most limit p.first rs rows are_rows fault.row fault.kind before one (fault.row - 1) at (joined values) joined_low,
-              fails_before p.layout p.files p.most limit p.first rs rows are_rows fault.row fault.kind before one (fault.row - 1) at (joined values) joined_low contents old new log log'
+              rows_on p.layout p.releases p.most limit p.first rs rows are_rows fault.row fault.kind before one (fault.row - 1) at (joined values) joined_low,
+              are_on p.layout p.releases p.most limit p.first rs rows are_rows fault.row fault.kind before one (fault.row - 1) at (joined values) joined_low,
+              fails_before p.layout p.releases p.most limit p.first rs rows are_rows fault.row fault.kind before one (fault.row - 1) at (joined values) joined_low contents old new log log'
                   (pieces_end contents old new log log' low_of None values sound_low are tt stop.WriteFailed h),
             )
         low_fails (stop.Source fault) other h = absurd h
@@ -388,5 +388,5 @@ on_err (Err e) P Q f is = f e is
 
 -- the rows of a piece's bytes are those of the piece
 pub rows_of_bytes : (p : Pieces) (i : ℕ) (piece : List ℕ) (rows : RowsOf) → slice_get p.pieces i ≡ Some piece
-    → AreRowsOf p.layout p.files p.most (p.first + i * p.size) (csv_records_in p.layout.delimiter piece) rows → AreRowsOfPiece p i rows
+    → AreRowsOf p.layout p.releases p.most (p.first + i * p.size) (csv_records_in p.layout.delimiter piece) rows → AreRowsOfPiece p i rows
 rows_of_bytes p i piece rows at are = rw at are

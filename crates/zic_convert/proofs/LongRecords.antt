@@ -2,7 +2,7 @@
 use Rattle.std.proofs.Common.{◌≡◌, ◌+◌, ℕ, List, [], ◌∷◌, Option, Some, inl, inr, refl, sym, ap, subst, arith}
 use Rattle.zic_columns.specs.Own.{CsvRecord}
 use Rattle.zic_counted.specs.Counts.{Counts}
-use Rattle.zic_files.specs.File.{File}
+use Rattle.zic_zones.specs.declared.releases.Releases.{Releases}
 use Rattle.zic_plan.specs.declared.layout.Layout.{Layout}
 use Rattle.zic_plan.specs.Noted.{RowNote}
 use Rattle.zic_base.specs.declared.row_fault.RowKind.{RowKind}
@@ -26,18 +26,18 @@ stop_cause contents old new row kind stop.ColumnTooLong is = absurd is
 stop_cause contents old new row kind stop.Memory is = absurd is
 stop_cause contents old new row kind stop.NoThread is = absurd is
 
-module _ {W : Type 0} (contents : W → Option (List ℕ)) (old new : Counts W) (layout : Layout) (files : List File) (most : ℕ) (limit : Option ℕ) (number : ℕ) (given : CsvRecord) (kind : RowKind)
-    (ends : ends_by layout files most number given ≡ Some kind) (log : Option (List RowNote)) where
+module _ {W : Type 0} (contents : W → Option (List ℕ)) (old new : Counts W) (layout : Layout) (releases : Releases) (most : ℕ) (limit : Option ℕ) (number : ℕ) (given : CsvRecord) (kind : RowKind)
+    (ends : ends_by layout releases.zones most number given ≡ Some kind) (log : Option (List RowNote)) where
   rows : RowsOf
   rows = record { text = []; count = 0; fault = Some kind; faults = [] }
 
-  no_row : AreRowsOf layout files most number (given ∷ []) rows
+  no_row : AreRowsOf layout releases most number (given ∷ []) rows
   unfolding rows
   no_row =
       let at : number ≡ number + 0 = omega arith in
-      one_fault layout files most number [] [] 0 [] (no_rows layout files most number) given [] kind (subst (λ (n : ℕ). ends_by layout files most n given ≡ Some kind) at ends)
+      one_fault layout releases most number [] [] 0 [] (no_rows layout releases most number) given [] kind (subst (λ (n : ℕ). ends_by layout releases.zones most n given ≡ Some kind) at ends)
 
-  pub long_stops : (why : RunStop) → IsStopAt contents old new number kind why → EndsInRecords layout files most limit number (given ∷ []) contents old new log log why
+  pub long_stops : (why : RunStop) → IsStopAt contents old new number kind why → EndsInRecords layout releases most limit number (given ∷ []) contents old new log log why
   unfolding rows
   long_stops (stop.Row at fault) is = inr (rows, no_row, inl ((ap Some (sym is.1), omega (arith, is.0), is.2, notes_none log), none_few limit))
   long_stops stop.WriteFailed is = inr (
@@ -48,12 +48,12 @@ module _ {W : Type 0} (contents : W → Option (List ℕ)) (old new : Counts W) 
       more = given ∷ [];
       parts = refl;
       front = empty_rows;
-      are = no_rows layout files most number;
+      are = no_rows layout releases most number;
       reached = [];
       beyond = given ∷ [];
       within = refl;
       upto = empty_rows;
-      are_upto = no_rows layout files most number;
+      are_upto = no_rows layout releases most number;
       fails = record { part = is.part; starts = is.starts; least = refl; wrote = is.wrote; failed = is.failed };
       noted = notes_none log;
       few = none_few limit;

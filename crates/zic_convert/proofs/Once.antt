@@ -1,6 +1,8 @@
 -- That a column converts to one list of texts, and one fault or none.
-use Rattle.std.proofs.Common.{◌≡◌, ◌≢◌, ◌+◌, ℕ, ℤ, List, [], ◌∷◌, ◌++◌, drop, Option, Some, None, Result, Ok, refl, sym, ap, ap₂, subst, ◌∙◌}
-use Rattle.std.specs.Prelude.{Contains, IsSome}
+use Rattle.std.proofs.Common.{inl, inr, ◌≡◌, ◌≢◌, ◌+◌, ℕ, ℤ, List, [], ◌∷◌, ◌++◌, drop, Option, Some, None, Result, Ok, refl, sym, ap, ap₂, subst, ◌∙◌}
+use Rattle.std.specs.Prelude.{Contains, IsSome, bytes_eq}
+use Rattle.std.specs.Cmp.Lexicographic.{bytes_decides}
+use Rattle.std.proofs.lemmas.Bool.{cases_Bool}
 use Rattle.std.proofs.lemmas.List.Elements.{All-contains}
 use Rattle.std.proofs.lemmas.Option.{same_Some}
 use Rattle.csv.specs.Reading.{strip_bom}
@@ -17,14 +19,21 @@ use Rattle.zic_files.specs.File.{File}
 use Rattle.zic_files.specs.Sound.{AreSoundFiles, IsSoundFile}
 use Rattle.zic_plan.specs.Layout.{records_before}
 use Rattle.zic_plan.specs.declared.layout.Layout.{Layout}
+use Rattle.zic_plan.specs.declared.layout.Written.{Written}
+use Rattle.zic_plan.specs.declared.layout.Written.TheVariants as written
+use Rattle.zic_zones.specs.declared.releases.Releases.{Releases}
 use Rattle.zic_base.specs.declared.row_fault.RowKind.{RowKind}
 use Rattle.zic_convert.specs.Column.{read_by}
-use Rattle.zic_convert.specs.Laws.{ColumnsConvertOnce}
-use Rattle.zic_layout_rows.specs.LayoutRows.{RecordsConvertBy, IsRowAt, IsTextBy, ends_by, fault_by, instant_by, rest_by, start_text}
+use Rattle.zic_convert.specs.Laws.{AreSoundReleases, ColumnsConvertOnce}
+use Rattle.zic_layout_rows.specs.LayoutRows.{RecordsConvertBy, IsAnswerAt, IsAnswerBy, IsMovedRow, IsRowAt, IsTextBy, IsWrittenAt, old_files, with_fields, ends_by, fault_by, instant_by, rest_by, start_text}
 use Rattle.zic_layout_rows.specs.Rows.{RecordsConvertTo, IsTextOf, fault_of}
 
 same_count : (a b : ℤ) → ◌≡◌ {A = Result ℤ RowKind} (Ok a) (Ok b) → a ≡ b
 same_count a b same = cc
+
+-- no fault is none that a row has
+faultless : (fault found : Option RowKind) → fault ≡ found → IsSome fault → found ≡ None → ⊥
+faultless fault found is has none = (let bad = rw (is, none) at has in cc bad)
 
 module _ (answers : FilesAnswerOnce) (files : List File) (sound : AreSoundFiles files) where
   -- a name is one file's
@@ -63,16 +72,31 @@ module _ (answers : FilesAnswerOnce) (files : List File) (sound : AreSoundFiles 
       let rest : rest_by layout.style layout.from layout.unit a.count a.state ≡ rest_by layout.style layout.from layout.unit b.count b.state = rw (count, state) refl in
       a.is ∙ ap₂ (λ (x y : List ℕ). x ++ exchanged layout.delimiter y) start rest ∙ sym b.is
 
+  -- files answer a record once
+  one_answer_by : (layout : Layout) (row_record : CsvRecord) (t u : List ℕ) → IsAnswerBy layout files row_record t → IsAnswerBy layout files row_record u → t ≡ u
+  one_answer_by layout row_record t u a b =
+      let file = one_file a.file b.file a.among b.among (a.named ∙ sym b.named) in
+      let input = same_Some a.input b.input (sym a.says ∙ b.says) in
+      let by_file = subst (λ (f : File). instant_by layout.from layout.unit f b.input ≡ Ok b.count) (sym file) b.means in
+      let meant = subst (λ (n : ℤ). instant_by layout.from layout.unit a.file n ≡ Ok b.count) (sym input) by_file in
+      let count = same_count a.count b.count (sym a.means ∙ meant) in
+      let is = All-contains IsSoundFile files a.file sound.each a.among in
+      let there = subst (λ (f : File). Answers f.image.content (second_of layout.unit b.count) (Some b.state)) (sym file) b.answers in
+      let other = subst (λ (n : ℤ). Answers a.file.image.content (second_of layout.unit n) (Some b.state)) (sym count) there in
+      let state = same_Some a.state b.state (answers.only a.file.image.octets a.file.image.content is.read (second_of layout.unit a.count) (Some a.state) (Some b.state) a.answers other) in
+      let rest : rest_by layout.style layout.from layout.unit a.count a.state ≡ rest_by layout.style layout.from layout.unit b.count b.state = rw (count, state) refl in
+      a.is ∙ ap (exchanged layout.delimiter) rest ∙ sym b.is
+
+  one_answer : (layout : Layout) (fault : Option RowKind) (row_record : CsvRecord) (t u : List ℕ) → IsAnswerAt layout files fault row_record t → IsAnswerAt layout files fault row_record u → t ≡ u
+  one_answer layout None row_record t u a b = one_answer_by layout row_record t u a b
+  one_answer layout (Some kind) row_record t u a b = a ∙ sym b
+
   -- and so has a row, with this fault or none
   one_row : (layout : Layout) (fault : Option RowKind) (row_record : CsvRecord) (t u : List ℕ) → IsRowAt layout files fault row_record t → IsRowAt layout files fault row_record u → t ≡ u
   one_row layout None row_record t u a b = one_text_by layout row_record t u a b
   one_row layout (Some kind) row_record t u a b = a ∙ sym b
 
   module _ (most : ℕ) where
-    -- no fault is none that a row has
-    faultless : (fault found : Option RowKind) → fault ≡ found → IsSome fault → found ≡ None → ⊥
-    faultless fault found is has none = (let bad = rw (is, none) at has in cc bad)
-
     -- records come to one list of texts, and one fault or none
     pub once : (number : ℕ) (records : List (List (List ℕ))) (a b : List (List ℕ)) (fault other : Option RowKind)
         → RecordsConvertTo files most number records a fault → RecordsConvertTo files most number records b other → (a ≡ b) × (fault ≡ other)
@@ -85,17 +109,40 @@ module _ (answers : FilesAnswerOnce) (files : List File) (sound : AreSoundFiles 
         let rest = once (number + 1) xs ts us fault other come.2 then.2 in
         (ap (λ (l : List ℕ). l ∷ ts) first ∙ ap (λ (l : List (List ℕ)). u ∷ l) rest.0, rest.1)
 
-    -- also by a layout
-    pub once_by : (layout : Layout) (number : ℕ) (row_records : List CsvRecord) (a b : List (List ℕ)) (fault other : Option RowKind)
-        → RecordsConvertBy layout files most number row_records a fault → RecordsConvertBy layout files most number row_records b other → (a ≡ b) × (fault ≡ other)
-    once_by layout number [] a b fault other come then = (come.0 ∙ sym then.0, come.1 ∙ sym then.1)
-    once_by layout number (x ∷ xs) [] [] fault other come then = (refl, come.0 ∙ sym then.0)
-    once_by layout number (x ∷ xs) [] (u ∷ us) fault other come then = absurd (faultless fault (ends_by layout files most number x) come.0 come.1 then.0)
-    once_by layout number (x ∷ xs) (t ∷ ts) [] fault other come then = absurd (faultless other (ends_by layout files most number x) then.0 then.1 come.0)
-    once_by layout number (x ∷ xs) (t ∷ ts) (u ∷ us) fault other come then =
-        let first = one_row layout (fault_by layout files most number x) x t u come.1 then.1 in
-        let rest = once_by layout (number + 1) xs ts us fault other come.2 then.2 in
-        (ap (λ (l : List ℕ). l ∷ ts) first ∙ ap (λ (l : List (List ℕ)). u ∷ l) rest.0, rest.1)
+-- also where they are compared with those of another release
+module _ (answers : FilesAnswerOnce) (releases : Releases) (sound : AreSoundReleases releases) (most : ℕ) where
+  one_moved : (layout : Layout) (number : ℕ) (row_record : CsvRecord) (t u : List ℕ) → IsMovedRow layout releases.zones (old_files releases.old) most number row_record t
+      → IsMovedRow layout releases.zones (old_files releases.old) most number row_record u → t ≡ u
+  one_moved layout number row_record t u a b =
+      let fault = fault_by layout releases.zones most number row_record in
+      let old_fault = fault_by layout (old_files releases.old) most number row_record in
+      let row = one_row answers releases.zones sound.zones layout fault row_record a.row b.row a.by b.by in
+      let answer = one_answer answers releases.zones sound.zones layout fault row_record a.answer b.answer a.answers b.answers in
+      let other = one_answer answers (old_files releases.old) sound.old layout old_fault row_record a.other b.other a.others b.others in
+      elim (cases_Bool (bytes_eq a.answer a.other)) [
+        | inl is ↦
+            let same = (bytes_decides a.answer a.other).0 is in
+            a.same same ∙ sym (b.same (sym answer ∙ same ∙ other))
+        | inr no ↦
+            let differ : (a.answer ≡ a.other → ⊥) = λ e. (let yes = (bytes_decides a.answer a.other).1 e in cc (sym yes ∙ no)) in
+            a.moved differ ∙ ap₂ with_fields row other ∙ sym (b.moved (λ e. differ (answer ∙ e ∙ sym other)))
+      ]
+
+  one_written : (layout : Layout) (by : Written) (number : ℕ) (row_record : CsvRecord) (t u : List ℕ) → IsWrittenAt by layout releases most number row_record t
+      → IsWrittenAt by layout releases most number row_record u → t ≡ u
+  one_written layout written.All number row_record t u a b = one_row answers releases.zones sound.zones layout (fault_by layout releases.zones most number row_record) row_record t u a b
+  one_written layout written.Moved number row_record t u a b = one_moved layout number row_record t u a b
+
+  pub once_by : (layout : Layout) (number : ℕ) (row_records : List CsvRecord) (a b : List (List ℕ)) (fault other : Option RowKind)
+      → RecordsConvertBy layout releases most number row_records a fault → RecordsConvertBy layout releases most number row_records b other → (a ≡ b) × (fault ≡ other)
+  once_by layout number [] a b fault other come then = (come.0 ∙ sym then.0, come.1 ∙ sym then.1)
+  once_by layout number (x ∷ xs) [] [] fault other come then = (refl, come.0 ∙ sym then.0)
+  once_by layout number (x ∷ xs) [] (u ∷ us) fault other come then = absurd (faultless fault (ends_by layout releases.zones most number x) come.0 come.1 then.0)
+  once_by layout number (x ∷ xs) (t ∷ ts) [] fault other come then = absurd (faultless other (ends_by layout releases.zones most number x) then.0 then.1 come.0)
+  once_by layout number (x ∷ xs) (t ∷ ts) (u ∷ us) fault other come then =
+      let first = one_written layout layout.written number x t u come.1 then.1 in
+      let rest = once_by layout (number + 1) xs ts us fault other come.2 then.2 in
+      (ap (λ (l : List ℕ). l ∷ ts) first ∙ ap (λ (l : List (List ℕ)). u ∷ l) rest.0, rest.1)
 
 -- and so does a column
 pub columns_once : RecordsAreOne → RecordsByAreOne → FilesAnswerOnce → ColumnsConvertOnce
@@ -103,8 +150,8 @@ columns_once one by_mode answers = record {
   all = λ files most column a b fault other sound come then.
       (let same = one _ come.records then.records come.are then.are in
       once answers files sound most 1 come.records a b fault other come.rows (rw same then.rows));
-  by = λ files layout most column a b fault other sound come then.
+  by = λ releases layout most column a b fault other sound come then.
       (let same = by_mode layout.records layout.delimiter (strip_bom (read_by layout column)) come.are.all then.are.all come.are.are then.are.are in
       let row_records : come.row_records ≡ then.row_records = come.are.is ∙ ap (drop (records_before layout.header)) same ∙ sym then.are.is in
-      once_by answers files sound most layout 1 come.row_records a b fault other come.rows (rw row_records then.rows));
+      once_by answers releases sound most layout 1 come.row_records a b fault other come.rows (rw row_records then.rows));
 }

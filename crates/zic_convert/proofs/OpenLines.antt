@@ -7,13 +7,16 @@ use Rattle.zic_columns.specs.Own.{CsvRecord}
 use Rattle.zic_columns.specs.Round.{may_have}
 use Rattle.zic_counted.specs.Counts.{Counts}
 use Rattle.zic_files.specs.File.{File}
+use Rattle.zic_plan.specs.declared.layout.Written.{Written}
+use Rattle.zic_plan.specs.declared.layout.Written.TheVariants as written
+use Rattle.zic_zones.specs.declared.releases.Releases.{Releases}
 use Rattle.zic_plan.specs.declared.layout.Layout.{Layout}
 use Rattle.zic_plan.specs.Noted.{RowNote}
 use Rattle.zic_base.specs.declared.row_fault.RowKind.{RowKind}
 use Rattle.zic_base.specs.declared.row_fault.RowKind.TheVariants as kinds
 use Rattle.zic_base.specs.declared.run_stop.RunStop.{RunStop}
 use Rattle.zic_base.specs.declared.run_stop.RunStop.TheVariants as stop
-use Rattle.zic_layout_rows.specs.LayoutRows.{ending, fault_by, faulty_text, if_aside, unless_aside}
+use Rattle.zic_layout_rows.specs.LayoutRows.{IsAnswerAt, IsRowAt, IsWrittenAt, empty_fields, ending, ends_by, fault_by, faulty_text, if_aside, noted, old_files, unless_aside}
 use Rattle.zic_convert.specs.code.Pieces.{joined}
 use Rattle.zic_layout_rows.specs.PieceRows.{AreRowsOf, RowsOf, empty_rows}
 use Rattle.zic_convert.specs.Run.{AreFew, IsOneTooMany}
@@ -21,62 +24,82 @@ use Rattle.zic_convert.specs.code.Written.{EndsInPieces, EndsInRecords, EndsInRo
 use Rattle.zic_layout_rows.proofs.Coming.{no_rows, rows_followed, too_many_ends}
 use Rattle.zic_layout_rows.proofs.MoreRows.{end_added, row_added}
 use Rattle.zic_convert.proofs.Logs.{notes_none}
-use Rattle.zic_layout_rows.proofs.NextRows.{next_end, next_faulty}
+use Rattle.zic_layout_rows.specs.code.Row.{IsNextBy}
+use Rattle.zic_convert.specs.code.Row.{unless_moved}
 use Rattle.zic_convert.proofs.TooMany.{none_few, one_noted}
 
-module _ (layout : Layout) (files : List File) (most number : ℕ) (given : CsvRecord) (kind : RowKind) (is : fault_by layout files most number given ≡ Some kind) where
+module _ (layout : Layout) (releases : Releases) (most number : ℕ) (given : CsvRecord) (kind : RowKind)
+    (is : (files : List File) → fault_by layout files most number given ≡ Some kind) where
   at : number + 0 ≡ number
   at = omega arith
 
-  here : fault_by layout files most (number + 0) given ≡ Some kind
-  here = subst (λ (n : ℕ). fault_by layout files most n given ≡ Some kind) (sym at) is
+  here : (files : List File) → fault_by layout files most (number + 0) given ≡ Some kind
+  here files = subst (λ (n : ℕ). fault_by layout files most n given ≡ Some kind) (sym at) (is files)
 
   -- a record that ends the run
-  pub one_ends : ending layout.at_fault layout.records (Some kind) ≡ Some kind → AreRowsOf layout files most number (given ∷ []) (record { text = []; count = 0; fault = Some kind; faults = [] })
+  pub one_ends : ending layout.at_fault layout.records (Some kind) ≡ Some kind → AreRowsOf layout releases most number (given ∷ []) (record { text = []; count = 0; fault = Some kind; faults = [] })
   one_ends ends =
       let rows : RowsOf = record { text = []; count = 0; fault = Some kind; faults = [] } in
-      end_added layout files most number [] given empty_rows rows (no_rows layout files most number) refl
-      (next_end layout files most (number + 0) given empty_rows rows kind here ends refl) refl []
+      let ended : ends_by layout releases.zones most (number + 0) given ≡ Some kind = ap (ending layout.at_fault layout.records) (here releases.zones) ∙ ends in
+      end_added layout releases most number [] given empty_rows rows (no_rows layout releases most number) refl
+      (subst (λ (end : Option RowKind). IsNextBy layout releases most (number + 0) given empty_rows rows end) (sym ended) refl) refl []
+
+  -- what is written of a record whose row has a fault by any files
+  faulty_written : (by : Written) → IsWrittenAt by layout releases most (number + 0) given (unless_moved by (faulty_text layout kind given))
+  faulty_written written.All = subst (λ (o : Option RowKind). IsRowAt layout releases.zones o given (faulty_text layout kind given)) (sym (here releases.zones)) refl
+  faulty_written written.Moved = record {
+    row = faulty_text layout kind given;
+    by = subst (λ (o : Option RowKind). IsRowAt layout releases.zones o given (faulty_text layout kind given)) (sym (here releases.zones)) refl;
+    answer = empty_fields layout;
+    answers = subst (λ (o : Option RowKind). IsAnswerAt layout releases.zones o given (empty_fields layout)) (sym (here releases.zones)) refl;
+    other = empty_fields layout;
+    others = subst (λ (o : Option RowKind). IsAnswerAt layout (old_files releases.old) o given (empty_fields layout)) (sym (here (old_files releases.old))) refl;
+    same = λ e. refl;
+    moved = λ differ. absurd (differ refl);
+  }
 
   -- a record whose row has a fault
   pub one_faulty : ending layout.at_fault layout.records (Some kind) ≡ None
-      → AreRowsOf layout files most number (given ∷ []) (record { text = faulty_text layout kind given; count = 1; fault = None; faults = record { fault = record { row = number; kind = kind }; own = if_aside layout.at_fault given.own } ∷ [] })
+      → AreRowsOf layout releases most number (given ∷ []) (record { text = unless_moved layout.written (faulty_text layout kind given); count = 1; fault = None; faults = record { fault = record { row = number; kind = kind }; own = if_aside layout.at_fault given.own } ∷ [] })
   one_faulty goes =
-      let rows : RowsOf = record { text = faulty_text layout kind given; count = 1; fault = None; faults = record { fault = record { row = number; kind = kind }; own = if_aside layout.at_fault given.own } ∷ [] } in
-      let same : rows ≡ record { text = faulty_text layout kind given; count = 1; fault = None; faults = record { fault = record { row = number + 0; kind = kind }; own = if_aside layout.at_fault given.own } ∷ [] } =
-      ap (λ (n : ℕ). made n) (sym at) in
-      row_added layout files most number [] given empty_rows rows (no_rows layout files most number) refl
-      (next_faulty layout files most (number + 0) given empty_rows rows kind here goes same) refl
+      let goes_on : ends_by layout releases.zones most (number + 0) given ≡ None = ap (ending layout.at_fault layout.records) (here releases.zones) ∙ goes in
+      let noted_here : noted layout.at_fault (number + 0) given.own (fault_by layout releases.zones most (number + 0) given) ≡ noted layout.at_fault (number + 0) given.own (Some kind) =
+      ap (noted layout.at_fault (number + 0) given.own) (here releases.zones) in
+      let made_here : made number ≡ record (made number) { faults = noted layout.at_fault (number + 0) given.own (fault_by layout releases.zones most (number + 0) given) } =
+      ap (λ (n : ℕ). made n) (sym at) ∙ ap (λ (l : List RowNote). record (made number) { faults = l }) (sym noted_here) in
+      row_added layout releases most number [] given empty_rows (made number) (no_rows layout releases most number) refl
+      (subst (λ (end : Option RowKind). IsNextBy layout releases most (number + 0) given empty_rows (made number) end) (sym goes_on)
+      (unless_moved layout.written (faulty_text layout kind given), faulty_written layout.written, made_here)) refl
     where
       made : ℕ → RowsOf
-      made n = record { text = faulty_text layout kind given; count = 1; fault = None; faults = record { fault = record { row = n; kind = kind }; own = if_aside layout.at_fault given.own } ∷ [] }
+      made n = record { text = unless_moved layout.written (faulty_text layout kind given); count = 1; fault = None; faults = record { fault = record { row = n; kind = kind }; own = if_aside layout.at_fault given.own } ∷ [] }
 
 -- one row
 abbrev pub made_of : List ℕ → Option RowKind → List RowNote → RowsOf
 made_of text fault faults = record { text = text; count = 1; fault = fault; faults = faults }
 
 -- rows alone are those of one piece
-pub alone : (layout : Layout) (files : List File) (most number : ℕ) (given : CsvRecord) (rows : RowsOf) → AreRowsOf layout files most number (given ∷ []) rows
-    → AreRowsOf layout files most number (given ∷ []) (joined (rows ∷ []))
-alone layout files most number given rows are = rows_followed layout files most number (given ∷ []) [] rows (joined []) rows.fault refl are (λ none. no_rows layout files most (number + 1))
+pub alone : (layout : Layout) (releases : Releases) (most number : ℕ) (given : CsvRecord) (rows : RowsOf) → AreRowsOf layout releases most number (given ∷ []) rows
+    → AreRowsOf layout releases most number (given ∷ []) (joined (rows ∷ []))
+alone layout releases most number given rows are = rows_followed layout releases most number (given ∷ []) [] rows (joined []) rows.fault refl are (λ none. no_rows layout releases most (number + 1))
 
 -- and end as they do, where they have few faults
-module _ {W : Type 0} (contents : W → Option (List ℕ)) (old new : Counts W) (log log' : Option (List RowNote)) (layout : Layout) (files : List File) (most : ℕ) (limit : Option ℕ) (number : ℕ) (given : CsvRecord)
-    (rows : RowsOf) (are : AreRowsOf layout files most number (given ∷ []) rows) where
+module _ {W : Type 0} (contents : W → Option (List ℕ)) (old new : Counts W) (log log' : Option (List RowNote)) (layout : Layout) (releases : Releases) (most : ℕ) (limit : Option ℕ) (number : ℕ) (given : CsvRecord)
+    (rows : RowsOf) (are : AreRowsOf layout releases most number (given ∷ []) rows) where
   pub alone_ends : (why : RunStop) → AreFew limit (joined (rows ∷ [])).faults → EndsInPieces contents old new log log' number (rows ∷ []) why
-      → EndsInRows contents old new log log' layout files most limit number (given ∷ []) (joined (rows ∷ [])) why
+      → EndsInRows contents old new log log' layout releases most limit number (given ∷ []) (joined (rows ∷ [])) why
   alone_ends (stop.Row row kind) few h = inl (h, few)
   alone_ends stop.WriteFailed few (zero, fails, noted) = record {
     done = [];
     more = given ∷ [];
     parts = refl;
     front = joined [];
-    are = no_rows layout files most number;
+    are = no_rows layout releases most number;
     reached = given ∷ [];
     beyond = [];
     within = refl;
     upto = joined (rows ∷ []);
-    are_upto = alone layout files most number given rows are;
+    are_upto = alone layout releases most number given rows are;
     fails = fails;
     noted = noted;
     few = none_few limit;
@@ -87,12 +110,12 @@ module _ {W : Type 0} (contents : W → Option (List ℕ)) (old new : Counts W) 
     more = [];
     parts = refl;
     front = joined (rows ∷ []);
-    are = alone layout files most number given rows are;
+    are = alone layout releases most number given rows are;
     reached = given ∷ [];
     beyond = [];
     within = refl;
     upto = joined (rows ∷ []);
-    are_upto = alone layout files most number given rows are;
+    are_upto = alone layout releases most number given rows are;
     fails = fails;
     noted = noted;
     few = few;
@@ -103,12 +126,12 @@ module _ {W : Type 0} (contents : W → Option (List ℕ)) (old new : Counts W) 
     more = [];
     parts = refl;
     front = joined (rows ∷ []);
-    are = alone layout files most number given rows are;
+    are = alone layout releases most number given rows are;
     reached = given ∷ [];
     beyond = [];
     within = refl;
     upto = joined (rows ∷ []);
-    are_upto = alone layout files most number given rows are;
+    are_upto = alone layout releases most number given rows are;
     fails = fails;
     noted = noted;
     few = few;
@@ -122,12 +145,12 @@ module _ {W : Type 0} (contents : W → Option (List ℕ)) (old new : Counts W) 
 
   -- a row alone that has one fault too many is the first, and nothing is written
   module _ (row : ℕ) (kind : RowKind) (before : List RowNote) (many : IsOneTooMany limit (joined (rows ∷ [])).faults row kind before) where
-    all : AreRowsOf layout files most number (given ∷ []) (joined (rows ∷ []))
-    all = alone layout files most number given rows are
+    all : AreRowsOf layout releases most number (given ∷ []) (joined (rows ∷ []))
+    all = alone layout releases most number given rows are
 
-    pub alone_stops : (why : RunStop) → IsStopAt contents old new row kind why → EndsInRecords layout files most limit number (given ∷ []) contents old new log log why
+    pub alone_stops : (why : RunStop) → IsStopAt contents old new row kind why → EndsInRecords layout releases most limit number (given ∷ []) contents old new log log why
     alone_stops (stop.Row at fault) is =
-        let first = one_noted layout files most number given before many.after _ (sym all.faults ∙ many.parts) in
+        let first = one_noted layout releases most number given before many.after _ (sym all.faults ∙ many.parts) in
         inr (
           joined (rows ∷ []),
           all,
@@ -150,12 +173,12 @@ module _ {W : Type 0} (contents : W → Option (List ℕ)) (old new : Counts W) 
         more = given ∷ [];
         parts = refl;
         front = joined [];
-        are = no_rows layout files most number;
+        are = no_rows layout releases most number;
         reached = [];
         beyond = given ∷ [];
         within = refl;
         upto = joined [];
-        are_upto = no_rows layout files most number;
+        are_upto = no_rows layout releases most number;
         fails = record {
           part = is.part;
           starts = is.starts;

@@ -26,17 +26,18 @@ use Rattle.zic_plan.specs.declared.layout.Records.TheVariants as by
 use Rattle.zic_plan.specs.declared.layout.RowStart.TheVariants as starts
 use Rattle.zic_plan.specs.declared.layout.Style.TheVariants as styles
 use Rattle.zic_plan.specs.declared.layout.Unit.{Unit}
+use Rattle.zic_plan.specs.declared.layout.Written.{Written}
 use Rattle.zic_plan.specs.declared.layout.Unit.TheVariants as unit
 use Rattle.zic_rows.proofs.Counts.{count_seconds, counted_seconds, second_one}
 use Rattle.zic_rows.specs.Count.{counted_rest_text, counted_row_text, second_of}
 use Rattle.zic_rows.specs.Instant.{instant_of}
 use Rattle.zic_rows.specs.Row.{row_text}
 use Rattle.zic_tzif.specs.Answer.{Answers}
-use Rattle.zic_zones.specs.Zones.{is_named, zone_in}
+use Rattle.zic_zones.specs.Zones.{alone, is_named, zone_in}
 use Rattle.zic_convert.specs.Column.{AreRowRecords, ConvertsBodyTo, ConvertsBy, ConvertsTo, read_by}
 use Rattle.zic_convert.specs.Laws.{PlainColumnsConvertAlike}
 use Rattle.zic_layout_rows.specs.Rows.{RecordsConvertTo, IsTextOf, fault_of, instant_in, is_closed, is_row_instant, name_in}
-use Rattle.zic_layout_rows.specs.LayoutRows.{RecordsConvertBy, IsRowAt, IsTextBy, count_in, ends_by, fault_by, file_named, rest_by, start_text, time_by, ok_count, err_fault}
+use Rattle.zic_layout_rows.specs.LayoutRows.{RecordsConvertBy, IsRowAt, IsTextBy, IsWrittenAt, count_in, ends_by, fault_by, file_named, rest_by, start_text, time_by, ok_count, err_fault}
 use Rattle.zic_convert.specs.code.Row.{fields_of_all}
 use Rattle.zic_layout_rows.specs.code.Row.{field_start}
 
@@ -155,25 +156,27 @@ module _ (layout : Layout) (plain : HasPlainRows layout) (files : List File) whe
 
   -- plain columns come to the same
   pub come_plainly : (most number : ℕ) (row_records : List CsvRecord) (texts : List (List ℕ)) (fault : Option RowKind)
-      → RecordsConvertBy layout files most number row_records texts fault → RecordsConvertTo files most number (fields_of_all row_records) texts fault
+      → RecordsConvertBy layout (alone files) most number row_records texts fault → RecordsConvertTo files most number (fields_of_all row_records) texts fault
   come_plainly most number [] texts fault come = come
   come_plainly most number (row_record ∷ row_records) [] fault come = (come.0 ∙ plain_ends most number row_record, come.1)
   come_plainly most number (row_record ∷ row_records) (text ∷ texts) fault come =
       let sound = sym (plain_ends most number row_record) ∙ come.0 in
       let two = two_of most number row_record.fields sound in
-      let row = subst (λ (o : Option RowKind). IsRowAt layout files o row_record text) (plain_fault most number row_record ∙ sound) come.1 in
+      let written = subst (λ (w : Written). IsWrittenAt w layout (alone files) most number row_record text) plain.written come.1 in
+      let row = subst (λ (o : Option RowKind). IsRowAt layout files o row_record text) (plain_fault most number row_record ∙ sound) written in
       (sound, text_plainly row_record two.0 two.1 text two.2 row, come_plainly most (number + 1) row_records texts fault come.2)
 
   -- and the other way round
   come_by : (most number : ℕ) (row_records : List CsvRecord) (texts : List (List ℕ)) (fault : Option RowKind) → RecordsConvertTo files most number (fields_of_all row_records) texts fault
-      → RecordsConvertBy layout files most number row_records texts fault
+      → RecordsConvertBy layout (alone files) most number row_records texts fault
   come_by most number [] texts fault come = come
   come_by most number (row_record ∷ row_records) [] fault come = (come.0 ∙ sym (plain_ends most number row_record), come.1)
   come_by most number (row_record ∷ row_records) (text ∷ texts) fault come =
       let two = two_of most number row_record.fields come.0 in
       let row = text_by row_record.own row_record.fields two.0 two.1 text two.2 come.1 in (
         plain_ends most number row_record ∙ come.0,
-        subst (λ (o : Option RowKind). IsRowAt layout files o row_record text) (sym (plain_fault most number row_record ∙ come.0)) row,
+        subst (λ (w : Written). IsWrittenAt w layout (alone files) most number row_record text) (sym plain.written)
+            (subst (λ (o : Option RowKind). IsRowAt layout files o row_record text) (sym (plain_fault most number row_record ∙ come.0)) row),
         come_by most (number + 1) row_records texts fault come.2,
       )
 
@@ -213,16 +216,16 @@ module _ (read : ColumnRecordsAreRead) (one : DelimitedRecordsAreOne) (files : L
   }
 
   -- the rows of a column are those of its records after the header, if it has one, without a layout
-  plainly : ConvertsBy files layout most column texts fault → RecordsConvertTo files most 1 (fields_of_all (drop (records_before layout.header) (csv_records (strip_bom column)))) texts fault
+  plainly : ConvertsBy (alone files) layout most column texts fault → RecordsConvertTo files most 1 (fields_of_all (drop (records_before layout.header) (csv_records (strip_bom column)))) texts fault
   plainly come =
       subst (λ (l : List CsvRecord). RecordsConvertTo files most 1 (fields_of_all l) texts fault) (rows_are come.row_records come.are) (come_plainly layout plain files most 1 come.row_records texts fault come.rows)
 
-  by_layout : RecordsConvertTo files most 1 (fields_of_all (drop (records_before layout.header) (csv_records (strip_bom column)))) texts fault → ConvertsBy files layout most column texts fault
+  by_layout : RecordsConvertTo files most 1 (fields_of_all (drop (records_before layout.header) (csv_records (strip_bom column)))) texts fault → ConvertsBy (alone files) layout most column texts fault
   by_layout come =
       let row_records = drop (records_before layout.header) (csv_records (strip_bom column)) in
       record { row_records = row_records; are = all_rows; rows = come_by layout plain files most 1 row_records texts fault come }
 
-  without_header : layout.header ≡ header.Absent → ConvertsBy files layout most column texts fault ↔ ConvertsTo files most column texts fault
+  without_header : layout.header ≡ header.Absent → ConvertsBy (alone files) layout most column texts fault ↔ ConvertsTo files most column texts fault
   without_header none =
       let bytes = strip_bom column in
       let same : fields_of_all (drop (records_before layout.header) (csv_records bytes)) ≡ column_records bytes = rw none (wholes_fields bytes) in (
@@ -236,7 +239,7 @@ module _ (read : ColumnRecordsAreRead) (one : DelimitedRecordsAreOne) (files : L
             by_layout (subst (λ (l : List (List (List ℕ))). RecordsConvertTo files most 1 l texts fault) is to.rows),
       )
 
-  with_header : records_before layout.header ≡ 1 → ConvertsBy files layout most column texts fault ↔ ConvertsBodyTo files most column texts fault
+  with_header : records_before layout.header ≡ 1 → ConvertsBy (alone files) layout most column texts fault ↔ ConvertsBodyTo files most column texts fault
   with_header one_before =
       let bytes = strip_bom column in
       let same : fields_of_all (drop (records_before layout.header) (csv_records bytes)) ≡ drop 1 (column_records bytes) =

@@ -7,14 +7,14 @@ use Rattle.zic_columns.specs.Round.{HasNoRecord, IsNextTooLong, may_have}
 use Rattle.zic_counted.specs.Counts.{Counts}
 use Rattle.zic_counted.specs.Written.{FailsWithin}
 use Rattle.zic_tzif.specs.Laws.{FilesAnswerOnce}
-use Rattle.zic_files.specs.File.{File}
-use Rattle.zic_files.specs.Sound.{AreSoundFiles}
+use Rattle.zic_zones.specs.declared.releases.Releases.{Releases}
+use Rattle.zic_convert.specs.Laws.{AreSoundReleases}
 use Rattle.zic_plan.specs.Plan.{Limits}
 use Rattle.zic_plan.specs.declared.layout.Layout.{Layout}
 use Rattle.zic_plan.specs.Noted.{RowNote}
 use Rattle.zic_base.specs.declared.run_stop.RunStop.{RunStop}
 use Rattle.zic_base.specs.declared.run_stop.RunStop.TheVariants as stop
-use Rattle.zic_zones.specs.Zones.{Agree}
+use Rattle.zic_zones.specs.Zones.{ReleasesAgree}
 use Rattle.zic_convert.specs.Run.{EndsByZones, EndsIn}
 use Rattle.zic_convert.specs.code.Halt.{stop_of}
 use Rattle.zic_convert.specs.code.Progress.{ComeNext, ConvertsRest, EndsAtTaking, EndsInRest, IsSoFar, Takes, longest_of, output}
@@ -27,93 +27,94 @@ use Rattle.zic_convert.specs.declared.halt.Halt.TheVariants as halt
 use Rattle.zic_convert.proofs.Halts.{ends_at_flush, ends_in_rows, ends_still}
 use Rattle.zic_convert.proofs.Options.{if_some}
 use Rattle.zic_convert.proofs.Progress.{all_written, at_start, later, long_comes_next, none_taken, taken_come_next}
-use Rattle.zic_convert.proofs.Staying.{IsKnownZone, come_same, rows_same}
+use Rattle.zic_convert.proofs.Sounds.{agree_sound}
+use Rattle.zic_convert.proofs.Staying.{AreKnownZones, KeepsBoth, come_same, kept, rows_same}
 
--- how far a conversion of bytes, where they are known, has come by these files
-abbrev pub IsFarBy : Layout → ℕ → Option ℕ → Option (List ℕ) → Option (List ℕ) → ℕ → Option ℕ → Option (List ℕ) → Option (List ℕ) → Option (List RowNote) → Option (List RowNote) → List File → Type 0
-IsFarBy layout most limit known left n more held now log noted files =
-    (bytes : List ℕ) → known ≡ Some bytes → IsSoFar layout files most limit (records_in layout bytes) left n more (output held now log noted)
+-- how far a conversion of bytes, where they are known, has come by these releases
+abbrev pub IsFarBy : Layout → ℕ → Option ℕ → Option (List ℕ) → Option (List ℕ) → ℕ → Option ℕ → Option (List ℕ) → Option (List ℕ) → Option (List RowNote) → Option (List RowNote) → Releases → Type 0
+IsFarBy layout most limit known left n more held now log noted releases =
+    (bytes : List ℕ) → known ≡ Some bytes → IsSoFar layout releases most limit (records_in layout bytes) left n more (output held now log noted)
 
-pub far_at_start : (layout : Layout) (most : ℕ) (limit : Option ℕ) (known held : Option (List ℕ)) (log : Option (List RowNote)) (files : List File) → IsFarBy layout most limit known known 0 limit held held log log files
-far_at_start layout most limit known held log files bytes e = at_start layout files most limit (records_in layout bytes) known held log bytes e refl
+pub far_at_start : (layout : Layout) (most : ℕ) (limit : Option ℕ) (known held : Option (List ℕ)) (log : Option (List RowNote)) (releases : Releases) → IsFarBy layout most limit known known 0 limit held held log log releases
+far_at_start layout most limit known held log releases bytes e = at_start layout releases most limit (records_in layout bytes) known held log bytes e refl
 
 module _ {W : Type 0} (contents : W → Option (List ℕ)) (once : FilesAnswerOnce) (layout : Layout) (plan : Limits) (limit : Option ℕ) (known left : Option (List ℕ)) (n : ℕ) (more : Option ℕ) (held : Option (List ℕ)) (mid : Counts W)
-    (log now : Option (List RowNote)) (files : List File) (sound : AreSoundFiles files) (far : IsFarBy layout plan.max_rows limit known left n more held (contents mid.inner) log now files) where
+    (log now : Option (List RowNote)) (releases : Releases) (sound : AreSoundReleases releases) (far : IsFarBy layout plan.max_rows limit known left n more held (contents mid.inner) log now releases) where
   -- the column can't be read on
-  unread_ends : EndsInRest layout plan.max_rows limit known stop.ReadFailed (output held (contents mid.inner) log now) files
+  unread_ends : EndsInRest layout plan.max_rows limit known stop.ReadFailed (output held (contents mid.inner) log now) releases
   unread_ends = if_some known _ (λ bytes e.
-      ends_still once layout files plan.max_rows limit sound (records_in layout bytes) left n more held (contents mid.inner) log now (far bytes e) stop.ReadFailed)
+      ends_still once layout releases plan.max_rows limit sound (records_in layout bytes) left n more held (contents mid.inner) log now (far bytes e) stop.ReadFailed)
 
   -- memory was refused
-  memory_ends : EndsInRest layout plan.max_rows limit known stop.Memory (output held (contents mid.inner) log now) files
+  memory_ends : EndsInRest layout plan.max_rows limit known stop.Memory (output held (contents mid.inner) log now) releases
   memory_ends = if_some known _ (λ bytes e.
-      ends_still once layout files plan.max_rows limit sound (records_in layout bytes) left n more held (contents mid.inner) log now (far bytes e) stop.Memory)
+      ends_still once layout releases plan.max_rows limit sound (records_in layout bytes) left n more held (contents mid.inner) log now (far bytes e) stop.Memory)
 
   -- some records were taken
   module _ (rs : List CsvRecord) (next : Option (List ℕ)) (taken : Takes layout left next rs) (new : Counts W) (last : Option (List RowNote)) where
     -- their rows were written
-    far_after_round : (tally : Tally) → WritesRecords layout files plan.max_rows more (n + 1) rs contents mid new now last tally
-        → IsFarBy layout plan.max_rows limit known next (n + tally.rows) tally.left held (contents new.inner) log last files
+    far_after_round : (tally : Tally) → WritesRecords layout releases plan.max_rows more (n + 1) rs contents mid new now last tally
+        → IsFarBy layout plan.max_rows limit known next (n + tally.rows) tally.left held (contents new.inner) log last releases
     far_after_round tally (rows, are, wrote, left_is) bytes e =
-        rw wrote.1 (later layout files plan.max_rows limit (records_in layout bytes) left n more held (contents mid.inner) (contents new.inner) log now last (far bytes e)
+        rw wrote.1 (later layout releases plan.max_rows limit (records_in layout bytes) left n more held (contents mid.inner) (contents new.inner) log now last (far bytes e)
         rs rows are next tally.left wrote.0 taken wrote.2.0 wrote.3 left_is)
 
     -- or the conversion ended in them
-    ends_in_round : (why : RunStop) → EndsInRecords layout files plan.max_rows more (n + 1) rs contents mid new now last why
-        → EndsInRest layout plan.max_rows limit known why (output held (contents new.inner) log last) files
+    ends_in_round : (why : RunStop) → EndsInRecords layout releases plan.max_rows more (n + 1) rs contents mid new now last why
+        → EndsInRest layout plan.max_rows limit known why (output held (contents new.inner) log last) releases
     ends_in_round why (inl memory) = rw (memory.0, memory.1, memory.2) memory_ends
     ends_in_round why (inr (rows, are, ends)) = if_some known _ (λ bytes e.
-        ends_in_rows contents once layout files plan.max_rows limit sound (records_in layout bytes) left n more held mid new log now last (far bytes e)
+        ends_in_rows contents once layout releases plan.max_rows limit sound (records_in layout bytes) left n more held mid new log now last (far bytes e)
         rs (taken_come_next layout left next rs taken) rows are why ends)
 
   -- the next record has too many bytes
   ends_at_record : (next : Option (List ℕ)) → Takes layout left next [] → IsNextTooLong (longest_of layout) layout.records next → (new : Counts W) (why : RunStop)
-      → ((given : CsvRecord) → may_have (longest_of layout) (length given.own) ≡ false → EndsInRecords layout files plan.max_rows more (n + 1) (given ∷ []) contents mid new now now why)
-      → EndsInRest layout plan.max_rows limit known why (output held (contents new.inner) log now) files
+      → ((given : CsvRecord) → may_have (longest_of layout) (length given.own) ≡ false → EndsInRecords layout releases plan.max_rows more (n + 1) (given ∷ []) contents mid new now now why)
+      → EndsInRest layout plan.max_rows limit known why (output held (contents new.inner) log now) releases
   ends_at_record next none long new why ends = if_some known _ (λ bytes e.
       let all = records_in layout bytes in
-      let far_next = none_taken layout files plan.max_rows limit all left next n more held (contents mid.inner) log now none (far bytes e) in
+      let far_next = none_taken layout releases plan.max_rows limit all left next n more held (contents mid.inner) log now none (far bytes e) in
       let (given, over, others, same) = long_comes_next layout next long far_next.rest far_next.bytes in
       let come : ComeNext layout next (given ∷ []) = subst (λ (o : Option (List ℕ)). ComeNext layout o (given ∷ [])) (sym far_next.bytes) (others, same) in
       ended all next far_next given come (ends given over))
     where
-      ended : (all : List CsvRecord) (next : Option (List ℕ)) → IsSoFar layout files plan.max_rows limit all next n more (output held (contents mid.inner) log now) → (given : CsvRecord) → ComeNext layout next (given ∷ [])
-          → EndsInRecords layout files plan.max_rows more (n + 1) (given ∷ []) contents mid new now now why → EndsIn layout files plan.max_rows limit [] all why (output held (contents new.inner) log now)
-      ended all next far_next given come (inl memory) = rw (memory.0, memory.1) (ends_still once layout files plan.max_rows limit sound all next n more held (contents mid.inner) log now far_next stop.Memory)
+      ended : (all : List CsvRecord) (next : Option (List ℕ)) → IsSoFar layout releases plan.max_rows limit all next n more (output held (contents mid.inner) log now) → (given : CsvRecord) → ComeNext layout next (given ∷ [])
+          → EndsInRecords layout releases plan.max_rows more (n + 1) (given ∷ []) contents mid new now now why → EndsIn layout releases plan.max_rows limit [] all why (output held (contents new.inner) log now)
+      ended all next far_next given come (inl memory) = rw (memory.0, memory.1) (ends_still once layout releases plan.max_rows limit sound all next n more held (contents mid.inner) log now far_next stop.Memory)
       ended all next far_next given come (inr (rows, are, then)) =
-          ends_in_rows contents once layout files plan.max_rows limit sound all next n more held mid new log now now far_next (given ∷ []) come rows are why then
+          ends_in_rows contents once layout releases plan.max_rows limit sound all next n more held mid new log now now far_next (given ∷ []) come rows are why then
 
   -- the writer failed in the end
-  flush_ends : (new : Counts W) → FailsWithin contents mid new [] → EndsInRest layout plan.max_rows limit known stop.WriteFailed (output held (contents new.inner) log now) files
+  flush_ends : (new : Counts W) → FailsWithin contents mid new [] → EndsInRest layout plan.max_rows limit known stop.WriteFailed (output held (contents new.inner) log now) releases
   flush_ends new fails = if_some known _ (λ bytes e.
-      ends_at_flush contents once layout files plan.max_rows limit sound (records_in layout bytes) left n more held mid new log now (far bytes e) fails)
+      ends_at_flush contents once layout releases plan.max_rows limit sound (records_in layout bytes) left n more held mid new log now (far bytes e) fails)
 
   -- no record is left, and all rows are written and flushed
   all_done : (next : Option (List ℕ)) → Takes layout left next [] → HasNoRecord layout.records next → (new : Counts W) → Wrote contents mid new []
-      → ConvertsRest layout plan.max_rows limit known n (output held (contents new.inner) log now) files
+      → ConvertsRest layout plan.max_rows limit known n (output held (contents new.inner) log now) releases
   all_done next none end new flushed = if_some known _ (λ bytes e.
       let all = records_in layout bytes in
-      let end_far = none_taken layout files plan.max_rows limit all left next n more held (contents mid.inner) log now none (far bytes e) in
-      all_written layout files plan.max_rows limit all next n more held (contents mid.inner) (contents new.inner) log now end_far end flushed.0)
+      let end_far = none_taken layout releases plan.max_rows limit all left next n more held (contents mid.inner) log now none (far bytes e) in
+      all_written layout releases plan.max_rows limit all next n more held (contents mid.inner) (contents new.inner) log now end_far end flushed.0)
 
 -- what holds of the elements of a list holds of the first of them
 all_front : (P : CsvRecord → Type 0) (xs ys : List CsvRecord) → All P (xs ++ ys) → All P xs
 all_front P xs ys all = λ k d lt. subst P (get_or_append_left xs ys d k lt) (all k d (omega (arith, lt, length-append xs ys)))
 
--- ---- a round by the files that are known, and by all that may be
+-- ---- a round by the releases that are known, and by all that may be
 
-module _ (layout : Layout) (most : ℕ) (limit : Option ℕ) (rs : List CsvRecord) (first : ℕ) (known files : List File) (still : (file : File) → Contains known file → Contains files file)
-    (differ : AllPairs (λ (file other : File). file.name ≢ other.name) files) (only : All (IsKnownZone layout.zone known files) rs) {W : Type 0} (contents : W → Option (List ℕ)) (held now : Counts W) (log log' : Option (List RowNote)) where
-  written_alike : (tally : Tally) → WritesRecords layout known most limit first rs contents held now log log' tally → WritesRecords layout files most limit first rs contents held now log log' tally
-  written_alike tally (rows, are, wrote, left_is) = (rows, rows_same known files still differ layout most first rs rows only are, wrote, left_is)
+module _ (layout : Layout) (most : ℕ) (limit : Option ℕ) (rs : List CsvRecord) (first : ℕ) (known releases : Releases) (keeps : KeepsBoth known releases)
+    (only : All (AreKnownZones layout.zone known releases) rs) {W : Type 0} (contents : W → Option (List ℕ)) (held now : Counts W) (log log' : Option (List RowNote)) where
+  written_alike : (tally : Tally) → WritesRecords layout known most limit first rs contents held now log log' tally → WritesRecords layout releases most limit first rs contents held now log log' tally
+  written_alike tally (rows, are, wrote, left_is) = (rows, rows_same known releases keeps layout most first rs rows only are, wrote, left_is)
 
   rows_end_alike : (rows : RowsOf) (why : RunStop) → EndsInRows contents held now log log' layout known most limit first rs rows why
-      → EndsInRows contents held now log log' layout files most limit first rs rows why
+      → EndsInRows contents held now log log' layout releases most limit first rs rows why
   rows_end_alike rows (stop.Row row kind) (inl h) = inl h
   rows_end_alike rows (stop.Row row kind) (inr h) = inr (record {
     front = h.front;
     rest = h.rest;
-    come = come_same known files still differ layout most first rs (h.front ++ h.rest) rows.fault only h.come;
+    come = come_same known releases keeps layout most first rs (h.front ++ h.rest) rows.fault only h.come;
     before = h.before;
     too_many = h.too_many;
     number = h.number;
@@ -125,12 +126,12 @@ module _ (layout : Layout) (most : ℕ) (limit : Option ℕ) (rs : List CsvRecor
     more = h.more;
     parts = h.parts;
     front = h.front;
-    are = rows_same known files still differ layout most first h.done h.front (all_front (IsKnownZone layout.zone known files) h.done h.more (rw h.parts at only)) h.are;
+    are = rows_same known releases keeps layout most first h.done h.front (all_front (AreKnownZones layout.zone known releases) h.done h.more (rw h.parts at only)) h.are;
     reached = h.reached;
     beyond = h.beyond;
     within = h.within;
     upto = h.upto;
-    are_upto = rows_same known files still differ layout most first h.reached h.upto (all_front (IsKnownZone layout.zone known files) h.reached h.beyond (rw h.within at only)) h.are_upto;
+    are_upto = rows_same known releases keeps layout most first h.reached h.upto (all_front (AreKnownZones layout.zone known releases) h.reached h.beyond (rw h.within at only)) h.are_upto;
     fails = h.fails;
     noted = h.noted;
     few = h.few;
@@ -142,19 +143,19 @@ module _ (layout : Layout) (most : ℕ) (limit : Option ℕ) (rs : List CsvRecor
   rows_end_alike rows stop.Memory h = absurd h
   rows_end_alike rows stop.NoThread h = absurd h
 
-  ends_alike : (why : RunStop) → EndsInRecords layout known most limit first rs contents held now log log' why → EndsInRecords layout files most limit first rs contents held now log log' why
+  ends_alike : (why : RunStop) → EndsInRecords layout known most limit first rs contents held now log log' why → EndsInRecords layout releases most limit first rs contents held now log log' why
   ends_alike why (inl memory) = inl memory
-  ends_alike why (inr (rows, are, ends)) = inr (rows, rows_same known files still differ layout most first rs rows only are, rows_end_alike rows why ends)
+  ends_alike why (inr (rows, are, ends)) = inr (rows, rows_same known releases keeps layout most first rs rows only are, rows_end_alike rows why ends)
 
 -- ---- by zones
 
 -- what is known of zones, and what may be
-module _ {Z : Type 0} (known_of : Z → List File) (settled : Z → List ℕ → Type 0) (may_be : Z → List File → Type 0) (grown broken : Z → Z → Type 0)
-    (same : (z : Z) → grown z z) (joins : (a b c : Z) → grown a b → grown b c → grown a c) (narrows : (a b : Z) (files : List File) → grown a b → may_be b files → may_be a files)
-    (agrees : (z : Z) (files : List File) → may_be z files → Agree (settled z) (known_of z) files)
+module _ {Z : Type 0} (known_of : Z → Releases) (settled : Z → List ℕ → Type 0) (may_be : Z → Releases → Type 0) (grown broken : Z → Z → Type 0)
+    (same : (z : Z) → grown z z) (joins : (a b c : Z) → grown a b → grown b c → grown a c) (narrows : (a b : Z) (releases : Releases) → grown a b → may_be b releases → may_be a releases)
+    (agrees : (z : Z) (releases : Releases) → may_be z releases → ReleasesAgree (settled z) (known_of z) releases)
     {W : Type 0} (contents : W → Option (List ℕ)) (once : FilesAnswerOnce) (layout : Layout) (plan : Limits) (limit : Option ℕ) (known left : Option (List ℕ)) (n : ℕ) (more : Option ℕ) (held : Option (List ℕ)) (mid : Counts W)
     (log now : Option (List RowNote)) (begun zones : Z) (grew : grown begun zones)
-    (far : (files : List File) → may_be zones files → IsFarBy layout plan.max_rows limit known left n more held (contents mid.inner) log now files) where
+    (far : (releases : Releases) → may_be zones releases → IsFarBy layout plan.max_rows limit known left n more held (contents mid.inner) log now releases) where
   -- no round could be taken
   pub no_round : (new : Z) (why : Halt) → EndsAtTaking broken zones new why
       → EndsByZones grown broken may_be begun new (stop_of why) (EndsInRest layout plan.max_rows limit known (stop_of why) (output held (contents mid.inner) log now))
@@ -162,13 +163,13 @@ module _ {Z : Type 0} (known_of : Z → List File) (settled : Z → List ℕ →
     then = zones;
     grown = grew;
     ends = inl is;
-    by = λ files may. unread_ends contents once layout plan limit known left n more held mid log now files (agrees zones files may).sound (far files may);
+    by = λ releases may. unread_ends contents once layout plan limit known left n more held mid log now releases (agree_sound (agrees zones releases may)) (far releases may);
   }
   no_round new (halt.Stop stop.Memory) is = record {
     then = zones;
     grown = grew;
     ends = inr (refl, is);
-    by = λ files may. memory_ends contents once layout plan limit known left n more held mid log now files (agrees zones files may).sound (far files may);
+    by = λ releases may. memory_ends contents once layout plan limit known left n more held mid log now releases (agree_sound (agrees zones releases may)) (far releases may);
   }
   no_round new (halt.Stop (stop.Row row kind)) is = absurd is
   no_round new (halt.Stop (stop.Source fault)) is = absurd is
@@ -189,33 +190,33 @@ module _ {Z : Type 0} (known_of : Z → List File) (settled : Z → List ℕ →
       then = then;
       grown = joins begun zones then grew grows;
       ends = inl refl;
-      by = λ files may. flush_ends contents once layout plan limit known left n more held mid log now files (agrees then files may).sound (far files (narrows zones then files grows may)) new fails;
+      by = λ releases may. flush_ends contents once layout plan limit known left n more held mid log now releases (agree_sound (agrees then releases may)) (far releases (narrows zones then releases grows may)) new fails;
     }
 
     -- the next record has too many bytes
     pub long_ends : Takes layout left next [] → IsNextTooLong (longest_of layout) layout.records next → (new : Counts W) (why : RunStop)
-        → ((files : List File) (given : CsvRecord) → may_have (longest_of layout) (length given.own) ≡ false → EndsInRecords layout files plan.max_rows more (n + 1) (given ∷ []) contents mid new now now why)
+        → ((releases : Releases) (given : CsvRecord) → may_have (longest_of layout) (length given.own) ≡ false → EndsInRecords layout releases plan.max_rows more (n + 1) (given ∷ []) contents mid new now now why)
         → EndsByZones grown broken may_be begun then why (EndsInRest layout plan.max_rows limit known why (output held (contents new.inner) log now))
     long_ends none long new why ends = record {
       then = then;
       grown = joins begun zones then grew grows;
       ends = inl refl;
-      by = λ files may. ends_at_record contents once layout plan limit known left n more held mid log now files (agrees then files may).sound (far files (narrows zones then files grows may)) next none long new why (ends files);
+      by = λ releases may. ends_at_record contents once layout plan limit known left n more held mid log now releases (agree_sound (agrees then releases may)) (far releases (narrows zones then releases grows may)) next none long new why (ends releases);
     }
 
     -- no record was left
-    pub rounds_done : Takes layout left next [] → HasNoRecord layout.records next → (new : Counts W) → Wrote contents mid new [] → (files : List File) → may_be then files
-        → ConvertsRest layout plan.max_rows limit known n (output held (contents new.inner) log now) files
-    rounds_done none end new flushed files may =
-        all_done contents once layout plan limit known left n more held mid log now files (agrees then files may).sound (far files (narrows zones then files grows may)) next none end new flushed
+    pub rounds_done : Takes layout left next [] → HasNoRecord layout.records next → (new : Counts W) → Wrote contents mid new [] → (releases : Releases) → may_be then releases
+        → ConvertsRest layout plan.max_rows limit known n (output held (contents new.inner) log now) releases
+    rounds_done none end new flushed releases may =
+        all_done contents once layout plan limit known left n more held mid log now releases (agree_sound (agrees then releases may)) (far releases (narrows zones then releases grows may)) next none end new flushed
 
-    module _ (only : (files : List File) → may_be then files → All (IsKnownZone layout.zone (known_of then) files) rs) (new : Counts W) (last : Option (List RowNote)) where
+    module _ (only : (releases : Releases) → may_be then releases → All (AreKnownZones layout.zone (known_of then) releases) rs) (new : Counts W) (last : Option (List RowNote)) where
       -- their rows were written
-      pub far_on : (tally : Tally) → WritesRecords layout (known_of then) plan.max_rows more (n + 1) rs contents mid new now last tally → (files : List File) → may_be then files
-          → IsFarBy layout plan.max_rows limit known next (n + tally.rows) tally.left held (contents new.inner) log last files
-      far_on tally writes files may =
-          far_after_round contents once layout plan limit known left n more held mid log now files (agrees then files may).sound (far files (narrows zones then files grows may)) rs next takes new last tally
-          (written_alike layout plan.max_rows more rs (n + 1) (known_of then) files (agrees then files may).still (agrees then files may).sound.names_differ (only files may) contents mid new now last tally writes)
+      pub far_on : (tally : Tally) → WritesRecords layout (known_of then) plan.max_rows more (n + 1) rs contents mid new now last tally → (releases : Releases) → may_be then releases
+          → IsFarBy layout plan.max_rows limit known next (n + tally.rows) tally.left held (contents new.inner) log last releases
+      far_on tally writes releases may =
+          far_after_round contents once layout plan limit known left n more held mid log now releases (agree_sound (agrees then releases may)) (far releases (narrows zones then releases grows may)) rs next takes new last tally
+          (written_alike layout plan.max_rows more rs (n + 1) (known_of then) releases (kept (agrees then releases may)) (only releases may) contents mid new now last tally writes)
 
       -- or the conversion ended in them
       pub round_ends : (why : RunStop) → EndsInRecords layout (known_of then) plan.max_rows more (n + 1) rs contents mid new now last why
@@ -224,14 +225,14 @@ module _ {Z : Type 0} (known_of : Z → List File) (settled : Z → List ℕ →
         then = then;
         grown = joins begun zones then grew grows;
         ends = inl refl;
-        by = λ files may.
-            ends_in_round contents once layout plan limit known left n more held mid log now files (agrees then files may).sound (far files (narrows zones then files grows may)) rs next takes new last why
-            (ends_alike layout plan.max_rows more rs (n + 1) (known_of then) files (agrees then files may).still (agrees then files may).sound.names_differ (only files may) contents mid new now last why ends);
+        by = λ releases may.
+            ends_in_round contents once layout plan limit known left n more held mid log now releases (agree_sound (agrees then releases may)) (far releases (narrows zones then releases grows may)) rs next takes new last why
+            (ends_alike layout plan.max_rows more rs (n + 1) (known_of then) releases (kept (agrees then releases may)) (only releases may) contents mid new now last why ends);
       }
 
 -- what follows where a conversion ends by zones
-pub ends_map : {Z : Type 0} (grown broken : Z → Z → Type 0) (may_be : Z → List File → Type 0) (old new : Z) (a b : RunStop) (P Q : List File → Type 0) → (a ≡ stop.Memory → b ≡ stop.Memory)
-    → ((files : List File) → P files → Q files) → EndsByZones grown broken may_be old new a P → EndsByZones grown broken may_be old new b Q
+pub ends_map : {Z : Type 0} (grown broken : Z → Z → Type 0) (may_be : Z → Releases → Type 0) (old new : Z) (a b : RunStop) (P Q : Releases → Type 0) → (a ≡ stop.Memory → b ≡ stop.Memory)
+    → ((releases : Releases) → P releases → Q releases) → EndsByZones grown broken may_be old new a P → EndsByZones grown broken may_be old new b Q
 ends_map grown broken may_be old new a b P Q memory then ends = record {
   then = ends.then;
   grown = ends.grown;
@@ -239,5 +240,5 @@ ends_map grown broken may_be old new a b P Q memory then ends = record {
     | inl same ↦ inl same
     | inr refused ↦ inr (memory refused.0, refused.1)
   ];
-  by = λ files may. then files (ends.by files may);
+  by = λ releases may. then releases (ends.by releases may);
 }

@@ -32,7 +32,9 @@ use Rattle.zic_layout_rows.specs.PieceRows.{csv_records_in}
 use Rattle.zic_convert.proofs.Bytes.{starts_later}
 use Rattle.zic_convert.proofs.Options.{for_some, if_some}
 use Rattle.zic_convert.proofs.Plain.{come_plainly}
-use Rattle.zic_convert.proofs.Sounds.{all_known}
+use Rattle.zic_zones.specs.Zones.{alone}
+use Rattle.zic_zones.specs.declared.releases.Releases.{Releases}
+use Rattle.zic_convert.proofs.Sounds.{alone_sound, both_known}
 use Rattle.zic_convert.proofs.TooMany.{none_too_many}
 use Rattle.zic_convert.proofs.Totals.{all_come}
 use Rattle.zic_convert.proofs.PieceRecords.{comma_fields_in}
@@ -45,7 +47,7 @@ module _ (alike : PlainColumnsConvertAlike) (layout : Layout) (plain : HasPlainR
   no_names = rw (plain.start, none) refl
 
   module _ (column : List ℕ) (row_records : List CsvRecord) (are : AreRowRecords layout column row_records) where
-    converts : (texts : List (List ℕ)) (fault : Option RowKind) → RecordsConvertBy layout files most 1 row_records texts fault → ConvertsTo files most column texts fault
+    converts : (texts : List (List ℕ)) (fault : Option RowKind) → RecordsConvertBy layout (alone files) most 1 row_records texts fault → ConvertsTo files most column texts fault
     converts texts fault come = (alike.all files layout most column texts fault plain none).0 (record { row_records = row_records; are = are; rows = come })
 
     module _ (held held' : Option (List ℕ)) where
@@ -54,7 +56,7 @@ module _ (alike : PlainColumnsConvertAlike) (layout : Layout) (plain : HasPlainR
 
   -- all of a column was converted
   pub source_converts : (known : Option (List ℕ)) (held held' : Option (List ℕ)) (log log' : Option (List RowNote)) (n : ℕ)
-      → IfSome known (λ column. (row_records : List CsvRecord) × AreRowRecords layout column row_records × WritesRows layout files most None (header_text layout column) row_records n (output held held' log log'))
+      → IfSome known (λ column. (row_records : List CsvRecord) × AreRowRecords layout column row_records × WritesRows layout (alone files) most None (header_text layout column) row_records n (output held held' log log'))
       → IfSome known (λ column. WritesAll files most column n held held')
   source_converts known held held' log log' n all = if_some known _ (λ column e.
       let (row_records, are, w) = for_some known _ column all e in
@@ -66,7 +68,7 @@ module _ (alike : PlainColumnsConvertAlike) (layout : Layout) (plain : HasPlainR
       })
 
   lines_part : (column : List ℕ) (row_records : List CsvRecord) → AreRowRecords layout column row_records → (why : RunStop) {R W : Type 0} (run : Run R W)
-      → EndsAfterLines layout files most None (header_text layout column) row_records why run.output → WritesPartOf [] (ConvertsTo files most column) run.output.held run.output.held'
+      → EndsAfterLines layout (alone files) most None (header_text layout column) row_records why run.output → WritesPartOf [] (ConvertsTo files most column) run.output.held run.output.held'
   lines_part column row_records are why run w =
       let lines : List (List ℕ) = header_text layout column ∷ w.texts in
       let first = concat (take w.upto lines) in
@@ -83,7 +85,7 @@ module _ (alike : PlainColumnsConvertAlike) (layout : Layout) (plain : HasPlainR
       }
 
   ends_in : {R W : Type 0} (run : Run R W) (column : List ℕ) (row_records : List CsvRecord) → AreRowRecords layout column row_records → (why : RunStop)
-      → EndsIn layout files most None (header_text layout column) row_records why run.output → WritesAt files most column why run.output.held run.output.held'
+      → EndsIn layout (alone files) most None (header_text layout column) row_records why run.output → WritesAt files most column why run.output.held run.output.held'
   ends_in run column row_records are (stop.Row row kind) (inl w) = record {
     texts = w.0.texts;
     converts = converts column row_records are w.0.texts (Some kind) w.0.converts;
@@ -104,7 +106,7 @@ module _ (alike : PlainColumnsConvertAlike) (layout : Layout) (plain : HasPlainR
     no_part column held held' part starts wrote =
         let bytes = strip_bom column in
         let row_records = csv_records_in layout.delimiter bytes in
-        let (texts, fault, come) = all_come layout files most (all_known files sound once) 1 row_records in
+        let (texts, fault, come) = all_come layout (alone files) most (both_known (alone files) (alone_sound files sound) once) 1 row_records in
         record {
           texts = texts;
           fault = fault;
@@ -125,13 +127,13 @@ module _ (alike : PlainColumnsConvertAlike) (layout : Layout) (plain : HasPlainR
     -- the conversion ended early
     pub source_ends : {R W : Type 0} (run : Run R W) (why : RunStop) (zones zones' : List File) → zones ≡ files
         → (EndsAtNames layout why run × (zones' ≡ zones))
-        ⊎ EndsByZones (λ (a b : List File). b ≡ a) (λ (a b : List File). b ≡ a) (λ (z fs : List File). (fs ≡ z) × AreSoundFiles z) zones zones' why (EndsBy layout most None why run)
+        ⊎ EndsByZones (λ (a b : List File). b ≡ a) (λ (a b : List File). b ≡ a) (λ (z : List File) (rs : Releases). (rs ≡ alone z) × AreSoundFiles z) zones zones' why (EndsBy layout most None why run)
         → IfSome run.column (λ column. WritesAt files most column why run.output.held run.output.held')
     source_ends run why zones zones' are (inl (ends, same_zones)) = rw ends.is (if_some run.column _ (λ column e.
         no_part column run.output.held run.output.held' ends.part (subst (λ (l : List ℕ). StartsWith l ends.part) no_names ends.starts) ends.wrote))
     source_ends run why zones zones' are (inr ends) =
         let same = ends.grown ∙ are in
-        let by = ends.by files (sym same, subst AreSoundFiles (sym same) sound) in
+        let by = ends.by (alone files) (ap alone (sym same), subst AreSoundFiles (sym same) sound) in
         if_some run.column _ (λ column e.
         elim (for_some run.column _ column by e) [
           | inl long ↦ absurd (let some : 0 ≡ 1 = sym (ap records_before none) ∙ long.header in cc some)
@@ -139,9 +141,9 @@ module _ (alike : PlainColumnsConvertAlike) (layout : Layout) (plain : HasPlainR
         ])
 
     -- what holds in the end by all files that may be holds by those of the source
-    pub at_files : {E : Type 0} (zones zones' : List File) → zones ≡ files → (result : Result ℕ E) → IfOk result (λ _. zones' ≡ zones) → (P : ℕ → List File → Type 0)
-        → ((fs : List File) → (fs ≡ zones') × AreSoundFiles zones' → IfOk result (λ n. P n fs)) → IfOk result (λ n. P n files)
+    pub at_files : {E : Type 0} (zones zones' : List File) → zones ≡ files → (result : Result ℕ E) → IfOk result (λ _. zones' ≡ zones) → (P : ℕ → Releases → Type 0)
+        → ((rs : Releases) → (rs ≡ alone zones') × AreSoundFiles zones' → IfOk result (λ n. P n rs)) → IfOk result (λ n. P n (alone files))
     at_files zones zones' are (Err why) grown P all = tt
     at_files zones zones' are (Ok n) grown P all =
         let same = grown ∙ are in
-        all files (sym same, subst AreSoundFiles (sym same) sound)
+        all (alone files) (ap alone (sym same), subst AreSoundFiles (sym same) sound)

@@ -27,9 +27,13 @@ use Rattle.zic_plan.specs.Noted.{RowNote}
 use Rattle.zic_base.specs.declared.row_fault.RowKind.{RowKind}
 use Rattle.zic_base.specs.declared.row_fault.RowKind.TheVariants as kind
 use Rattle.zic_rows.specs.Count.{second_of}
-use Rattle.zic_zones.specs.Zones.{Agree, field_at, is_named, number_of, zone_in}
+use Rattle.zic_plan.specs.declared.layout.Written.{Written}
+use Rattle.zic_plan.specs.declared.layout.Written.TheVariants as written
+use Rattle.zic_zones.specs.declared.releases.Releases.{Releases}
+use Rattle.zic_convert.proofs.Sounds.{old_agree}
+use Rattle.zic_zones.specs.Zones.{Agree, ReleasesAgree, field_at, is_named, number_of, zone_in}
 use Rattle.zic_layout_rows.specs.Rows.{is_closed, is_row_instant}
-use Rattle.zic_layout_rows.specs.LayoutRows.{RecordsConvertBy, IsRowAt, IsTextBy, count_in, ending, ends_by, fault_by, faults_by, file_at, file_named, noted, time_by, ok_count, err_fault}
+use Rattle.zic_layout_rows.specs.LayoutRows.{RecordsConvertBy, IsAnswer, IsAnswerAt, IsAnswerBy, IsRowAt, IsRowBy, IsTextBy, IsWrittenAt, old_files, count_in, ending, ends_by, fault_by, faults_by, file_at, file_named, noted, time_by, ok_count, err_fault}
 use Rattle.zic_convert.specs.code.Row.{fields_of_all, taken_rows, records_of_all}
 use Rattle.zic_layout_rows.specs.PieceRows.{AreRowsOf, RowsOf}
 use Rattle.zic_convert.proofs.Delimited.{field_same, name_as_put, outside}
@@ -127,40 +131,111 @@ module _ (known files : List File) (still : (file : File) → Contains known fil
     row_same None row_record text is = text_same row_record text is
     row_same (Some kind) row_record text is = is
 
-    -- the outcome of records whose zones are known
-    pub come_same : (number : ℕ) (row_records : List CsvRecord) (texts : List (List ℕ)) (fault : Option RowKind) → All (IsKnownZone layout.zone known files) row_records
-        → RecordsConvertBy layout known most number row_records texts fault → RecordsConvertBy layout files most number row_records texts fault
-    come_same number [] texts fault only come = come
-    come_same number (w ∷ row_records) [] fault only come =
-        let same = fault_same number w (All-head (IsKnownZone layout.zone known files) w row_records only) in
-        (come.0 ∙ ap (ending layout.at_fault layout.records) same, come.1)
-    come_same number (w ∷ row_records) (text ∷ texts) fault only come =
-        let same = fault_same number w (All-head (IsKnownZone layout.zone known files) w row_records only) in (
-          ap (ending layout.at_fault layout.records) (sym same) ∙ come.0,
-          subst (λ (f : Option RowKind). IsRowAt layout files f w text) same (row_same (fault_by layout known most number w) w text come.1),
-          come_same (number + 1) row_records texts fault (All-tail (IsKnownZone layout.zone known files) w row_records only) come.2,
-        )
-
-    -- and their faults
-    faults_same : (number : ℕ) (row_records : List CsvRecord) → All (IsKnownZone layout.zone known files) row_records
-        → faults_by layout known most number row_records ≡ faults_by layout files most number row_records
-    faults_same number [] only = refl
-    faults_same number (w ∷ row_records) only =
-        let same = fault_same number w (All-head (IsKnownZone layout.zone known files) w row_records only) in
-        let rest = faults_same (number + 1) row_records (All-tail (IsKnownZone layout.zone known files) w row_records only) in
-        ap (λ (f : Option RowKind). if is_some (ending layout.at_fault layout.records f) then [] else noted layout.at_fault number w.own f ++ faults_by layout known most (number + 1) row_records) same
-        ∙ ap (λ (l : List RowNote). if is_some (ends_by layout files most number w) then [] else noted layout.at_fault number w.own (fault_by layout files most number w) ++ l) rest
-
-    -- the rows of records
-    pub rows_same : (first : ℕ) (row_records : List CsvRecord) (rows : RowsOf) → All (IsKnownZone layout.zone known files) row_records
-        → AreRowsOf layout known most first row_records rows → AreRowsOf layout files most first row_records rows
-    rows_same first row_records rows only are_rows = record {
-      texts = are_rows.texts;
-      come = come_same first row_records are_rows.texts rows.fault only are_rows.come;
-      text = are_rows.text;
-      count = are_rows.count;
-      faults = are_rows.faults ∙ faults_same first row_records only;
+    -- what they answer
+    answer_text_same : (row_record : CsvRecord) (answer : List ℕ) → IsAnswerBy layout known row_record answer → IsAnswerBy layout files row_record answer
+    answer_text_same row_record answer is = record {
+      file = is.file;
+      among = still is.file is.among;
+      named = is.named;
+      input = is.input;
+      says = is.says;
+      count = is.count;
+      means = is.means;
+      state = is.state;
+      answers = is.answers;
+      is = is.is;
     }
+
+    answer_at_same : (fault : Option RowKind) (row_record : CsvRecord) (answer : List ℕ) → IsAnswerAt layout known fault row_record answer → IsAnswerAt layout files fault row_record answer
+    answer_at_same None row_record answer is = answer_text_same row_record answer is
+    answer_at_same (Some kind) row_record answer is = is
+
+    answer_same : (number : ℕ) (w : CsvRecord) (answer : List ℕ) → IsKnownZone layout.zone known files w → IsAnswer layout known most number w answer → IsAnswer layout files most number w answer
+    answer_same number w answer only is =
+        subst (λ (f : Option RowKind). IsAnswerAt layout files f w answer) (fault_same number w only) (answer_at_same (fault_by layout known most number w) w answer is)
+
+    row_by_same : (number : ℕ) (w : CsvRecord) (text : List ℕ) → IsKnownZone layout.zone known files w → IsRowBy layout known most number w text → IsRowBy layout files most number w text
+    row_by_same number w text only is =
+        subst (λ (f : Option RowKind). IsRowAt layout files f w text) (fault_same number w only) (row_same (fault_by layout known most number w) w text is)
+
+-- ---- one release or two
+
+-- the known files stay, and no two of all have one name
+pub record Keeps (known files : List File) : Type 0 where
+  pub still : (file : File) → Contains known file → Contains files file
+  pub differ : AllPairs (λ (file other : File). file.name ≢ other.name) files
+
+pub record KeepsBoth (known releases : Releases) : Type 0 where
+  pub zones : Keeps known.zones releases.zones
+  pub old : Keeps (old_files known.old) (old_files releases.old)
+
+-- files that agree with those that are known keep them
+pub kept : {settled : List ℕ → Type 0} {known releases : Releases} → ReleasesAgree settled known releases → KeepsBoth known releases
+kept {settled} {known} {releases} are =
+    let old = old_agree settled known.old releases.old are.old in
+    record {
+      zones = record { still = are.zones.still; differ = are.zones.sound.names_differ };
+      old = record { still = old.still; differ = old.sound.names_differ };
+    }
+
+-- each release knows the zone of the record
+abbrev pub AreKnownZones : ZoneFrom → Releases → Releases → CsvRecord → Type 0
+AreKnownZones from known releases w = IsKnownZone from known.zones releases.zones w × IsKnownZone from (old_files known.old) (old_files releases.old) w
+
+module _ (known releases : Releases) (keeps : KeepsBoth known releases) (layout : Layout) (most : ℕ) where
+  first_same : (number : ℕ) (w : CsvRecord) → AreKnownZones layout.zone known releases w → fault_by layout known.zones most number w ≡ fault_by layout releases.zones most number w
+  first_same number w only = fault_same known.zones releases.zones keeps.zones.still keeps.zones.differ layout most number w only.0
+
+  -- what is written of a record
+  written_same : (by : Written) (number : ℕ) (w : CsvRecord) (text : List ℕ) → AreKnownZones layout.zone known releases w
+      → IsWrittenAt by layout known most number w text → IsWrittenAt by layout releases most number w text
+  written_same written.All number w text only is = row_by_same known.zones releases.zones keeps.zones.still keeps.zones.differ layout most number w text only.0 is
+  written_same written.Moved number w text only is = record {
+    row = is.row;
+    by = row_by_same known.zones releases.zones keeps.zones.still keeps.zones.differ layout most number w is.row only.0 is.by;
+    answer = is.answer;
+    answers = answer_same known.zones releases.zones keeps.zones.still keeps.zones.differ layout most number w is.answer only.0 is.answers;
+    other = is.other;
+    others = answer_same (old_files known.old) (old_files releases.old) keeps.old.still keeps.old.differ layout most number w is.other only.1 is.others;
+    same = is.same;
+    moved = is.moved;
+  }
+
+  -- the outcome of records whose zones are known
+  pub come_same : (number : ℕ) (row_records : List CsvRecord) (texts : List (List ℕ)) (fault : Option RowKind) → All (AreKnownZones layout.zone known releases) row_records
+      → RecordsConvertBy layout known most number row_records texts fault → RecordsConvertBy layout releases most number row_records texts fault
+  come_same number [] texts fault only come = come
+  come_same number (w ∷ row_records) [] fault only come =
+      let same = first_same number w (All-head (AreKnownZones layout.zone known releases) w row_records only) in
+      (come.0 ∙ ap (ending layout.at_fault layout.records) same, come.1)
+  come_same number (w ∷ row_records) (text ∷ texts) fault only come =
+      let here = All-head (AreKnownZones layout.zone known releases) w row_records only in
+      let same = first_same number w here in (
+        ap (ending layout.at_fault layout.records) (sym same) ∙ come.0,
+        written_same layout.written number w text here come.1,
+        come_same (number + 1) row_records texts fault (All-tail (AreKnownZones layout.zone known releases) w row_records only) come.2,
+      )
+
+  -- and their faults
+  faults_same : (number : ℕ) (row_records : List CsvRecord) → All (AreKnownZones layout.zone known releases) row_records
+      → faults_by layout known.zones most number row_records ≡ faults_by layout releases.zones most number row_records
+  faults_same number [] only = refl
+  faults_same number (w ∷ row_records) only =
+      let same = first_same number w (All-head (AreKnownZones layout.zone known releases) w row_records only) in
+      let rest = faults_same (number + 1) row_records (All-tail (AreKnownZones layout.zone known releases) w row_records only) in
+      ap (λ (f : Option RowKind). if is_some (ending layout.at_fault layout.records f) then [] else noted layout.at_fault number w.own f ++ faults_by layout known.zones most (number + 1) row_records) same
+      ∙ ap (λ (l : List RowNote). if is_some (ends_by layout releases.zones most number w) then [] else noted layout.at_fault number w.own (fault_by layout releases.zones most number w) ++ l) rest
+
+  -- the rows of records
+  pub rows_same : (first : ℕ) (row_records : List CsvRecord) (rows : RowsOf) → All (AreKnownZones layout.zone known releases) row_records
+      → AreRowsOf layout known most first row_records rows → AreRowsOf layout releases most first row_records rows
+  rows_same first row_records rows only are_rows = record {
+    texts = are_rows.texts;
+    come = come_same first row_records are_rows.texts rows.fault only are_rows.come;
+    text = are_rows.text;
+    count = are_rows.count;
+    faults = are_rows.faults ∙ faults_same first row_records only;
+  }
 
 -- ---- a round whose zones were made ready
 
@@ -199,3 +274,12 @@ module _ (d : ℕ) (can : is_delimiter d ≡ true) (settled : List ℕ → Type 
       All-cons (IsKnownZone from known files) (exchanged_record d (open_record line.own.items)) [] (λ no. absurd (cc no)) (λ k dflt lt. absurd (omega (arith, lt)))
   taken_known taken.TooLong pieces all = λ k dflt lt. absurd (omega (arith, lt))
   taken_known taken.End pieces all = λ k dflt lt. absurd (omega (arith, lt))
+
+-- those of a round, and of a release that it is compared with
+pub takens_known : (d : ℕ) → is_delimiter d ≡ true → (settled : List ℕ → Type 0) (known releases : Releases) → ReleasesAgree settled known releases → (from : ZoneFrom) (taken : Taken) (pieces : List (List ℕ))
+    → All settled (map (zone_in from) (records_of pieces)) → All (AreKnownZones from known releases) (taken_rows d taken pieces)
+takens_known d can settled known releases agree from taken pieces all =
+    let old = old_agree settled known.old releases.old agree.old in
+    let first = taken_known d can settled known.zones releases.zones agree.zones from taken pieces all in
+    let second = taken_known d can settled (old_files known.old) (old_files releases.old) old from taken pieces all in
+    λ k dflt lt. (first k dflt lt, second k dflt lt)

@@ -8,12 +8,15 @@ use Rattle.std.proofs.lemmas.List.{length-append, take-append-drop}
 use Rattle.zic_columns.specs.Own.{CsvRecord}
 use Rattle.zic_counted.specs.Counts.{Counts}
 use Rattle.zic_files.specs.File.{File}
+use Rattle.zic_plan.specs.declared.layout.Written.{Written}
+use Rattle.zic_plan.specs.declared.layout.Written.TheVariants as written
+use Rattle.zic_zones.specs.declared.releases.Releases.{Releases}
 use Rattle.zic_plan.specs.declared.layout.Layout.{Layout}
 use Rattle.zic_plan.specs.Noted.{RowNote}
 use Rattle.zic_base.specs.declared.row_fault.RowFault.{RowFault}
 use Rattle.zic_base.specs.declared.row_fault.RowKind.{RowKind}
 use Rattle.zic_base.specs.declared.row_fault.RowKind.TheVariants as kinds
-use Rattle.zic_layout_rows.specs.LayoutRows.{RecordsConvertBy, IsRowAt, ending, ends_by, fault_by, faults_by, if_aside, noted}
+use Rattle.zic_layout_rows.specs.LayoutRows.{RecordsConvertBy, IsAnswerAt, IsRowAt, IsWrittenAt, old_files, ending, ends_by, fault_by, faults_by, if_aside, noted}
 use Rattle.zic_convert.specs.Run.{AreFew, IsOneTooMany, Notes}
 use Rattle.zic_layout_rows.specs.PieceRows.{AreRowsOf, RowsOf}
 use Rattle.zic_convert.specs.code.Written.{FailsInRows, IsLeft, StopsAtFault, StopsAtRow, Wrote}
@@ -114,63 +117,80 @@ not_none (Some kind) has none = absurd (cc none)
 
 -- ---- a lower greatest number of a row
 
-module _ (layout : Layout) (files : List File) where
+module _ (layout : Layout) (releases : Releases) where
   -- the faults of records begin with those of the first of them
-  pub faults_begin : (most number : ℕ) (xs ys : List CsvRecord) → (more : List RowNote) × (faults_by layout files most number (xs ++ ys) ≡ faults_by layout files most number xs ++ more)
-  faults_begin most number [] ys = (faults_by layout files most number ys, refl)
-  faults_begin most number (x ∷ xs) ys = by_end (ends_by layout files most number x) refl (faults_begin most (number + 1) xs ys) where
-    by_end : (end : Option RowKind) → ends_by layout files most number x ≡ end
-        → ((more : List RowNote) × (faults_by layout files most (number + 1) (xs ++ ys) ≡ faults_by layout files most (number + 1) xs ++ more))
-        → (more : List RowNote) × (faults_by layout files most number (x ∷ (xs ++ ys)) ≡ faults_by layout files most number (x ∷ xs) ++ more)
+  pub faults_begin : (most number : ℕ) (xs ys : List CsvRecord) → (more : List RowNote) × (faults_by layout releases.zones most number (xs ++ ys) ≡ faults_by layout releases.zones most number xs ++ more)
+  faults_begin most number [] ys = (faults_by layout releases.zones most number ys, refl)
+  faults_begin most number (x ∷ xs) ys = by_end (ends_by layout releases.zones most number x) refl (faults_begin most (number + 1) xs ys) where
+    by_end : (end : Option RowKind) → ends_by layout releases.zones most number x ≡ end
+        → ((more : List RowNote) × (faults_by layout releases.zones most (number + 1) (xs ++ ys) ≡ faults_by layout releases.zones most (number + 1) xs ++ more))
+        → (more : List RowNote) × (faults_by layout releases.zones most number (x ∷ (xs ++ ys)) ≡ faults_by layout releases.zones most number (x ∷ xs) ++ more)
     by_end (Some kind) e rest = ([], rw e refl)
     by_end None e rest =
-        let here = noted layout.at_fault number x.own (fault_by layout files most number x) in
-        (rest.0, rw e (ap (λ (l : List RowNote). here ++ l) rest.1 ∙ sym (append_assoc here (faults_by layout files most (number + 1) xs) rest.0)))
+        let here = noted layout.at_fault number x.own (fault_by layout releases.zones most number x) in
+        (rest.0, rw e (ap (λ (l : List RowNote). here ++ l) rest.1 ∙ sym (append_assoc here (faults_by layout releases.zones most (number + 1) xs) rest.0)))
 
   -- of which there are no fewer
-  pub front_fewer : (most number : ℕ) (xs ys : List CsvRecord) → length (faults_by layout files most number xs) ≤ length (faults_by layout files most number (xs ++ ys))
+  pub front_fewer : (most number : ℕ) (xs ys : List CsvRecord) → length (faults_by layout releases.zones most number xs) ≤ length (faults_by layout releases.zones most number (xs ++ ys))
   front_fewer most number xs ys =
       let begin = faults_begin most number xs ys in
-      omega (arith, ap (length {A = RowNote}) begin.1, length-append (faults_by layout files most number xs) begin.0)
+      omega (arith, ap (length {A = RowNote}) begin.1, length-append (faults_by layout releases.zones most number xs) begin.0)
 
   -- a row that may be by a lower greatest number has the fault that it has by a higher
-  fault_low : (most low number : ℕ) (x : CsvRecord) → number ≤ low → low ≤ most → fault_by layout files low number x ≡ fault_by layout files most number x
-  fault_low most low number x may less = rw (le-leb number low may, le-leb number most (omega (arith, may, less))) refl
+  low_alike : (files : List File) (most low number : ℕ) (x : CsvRecord) → number ≤ low → low ≤ most → fault_by layout files low number x ≡ fault_by layout files most number x
+  low_alike files most low number x may less = rw (le-leb number low may, le-leb number most (omega (arith, may, less))) refl
 
-  ends_low : (most low number : ℕ) (x : CsvRecord) → number ≤ low → low ≤ most → ends_by layout files low number x ≡ ends_by layout files most number x
+  fault_low : (most low number : ℕ) (x : CsvRecord) → number ≤ low → low ≤ most → fault_by layout releases.zones low number x ≡ fault_by layout releases.zones most number x
+  fault_low most low number x may less = low_alike releases.zones most low number x may less
+
+  -- and what is written of it
+  written_low : (most low number : ℕ) (x : CsvRecord) (t : List ℕ) → number ≤ low → low ≤ most → (by : Written) → IsWrittenAt by layout releases low number x t → IsWrittenAt by layout releases most number x t
+  written_low most low number x t may less written.All is = subst (λ (f : Option RowKind). IsRowAt layout releases.zones f x t) (fault_low most low number x may less) is
+  written_low most low number x t may less written.Moved is = record {
+    row = is.row;
+    by = subst (λ (f : Option RowKind). IsRowAt layout releases.zones f x is.row) (fault_low most low number x may less) is.by;
+    answer = is.answer;
+    answers = subst (λ (f : Option RowKind). IsAnswerAt layout releases.zones f x is.answer) (fault_low most low number x may less) is.answers;
+    other = is.other;
+    others = subst (λ (f : Option RowKind). IsAnswerAt layout (old_files releases.old) f x is.other) (low_alike (old_files releases.old) most low number x may less) is.others;
+    same = is.same;
+    moved = is.moved;
+  }
+
+  ends_low : (most low number : ℕ) (x : CsvRecord) → number ≤ low → low ≤ most → ends_by layout releases.zones low number x ≡ ends_by layout releases.zones most number x
   ends_low most low number x may less = ap (ending layout.at_fault layout.records) (fault_low most low number x may less)
 
   -- the row after it ends the run
-  ends_beyond : (low number : ℕ) (x : CsvRecord) → low < number → ends_by layout files low number x ≡ Some kinds.TooManyRows
+  ends_beyond : (low number : ℕ) (x : CsvRecord) → low < number → ends_by layout releases.zones low number x ≡ Some kinds.TooManyRows
   ends_beyond low number x beyond = rw (lt-leb number low beyond) (too_many_ends layout.at_fault layout.records)
 
   -- rows up to a lower greatest number are those of as many records
-  pub come_low : (most low number : ℕ) (xs : List CsvRecord) (texts : List (List ℕ)) (fault : Option RowKind) → low ≤ most → RecordsConvertBy layout files low number xs texts fault
-      → RecordsConvertBy layout files most number (take (length texts) xs) texts None
+  pub come_low : (most low number : ℕ) (xs : List CsvRecord) (texts : List (List ℕ)) (fault : Option RowKind) → low ≤ most → RecordsConvertBy layout releases low number xs texts fault
+      → RecordsConvertBy layout releases most number (take (length texts) xs) texts None
   come_low most low number [] [] fault less come = (refl, refl)
   come_low most low number [] (t ∷ texts) fault less come = absurd (cc come.0)
   come_low most low number (x ∷ xs) [] fault less come = (refl, refl)
   come_low most low number (x ∷ xs) (t ∷ texts) fault less come =
-      let may = within layout files low number x come.0 in (
+      let may = within layout releases low number x come.0 in (
         sym (ends_low most low number x may less) ∙ come.0,
-        subst (λ (f : Option RowKind). IsRowAt layout files f x t) (fault_low most low number x may less) come.1,
+        written_low most low number x t may less layout.written come.1,
         come_low most low (number + 1) xs texts fault less come.2,
       )
 
   -- and have their faults
-  pub faults_low : (most low number : ℕ) (xs : List CsvRecord) (texts : List (List ℕ)) (fault : Option RowKind) → low ≤ most → RecordsConvertBy layout files low number xs texts fault
-      → faults_by layout files low number xs ≡ faults_by layout files most number (take (length texts) xs)
+  pub faults_low : (most low number : ℕ) (xs : List CsvRecord) (texts : List (List ℕ)) (fault : Option RowKind) → low ≤ most → RecordsConvertBy layout releases low number xs texts fault
+      → faults_by layout releases.zones low number xs ≡ faults_by layout releases.zones most number (take (length texts) xs)
   faults_low most low number [] [] fault less come = refl
   faults_low most low number [] (t ∷ texts) fault less come = absurd (cc come.0)
   faults_low most low number (x ∷ xs) [] None less come = absurd (cc come.1)
   faults_low most low number (x ∷ xs) [] (Some kind) less come = rw (sym come.0) refl
   faults_low most low number (x ∷ xs) (t ∷ texts) fault less come =
-      let may = within layout files low number x come.0 in
+      let may = within layout releases low number x come.0 in
       let rest = faults_low most low (number + 1) xs texts fault less come.2 in
       let none = sym (ends_low most low number x may less) ∙ come.0 in
       let here = ap (noted layout.at_fault number x.own) (fault_low most low number x may less) in
-      rw (come.0, none) (ap (λ (l : List RowNote). l ++ faults_by layout files low (number + 1) xs) here
-      ∙ ap (λ (l : List RowNote). noted layout.at_fault number x.own (fault_by layout files most number x) ++ l) rest)
+      rw (come.0, none) (ap (λ (l : List RowNote). l ++ faults_by layout releases.zones low (number + 1) xs) here
+      ∙ ap (λ (l : List RowNote). noted layout.at_fault number x.own (fault_by layout releases.zones most number x) ++ l) rest)
 
   module _ (most : ℕ) where
     -- a row with a fault, as it is noted
@@ -180,49 +200,49 @@ module _ (layout : Layout) (files : List File) where
     -- what is noted of records after the first has a note, which has others before it
     pub record Follows (number : ℕ) (x : CsvRecord) (xs : List CsvRecord) (before after : List RowNote) (note : RowNote) : Type 0 where
       pub others : List RowNote
-      pub is : before ≡ noted layout.at_fault number x.own (fault_by layout files most number x) ++ others
-      pub parts : faults_by layout files most (number + 1) xs ≡ others ++ note ∷ after
+      pub is : before ≡ noted layout.at_fault number x.own (fault_by layout releases.zones most number x) ++ others
+      pub parts : faults_by layout releases.zones most (number + 1) xs ≡ others ++ note ∷ after
 
     -- a note is that of the first record, or of those after it
     either : (number : ℕ) (x : CsvRecord) (xs : List CsvRecord) (before after : List RowNote) (note : RowNote)
-        → noted layout.at_fault number x.own (fault_by layout files most number x) ++ faults_by layout files most (number + 1) xs ≡ before ++ note ∷ after
+        → noted layout.at_fault number x.own (fault_by layout releases.zones most number x) ++ faults_by layout releases.zones most (number + 1) xs ≡ before ++ note ∷ after
         → ((before ≡ []) × (note.fault.row ≡ number)) ⊎ Follows number x xs before after note
-    either number x xs before after note e = by_fault (fault_by layout files most number x) refl where
-      by_before : (kind : RowKind) (before : List RowNote) → fault_by layout files most number x ≡ Some kind → note_of number x kind ∷ faults_by layout files most (number + 1) xs ≡ before ++ note ∷ after
+    either number x xs before after note e = by_fault (fault_by layout releases.zones most number x) refl where
+      by_before : (kind : RowKind) (before : List RowNote) → fault_by layout releases.zones most number x ≡ Some kind → note_of number x kind ∷ faults_by layout releases.zones most (number + 1) xs ≡ before ++ note ∷ after
           → ((before ≡ []) × (note.fault.row ≡ number)) ⊎ Follows number x xs before after note
       by_before kind [] is same =
           let first : note_of number x kind ≡ note = cc same in
           inl (refl, ap (λ (n : RowNote). n.fault.row) (sym first))
       by_before kind (b ∷ before) is same =
           let first : note_of number x kind ≡ b = cc same in
-          let rest : faults_by layout files most (number + 1) xs ≡ before ++ note ∷ after = cc same in
+          let rest : faults_by layout releases.zones most (number + 1) xs ≡ before ++ note ∷ after = cc same in
           inr (record { others = before; is = rw is (ap (λ (n : RowNote). n ∷ before) (sym first)); parts = rest })
 
-      by_fault : (fault : Option RowKind) → fault_by layout files most number x ≡ fault → ((before ≡ []) × (note.fault.row ≡ number)) ⊎ Follows number x xs before after note
+      by_fault : (fault : Option RowKind) → fault_by layout releases.zones most number x ≡ fault → ((before ≡ []) × (note.fault.row ≡ number)) ⊎ Follows number x xs before after note
       by_fault None is = inr (record { others = before; is = rw is refl; parts = rw is at e })
       by_fault (Some kind) is = by_before kind before is (rw is at e)
 
     -- the numbers of noted rows are those from the first record's on, up to the greatest
-    pub noted_within : (number : ℕ) (xs : List CsvRecord) (before after : List RowNote) (note : RowNote) → faults_by layout files most number xs ≡ before ++ note ∷ after
+    pub noted_within : (number : ℕ) (xs : List CsvRecord) (before after : List RowNote) (note : RowNote) → faults_by layout releases.zones most number xs ≡ before ++ note ∷ after
         → (number ≤ note.fault.row) × (note.fault.row ≤ most)
     noted_within number [] before after note e = absurd (no_note before after note e)
     noted_within number (x ∷ xs) before after note e =
-        by_end (ends_by layout files most number x) refl (λ others later. noted_within (number + 1) xs others after note later)
+        by_end (ends_by layout releases.zones most number x) refl (λ others later. noted_within (number + 1) xs others after note later)
       where
-        by_end : (end : Option RowKind) → ends_by layout files most number x ≡ end
-            → ((others : List RowNote) → faults_by layout files most (number + 1) xs ≡ others ++ note ∷ after → (number + 1 ≤ note.fault.row) × (note.fault.row ≤ most))
+        by_end : (end : Option RowKind) → ends_by layout releases.zones most number x ≡ end
+            → ((others : List RowNote) → faults_by layout releases.zones most (number + 1) xs ≡ others ++ note ∷ after → (number + 1 ≤ note.fault.row) × (note.fault.row ≤ most))
             → (number ≤ note.fault.row) × (note.fault.row ≤ most)
         by_end (Some kind) is rest = absurd (no_note before after note (rw is at e))
         by_end None is rest = elim (either number x xs before after note (rw is at e)) [
-          | inl here ↦ (omega (arith, here.1), omega (arith, here.1, within layout files most number x is))
+          | inl here ↦ (omega (arith, here.1), omega (arith, here.1, within layout releases most number x is))
           | inr then ↦ let later = rest then.others then.parts in (omega (arith, later.0), later.1)
         ]
 
     -- the one record has the note
-    pub one_noted : (number : ℕ) (x : CsvRecord) (before after : List RowNote) (note : RowNote) → faults_by layout files most number (x ∷ []) ≡ before ++ note ∷ after
+    pub one_noted : (number : ℕ) (x : CsvRecord) (before after : List RowNote) (note : RowNote) → faults_by layout releases.zones most number (x ∷ []) ≡ before ++ note ∷ after
         → (before ≡ []) × (note.fault.row ≡ number)
-    one_noted number x before after note e = by_end (ends_by layout files most number x) refl where
-      by_end : (end : Option RowKind) → ends_by layout files most number x ≡ end → (before ≡ []) × (note.fault.row ≡ number)
+    one_noted number x before after note e = by_end (ends_by layout releases.zones most number x) refl where
+      by_end : (end : Option RowKind) → ends_by layout releases.zones most number x ≡ end → (before ≡ []) × (note.fault.row ≡ number)
       by_end (Some kind) is = absurd (no_note before after note (rw is at e))
       by_end None is = elim (either number x [] before after note (rw is at e)) [
         | inl here ↦ here
@@ -233,13 +253,13 @@ module _ (layout : Layout) (files : List File) where
     pub record IsCut (low number : ℕ) (xs : List CsvRecord) (texts cut : List (List ℕ)) (fault end : Option RowKind) (before : List RowNote) : Type 0 where
       pub ended : end ≡ Some kinds.TooManyRows
       pub long : low + 1 ≡ number + length cut
-      pub noted : faults_by layout files low number xs ≡ before
-      pub come : RecordsConvertBy layout files most number xs (cut ++ drop (length cut) texts) fault
+      pub noted : faults_by layout releases.zones low number xs ≡ before
+      pub come : RecordsConvertBy layout releases most number xs (cut ++ drop (length cut) texts) fault
 
     module _ (low : ℕ) (less : low ≤ most) (fault end : Option RowKind) (after : List RowNote) (note : RowNote) (at : low + 1 ≡ note.fault.row) where
       -- the first record has the note
-      cut_first : (number : ℕ) (x : CsvRecord) (xs : List CsvRecord) (texts cut : List (List ℕ)) → RecordsConvertBy layout files most number (x ∷ xs) texts fault
-          → RecordsConvertBy layout files low number (x ∷ xs) cut end → note.fault.row ≡ number → IsCut low number (x ∷ xs) texts cut fault end []
+      cut_first : (number : ℕ) (x : CsvRecord) (xs : List CsvRecord) (texts cut : List (List ℕ)) → RecordsConvertBy layout releases most number (x ∷ xs) texts fault
+          → RecordsConvertBy layout releases low number (x ∷ xs) cut end → note.fault.row ≡ number → IsCut low number (x ∷ xs) texts cut fault end []
       cut_first number x xs texts (c ∷ cut) come low_come is = absurd (cc (sym (ends_beyond low number x (omega (arith, at, is))) ∙ low_come.0))
       cut_first number x xs texts [] come low_come is =
           let beyond = ends_beyond low number x (omega (arith, at, is)) in
@@ -251,9 +271,9 @@ module _ (layout : Layout) (files : List File) where
           }
 
       -- one of those after it has it
-      cut_later : (number : ℕ) (x : CsvRecord) (xs : List CsvRecord) (t : List ℕ) (texts cut : List (List ℕ)) → RecordsConvertBy layout files most number (x ∷ xs) (t ∷ texts) fault
-          → RecordsConvertBy layout files low number (x ∷ xs) cut end → number ≤ low → (before : List RowNote) (then : Follows number x xs before after note)
-          → ((cut : List (List ℕ)) → RecordsConvertBy layout files low (number + 1) xs cut end → IsCut low (number + 1) xs texts cut fault end then.others)
+      cut_later : (number : ℕ) (x : CsvRecord) (xs : List CsvRecord) (t : List ℕ) (texts cut : List (List ℕ)) → RecordsConvertBy layout releases most number (x ∷ xs) (t ∷ texts) fault
+          → RecordsConvertBy layout releases low number (x ∷ xs) cut end → number ≤ low → (before : List RowNote) (then : Follows number x xs before after note)
+          → ((cut : List (List ℕ)) → RecordsConvertBy layout releases low (number + 1) xs cut end → IsCut low (number + 1) xs texts cut fault end then.others)
           → IsCut low number (x ∷ xs) (t ∷ texts) cut fault end before
       cut_later number x xs t texts [] come low_come may before then rest = absurd (not_none end low_come.1 (low_come.0 ∙ ends_low most low number x may less ∙ come.0))
       cut_later number x xs t texts (c ∷ cut) come low_come may before then rest =
@@ -263,16 +283,16 @@ module _ (layout : Layout) (files : List File) where
             ended = cut_rest.ended;
             long = omega (arith, cut_rest.long);
             noted = rw low_come.0 (ap₂ (λ (f : Option RowKind) (l : List RowNote). noted layout.at_fault number x.own f ++ l) same cut_rest.noted ∙ sym then.is);
-            come = (come.0, subst (λ (f : Option RowKind). IsRowAt layout files f x c) same low_come.1, cut_rest.come);
+            come = (come.0, written_low most low number x c may less layout.written low_come.1, cut_rest.come);
           }
 
       -- there are such rows
-      pub is_cut : (number : ℕ) (xs : List CsvRecord) (texts cut : List (List ℕ)) (before : List RowNote) → RecordsConvertBy layout files most number xs texts fault
-          → RecordsConvertBy layout files low number xs cut end → faults_by layout files most number xs ≡ before ++ note ∷ after → IsCut low number xs texts cut fault end before
+      pub is_cut : (number : ℕ) (xs : List CsvRecord) (texts cut : List (List ℕ)) (before : List RowNote) → RecordsConvertBy layout releases most number xs texts fault
+          → RecordsConvertBy layout releases low number xs cut end → faults_by layout releases.zones most number xs ≡ before ++ note ∷ after → IsCut low number xs texts cut fault end before
       is_cut number [] texts cut before come low_come e = absurd (no_note before after note e)
       is_cut number (x ∷ xs) [] cut before come low_come e = absurd (ended_first fault come.1 come.0)
         where
-          ended_first : (fault : Option RowKind) → IsSome fault → fault ≡ ends_by layout files most number x → ⊥
+          ended_first : (fault : Option RowKind) → IsSome fault → fault ≡ ends_by layout releases.zones most number x → ⊥
           ended_first None has is = absurd (cc has)
           ended_first (Some kind) has is = absurd (no_note before after note (rw (sym is) at e))
       is_cut number (x ∷ xs) (t ∷ texts) cut before come low_come e = elim (either number x xs before after note (rw come.0 at e)) [
@@ -282,32 +302,32 @@ module _ (layout : Layout) (files : List File) where
       ]
 
 -- rows of the first of some records have few faults where all have
-pub few_of_front : (layout : Layout) (files : List File) (most : ℕ) (limit : Option ℕ) (first : ℕ) (rs done more : List CsvRecord) → rs ≡ done ++ more → (rows : RowsOf)
-    → AreRowsOf layout files most first rs rows → (front : RowsOf) → AreRowsOf layout files most first done front → AreFew limit rows.faults → AreFew limit front.faults
-few_of_front layout files most limit first rs done more parts rows are front are_front few =
-    let all : rows.faults ≡ faults_by layout files most first (done ++ more) = are.faults ∙ ap (faults_by layout files most first) parts in
-    fewer limit front.faults rows.faults (omega (arith, ap (length {A = RowNote}) are_front.faults, front_fewer layout files most first done more, ap (length {A = RowNote}) all)) few
+pub few_of_front : (layout : Layout) (releases : Releases) (most : ℕ) (limit : Option ℕ) (first : ℕ) (rs done more : List CsvRecord) → rs ≡ done ++ more → (rows : RowsOf)
+    → AreRowsOf layout releases most first rs rows → (front : RowsOf) → AreRowsOf layout releases most first done front → AreFew limit rows.faults → AreFew limit front.faults
+few_of_front layout releases most limit first rs done more parts rows are front are_front few =
+    let all : rows.faults ≡ faults_by layout releases.zones most first (done ++ more) = are.faults ∙ ap (faults_by layout releases.zones most first) parts in
+    fewer limit front.faults rows.faults (omega (arith, ap (length {A = RowNote}) are_front.faults, front_fewer layout releases most first done more, ap (length {A = RowNote}) all)) few
 
 -- ---- rows that are made once more, up to one with one fault too many
 
-module _ (layout : Layout) (files : List File) (most : ℕ) (limit : Option ℕ) (first : ℕ) (rs : List CsvRecord) (rows : RowsOf) (are : AreRowsOf layout files most first rs rows)
+module _ (layout : Layout) (releases : Releases) (most : ℕ) (limit : Option ℕ) (first : ℕ) (rs : List CsvRecord) (rows : RowsOf) (are : AreRowsOf layout releases most first rs rows)
     (row : ℕ) (kind : RowKind) (before : List RowNote) (many : IsOneTooMany limit rows.faults row kind before) where
   abbrev note : RowNote
   note = record { fault = record { row = row; kind = kind }; own = many.own }
 
-  among : faults_by layout files most first rs ≡ before ++ note ∷ many.after
+  among : faults_by layout releases.zones most first rs ≡ before ++ note ∷ many.after
   among = sym are.faults ∙ many.parts
 
   -- its number is one of theirs
   pub row_within : (first ≤ row) × (row ≤ most)
-  row_within = noted_within layout files most first rs before many.after note among
+  row_within = noted_within layout releases most first rs before many.after note among
 
-  module _ (low : ℕ) (at : low + 1 ≡ row) (cut : RowsOf) (are_cut : AreRowsOf layout files low first rs cut) where
+  module _ (low : ℕ) (at : low + 1 ≡ row) (cut : RowsOf) (are_cut : AreRowsOf layout releases low first rs cut) where
     less : low ≤ most
     less = omega (arith, at, row_within.1)
 
-    is : IsCut layout files most low first rs are.texts are_cut.texts rows.fault cut.fault before
-    is = is_cut layout files most low less rows.fault cut.fault many.after note at first rs are.texts are_cut.texts before are.come are_cut.come among
+    is : IsCut layout releases most low first rs are.texts are_cut.texts rows.fault cut.fault before
+    is = is_cut layout releases most low less rows.fault cut.fault many.after note at first rs are.texts are_cut.texts before are.come are_cut.come among
 
     -- they are ended
     pub cut_ends : cut.fault ≡ None → ⊥
@@ -320,13 +340,13 @@ module _ (layout : Layout) (files : List File) (most : ℕ) (limit : Option ℕ)
     abbrev pub rows_on : RowsOf
     rows_on = record { text = concat texts_on; count = length texts_on; fault = rows.fault; faults = rows.faults }
 
-    pub are_on : AreRowsOf layout files most first rs rows_on
+    pub are_on : AreRowsOf layout releases most first rs rows_on
     are_on = record { texts = texts_on; come = is.come; text = refl; count = refl; faults = are.faults }
 
     module _ {W : Type 0} (contents : W → Option (List ℕ)) (old new : Counts W) (log log' : Option (List RowNote)) where
       -- the rows before it were written
       pub stops_before : (at_row : ℕ) (end : RowKind) → StopsAtRow contents old new log log' first cut at_row end
-          → StopsAtFault contents old new log log' layout files most limit first rs rows_on row kind
+          → StopsAtFault contents old new log log' layout releases most limit first rs rows_on row kind
       stops_before at_row end h = record {
         front = are_cut.texts;
         rest = drop (length are_cut.texts) are.texts;
@@ -338,10 +358,10 @@ module _ (layout : Layout) (files : List File) (most : ℕ) (limit : Option ℕ)
         noted = subst (λ (l : List RowNote). Notes log log' l) (are_cut.faults ∙ is.noted) h.3;
       }
 
-      few_before : (done more : List CsvRecord) → rs ≡ done ++ more → (faults : List RowNote) → faults ≡ faults_by layout files low first done → AreFew limit faults
+      few_before : (done more : List CsvRecord) → rs ≡ done ++ more → (faults : List RowNote) → faults ≡ faults_by layout releases.zones low first done → AreFew limit faults
       few_before done more parts faults same =
-          let all : faults_by layout files low first (done ++ more) ≡ before = ap (faults_by layout files low first) (sym parts) ∙ is.noted in
-          let less : length faults ≤ length before = omega (arith, ap (length {A = RowNote}) same, front_fewer layout files low first done more, ap (length {A = RowNote}) all) in
+          let all : faults_by layout releases.zones low first (done ++ more) ≡ before = ap (faults_by layout releases.zones low first) (sym parts) ∙ is.noted in
+          let less : length faults ≤ length before = omega (arith, ap (length {A = RowNote}) same, front_fewer layout releases low first done more, ap (length {A = RowNote}) all) in
           subst (λ (l : Option ℕ). AreFew l faults) (sym many.full) less
 
       -- the first of some records are those of their rows
@@ -350,18 +370,18 @@ module _ (layout : Layout) (files : List File) (most : ℕ) (limit : Option ℕ)
           parts ∙ ap (λ (l : List CsvRecord). l ++ more) (sym (take-append-drop n done)) ∙ append_assoc (take n done) (drop n done) more
 
       -- their rows are the same by the higher greatest number
-      are_higher : (done : List CsvRecord) (front : RowsOf) (of : AreRowsOf layout files low first done front)
-          → AreRowsOf layout files most first (take (length of.texts) done) (record front { fault = None })
+      are_higher : (done : List CsvRecord) (front : RowsOf) (of : AreRowsOf layout releases low first done front)
+          → AreRowsOf layout releases most first (take (length of.texts) done) (record front { fault = None })
       are_higher done front of = record {
         texts = of.texts;
-        come = come_low layout files most low first done of.texts front.fault less of.come;
+        come = come_low layout releases most low first done of.texts front.fault less of.come;
         text = of.text;
         count = of.count;
-        faults = of.faults ∙ faults_low layout files most low first done of.texts front.fault less of.come;
+        faults = of.faults ∙ faults_low layout releases most low first done of.texts front.fault less of.come;
       }
 
       -- or the writer failed
-      pub fails_before : FailsInRows contents old new log log' layout files low None first rs → FailsInRows contents old new log log' layout files most limit first rs
+      pub fails_before : FailsInRows contents old new log log' layout releases low None first rs → FailsInRows contents old new log log' layout releases most limit first rs
       fails_before h =
           let n = length h.are.texts in
           let m = length h.are_upto.texts in

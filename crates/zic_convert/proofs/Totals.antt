@@ -1,6 +1,7 @@
 -- That all records come to rows, up to the first fault.
-use Rattle.std.proofs.Common.{◌≡◌, ◌+◌, ℕ, ℤ, suc, Bool, true, false, List, [], ◌∷◌, ◌++◌, length, Option, Some, None, Result, Ok, Err, inl, inr, refl, sym}
+use Rattle.std.proofs.Common.{◌∙◌, ◌≡◌, ◌+◌, ℕ, ℤ, suc, Bool, true, false, List, [], ◌∷◌, ◌++◌, length, Option, Some, None, Result, Ok, Err, inl, inr, refl, sym}
 use Rattle.std.specs.Prelude.{All, bytes_eq, is_some, nat_le, option_map, slice_get}
+use Rattle.std.specs.Cmp.Lexicographic.{bytes_decides}
 use Rattle.std.proofs.lemmas.Bool.{cases_Bool}
 use Rattle.std.proofs.lemmas.List.{append-nil}
 use Rattle.std.proofs.lemmas.List.Elements.{All-contains}
@@ -12,11 +13,14 @@ use Rattle.zic_columns.specs.Round.{may_have}
 use Rattle.zic_files.specs.File.{File}
 use Rattle.zic_plan.specs.Layout.{has_count}
 use Rattle.zic_plan.specs.declared.layout.Layout.{Layout}
+use Rattle.zic_plan.specs.declared.layout.Written.{Written}
+use Rattle.zic_plan.specs.declared.layout.Written.TheVariants as written
+use Rattle.zic_zones.specs.declared.releases.Releases.{Releases}
 use Rattle.zic_base.specs.declared.row_fault.RowKind.{RowKind}
 use Rattle.zic_base.specs.declared.row_fault.RowKind.TheVariants as kind
 use Rattle.zic_zones.specs.Zones.{is_named, number_of, zone_in}
 use Rattle.zic_layout_rows.specs.Rows.{is_closed, is_row_instant}
-use Rattle.zic_layout_rows.specs.LayoutRows.{RecordsConvertBy, IsRowAt, IsRowBy, IsTextBy, count_in, ends_by, fault_by, faulty_text, instant_by, rest_by, start_text, time_by, time_in, ok_count, err_fault}
+use Rattle.zic_layout_rows.specs.LayoutRows.{RecordsConvertBy, IsAnswer, IsAnswerAt, IsRowAt, IsRowBy, IsTextBy, IsWrittenAt, empty_fields, old_files, with_fields, count_in, ends_by, fault_by, faulty_text, instant_by, rest_by, start_text, time_by, time_in, ok_count, err_fault}
 use Rattle.zic_layout_rows.specs.PieceRows.{AreRowsOf, RowsOf}
 use Rattle.zic_layout_rows.proofs.Coming.{come_after, come_more}
 use Rattle.zic_layout_rows.proofs.PutBack.{among}
@@ -93,27 +97,66 @@ module _ (layout : Layout) (files : List File) (most : ℕ) (known : All IsKnown
     by_fault None e = have_text number row_record e
     by_fault (Some fault) e = (faulty_text layout fault row_record, refl)
 
-  row_first : (number : ℕ) (row_record : CsvRecord) (row_records : List CsvRecord) (fault : Option RowKind) → ends_by layout files most number row_record ≡ fault
-      → ((texts : List (List ℕ)) × (last : Option RowKind) × RecordsConvertBy layout files most (number + 1) row_records texts last)
-      → (texts : List (List ℕ)) × (last : Option RowKind) × RecordsConvertBy layout files most number (row_record ∷ row_records) texts last
+  -- what the files answer a record
+  have_answer : (number : ℕ) (row_record : CsvRecord) → (answer : List ℕ) × IsAnswer layout files most number row_record answer
+  have_answer number row_record = by_fault (fault_by layout files most number row_record) refl where
+    by_fault : (fault : Option RowKind) → fault_by layout files most number row_record ≡ fault → (answer : List ℕ) × IsAnswerAt layout files fault row_record answer
+    by_fault None e =
+        let (text, is) = have_text number row_record e in (
+          exchanged layout.delimiter (rest_by layout.style layout.from layout.unit is.count is.state),
+          record {
+            file = is.file;
+            among = is.among;
+            named = is.named;
+            input = is.input;
+            says = is.says;
+            count = is.count;
+            means = is.means;
+            state = is.state;
+            answers = is.answers;
+            is = refl;
+          },
+        )
+    by_fault (Some fault) e = (empty_fields layout, refl)
+
+module _ (layout : Layout) (releases : Releases) (most : ℕ) (known : All IsKnown releases.zones × All IsKnown (old_files releases.old)) where
+  -- what is written of a record
+  have_written : (number : ℕ) (row_record : CsvRecord) (by : Written) → (text : List ℕ) × IsWrittenAt by layout releases most number row_record text
+  have_written number row_record written.All = have_row layout releases.zones most known.0 number row_record
+  have_written number row_record written.Moved =
+      let (row, is_row) = have_row layout releases.zones most known.0 number row_record in
+      let (answer, answers) = have_answer layout releases.zones most known.0 number row_record in
+      let (other, others) = have_answer layout (old_files releases.old) most known.1 number row_record in
+      elim (cases_Bool (bytes_eq answer other)) [
+        | inl is ↦
+            let same = (bytes_decides answer other).0 is in
+            ([], record { row = row; by = is_row; answer = answer; answers = answers; other = other; others = others; same = λ _. refl; moved = λ differ. absurd (differ same) })
+        | inr no ↦
+            let differ : (answer ≡ other → ⊥) = λ e. (let yes = (bytes_decides answer other).1 e in cc (sym yes ∙ no)) in
+            (with_fields row other, record { row = row; by = is_row; answer = answer; answers = answers; other = other; others = others; same = λ e. absurd (differ e); moved = λ _. refl })
+      ]
+
+  row_first : (number : ℕ) (row_record : CsvRecord) (row_records : List CsvRecord) (fault : Option RowKind) → ends_by layout releases.zones most number row_record ≡ fault
+      → ((texts : List (List ℕ)) × (last : Option RowKind) × RecordsConvertBy layout releases most (number + 1) row_records texts last)
+      → (texts : List (List ℕ)) × (last : Option RowKind) × RecordsConvertBy layout releases most number (row_record ∷ row_records) texts last
   row_first number row_record row_records (Some k) e rest = ([], Some k, (sym e, refl))
   row_first number row_record row_records None e rest =
-      let (text, is) = have_row number row_record in
+      let (text, is) = have_written number row_record layout.written in
       (text ∷ rest.0, rest.1, (e, is, rest.2))
 
   -- what all records come to
-  pub all_come : (number : ℕ) (row_records : List CsvRecord) → (texts : List (List ℕ)) × (last : Option RowKind) × RecordsConvertBy layout files most number row_records texts last
+  pub all_come : (number : ℕ) (row_records : List CsvRecord) → (texts : List (List ℕ)) × (last : Option RowKind) × RecordsConvertBy layout releases most number row_records texts last
   all_come number [] = ([], None, (refl, refl))
-  all_come number (row_record ∷ row_records) = row_first number row_record row_records (ends_by layout files most number row_record) refl (all_come (number + 1) row_records)
+  all_come number (row_record ∷ row_records) = row_first number row_record row_records (ends_by layout releases.zones most number row_record) refl (all_come (number + 1) row_records)
 
-  more_by : (number : ℕ) (rs more : List CsvRecord) (rows : RowsOf) (fault : Option RowKind) → rows.fault ≡ fault → (are : AreRowsOf layout files most number rs rows)
-      → (texts : List (List ℕ)) × (last : Option RowKind) × RecordsConvertBy layout files most number (rs ++ more) texts last × (others : List (List ℕ)) × (texts ≡ are.texts ++ others)
-  more_by number rs more rows (Some k) e are = (are.texts, Some k, come_more layout files most number rs more are.texts k (rw e at are.come), [], sym (append-nil are.texts))
+  more_by : (number : ℕ) (rs more : List CsvRecord) (rows : RowsOf) (fault : Option RowKind) → rows.fault ≡ fault → (are : AreRowsOf layout releases most number rs rows)
+      → (texts : List (List ℕ)) × (last : Option RowKind) × RecordsConvertBy layout releases most number (rs ++ more) texts last × (others : List (List ℕ)) × (texts ≡ are.texts ++ others)
+  more_by number rs more rows (Some k) e are = (are.texts, Some k, come_more layout releases most number rs more are.texts k (rw e at are.come), [], sym (append-nil are.texts))
   more_by number rs more rows None e are =
       let (texts, last, come) = all_come (number + length are.texts) more in
-      (are.texts ++ texts, last, come_after layout files most number rs more are.texts texts last (rw e at are.come) come, texts, refl)
+      (are.texts ++ texts, last, come_after layout releases most number rs more are.texts texts last (rw e at are.come) come, texts, refl)
 
   -- rows of the first records, and what all come to
-  pub more_than : (number : ℕ) (rs more : List CsvRecord) (rows : RowsOf) → (are : AreRowsOf layout files most number rs rows)
-      → (texts : List (List ℕ)) × (last : Option RowKind) × RecordsConvertBy layout files most number (rs ++ more) texts last × (others : List (List ℕ)) × (texts ≡ are.texts ++ others)
+  pub more_than : (number : ℕ) (rs more : List CsvRecord) (rows : RowsOf) → (are : AreRowsOf layout releases most number rs rows)
+      → (texts : List (List ℕ)) × (last : Option RowKind) × RecordsConvertBy layout releases most number (rs ++ more) texts last × (others : List (List ℕ)) × (texts ≡ are.texts ++ others)
   more_than number rs more rows are = more_by number rs more rows rows.fault refl are

@@ -23,9 +23,12 @@ use Rattle.zic_plan.specs.declared.layout.Style.{Style}
 use Rattle.zic_plan.specs.declared.layout.Style.TheVariants as styles
 use Rattle.zic_plan.specs.declared.layout.TimeFrom.{TimeFrom}
 use Rattle.zic_plan.specs.declared.layout.TimeFrom.TheVariants as from
+use Rattle.zic_plan.specs.declared.layout.Written.{Written}
+use Rattle.zic_plan.specs.declared.layout.Written.TheVariants as written
 use Rattle.zic_base.specs.declared.row_fault.RowKind.{RowKind}
 use Rattle.zic_layout_rows.specs.Rows.{RecordsConvertTo}
 use Rattle.zic_plan.specs.Noted.{RowNote}
+use Rattle.zic_zones.specs.declared.releases.Releases.{Releases}
 use Rattle.zic_layout_rows.specs.LayoutRows.{RecordsConvertBy, faults_by}
 
 -- The texts of a column's rows up to the first that has a fault, and that fault, or none. Rows count from 1, and there may be at most
@@ -65,19 +68,19 @@ pub record AreRowRecords (layout : Layout) (column : List ℕ) (row_records : Li
 
 -- The texts of a column's rows by a layout, up to the first that ends the run, and its fault, or none. Rows count from 1, and there may be
 -- at most this number.
-pub record ConvertsBy (files : List File) (layout : Layout) (most : ℕ) (column : List ℕ) (texts : List (List ℕ)) (fault : Option RowKind) : Type 0 where
+pub record ConvertsBy (releases : Releases) (layout : Layout) (most : ℕ) (column : List ℕ) (texts : List (List ℕ)) (fault : Option RowKind) : Type 0 where
   pub row_records : List CsvRecord
   pub are : AreRowRecords layout column row_records
-  pub rows : RecordsConvertBy layout files most 1 row_records texts fault
+  pub rows : RecordsConvertBy layout releases most 1 row_records texts fault
 
--- the line of names before rows that begin with a name and an instant, or a local time: own choice
+-- the names of the fields of rows that begin with a name and an instant, or a local time: own choice
 abbrev pub row_names : Style → TimeFrom → List ℕ
-row_names styles.Fields from.Count = codes "zone,instant,local,offset,daylight,abbreviation" ++ 10 ∷ []
-row_names styles.Fields from.Rfc3339 = codes "zone,instant,local,offset,daylight,abbreviation" ++ 10 ∷ []
-row_names styles.Fields (from.Local choice) = codes "zone,local,instant,offset,daylight,abbreviation" ++ 10 ∷ []
-row_names styles.Iso from.Count = codes "zone,instant,local,daylight,abbreviation" ++ 10 ∷ []
-row_names styles.Iso from.Rfc3339 = codes "zone,instant,local,daylight,abbreviation" ++ 10 ∷ []
-row_names styles.Iso (from.Local choice) = codes "zone,local,instant,time,daylight,abbreviation" ++ 10 ∷ []
+row_names styles.Fields from.Count = codes "zone,instant,local,offset,daylight,abbreviation"
+row_names styles.Fields from.Rfc3339 = codes "zone,instant,local,offset,daylight,abbreviation"
+row_names styles.Fields (from.Local choice) = codes "zone,local,instant,offset,daylight,abbreviation"
+row_names styles.Iso from.Count = codes "zone,instant,local,daylight,abbreviation"
+row_names styles.Iso from.Rfc3339 = codes "zone,instant,local,daylight,abbreviation"
+row_names styles.Iso (from.Local choice) = codes "zone,local,instant,time,daylight,abbreviation"
 
 -- the line, where a header is written and rows begin with names, and else nothing
 abbrev pub names_of : RowStart → Header → List ℕ → List ℕ
@@ -93,6 +96,24 @@ added_names styles.Iso from.Count = codes ",local,daylight,abbreviation"
 added_names styles.Iso from.Rfc3339 = codes ",local,daylight,abbreviation"
 added_names styles.Iso (from.Local choice) = codes ",instant,time,daylight,abbreviation"
 
+-- the names of the fields that another release answers: own choice
+abbrev pub old_names : Style → TimeFrom → List ℕ
+old_names styles.Fields from.Count = codes ",old_local,old_offset,old_daylight,old_abbreviation"
+old_names styles.Fields from.Rfc3339 = codes ",old_local,old_offset,old_daylight,old_abbreviation"
+old_names styles.Fields (from.Local choice) = codes ",old_instant,old_offset,old_daylight,old_abbreviation"
+old_names styles.Iso from.Count = codes ",old_local,old_daylight,old_abbreviation"
+old_names styles.Iso from.Rfc3339 = codes ",old_local,old_daylight,old_abbreviation"
+old_names styles.Iso (from.Local choice) = codes ",old_instant,old_time,old_daylight,old_abbreviation"
+
+-- the names after all others, where rows are compared
+abbrev pub names_after : Written → Style → TimeFrom → List ℕ
+names_after written.All style time = []
+names_after written.Moved style time = old_names style time
+
+-- the names of all fields that a row by a layout adds to its record
+abbrev pub names_added : Layout → List ℕ
+names_added layout = added_names layout.style layout.from ++ names_after layout.written layout.style layout.from
+
 -- the own bytes of the header that is written, if one is, by those of all records
 abbrev pub own_header : Header → List (List ℕ) → List ℕ
 own_header header.Absent texts = []
@@ -100,17 +121,17 @@ own_header header.First texts = first_text texts
 own_header header.Skipped texts = []
 
 -- a column's header with those names, where rows begin with their records; a record has a byte or more
-abbrev pub header_of : RowStart → Style → TimeFrom → ℕ → List ℕ → List ℕ
-header_of start.Record style time delimiter (byte ∷ own) = (byte ∷ own) ++ (exchanged delimiter (added_names style time) ++ 10 ∷ [])
-header_of _ style time delimiter _ = []
+abbrev pub header_of : RowStart → List ℕ → ℕ → List ℕ → List ℕ
+header_of start.Record names delimiter (byte ∷ own) = (byte ∷ own) ++ (exchanged delimiter names ++ 10 ∷ [])
+header_of _ names delimiter _ = []
 
 -- what is written before a column is read: the line of names, or nothing
 abbrev pub names_line : Layout → List ℕ
-names_line layout = names_of layout.start layout.header (exchanged layout.delimiter (row_names layout.style layout.from))
+names_line layout = names_of layout.start layout.header (exchanged layout.delimiter (row_names layout.style layout.from ++ (names_after layout.written layout.style layout.from ++ 10 ∷ [])))
 
 -- and once its header was read
 abbrev pub own_line : Layout → List ℕ → List ℕ
-own_line layout column = header_of layout.start layout.style layout.from layout.delimiter (own_header layout.header (delimited_texts_by layout.records layout.delimiter (strip_bom (read_by layout column))))
+own_line layout column = header_of layout.start (names_added layout) layout.delimiter (own_header layout.header (delimited_texts_by layout.records layout.delimiter (strip_bom (read_by layout column))))
 
 -- The header that is written before the rows of a column: own choice. It is the line of names where rows begin with names,
 -- and else the column's own header, with the names of the fields that rows add. It is nothing where the column has none, or it is skipped.
@@ -126,11 +147,11 @@ pub record AreRowsOfColumn (files : List File) (most : ℕ) (column text : List 
 
 -- The text of a column's header and of its rows by a layout, up to the first that ends the run, how many rows there are, the fault that ends
 -- the run, or none, and what is noted of the rows before it that have one.
-pub record AreRowsByLayout (files : List File) (layout : Layout) (most : ℕ) (column text : List ℕ) (count : ℕ) (fault : Option RowKind) (faults : List RowNote) : Type 0 where
+pub record AreRowsByLayout (releases : Releases) (layout : Layout) (most : ℕ) (column text : List ℕ) (count : ℕ) (fault : Option RowKind) (faults : List RowNote) : Type 0 where
   pub row_records : List CsvRecord
   pub are : AreRowRecords layout column row_records
   pub texts : List (List ℕ)
-  pub rows : RecordsConvertBy layout files most 1 row_records texts fault
+  pub rows : RecordsConvertBy layout releases most 1 row_records texts fault
   pub text_is : text ≡ header_text layout column ++ concat texts
   pub count_is : count ≡ length texts
-  pub faults_are : faults ≡ faults_by layout files most 1 row_records
+  pub faults_are : faults ≡ faults_by layout releases.zones most 1 row_records

@@ -8,7 +8,7 @@ use Rattle.zic_columns.specs.Lines.{AreRecordsBy}
 use Rattle.zic_columns.specs.Own.{CsvRecord}
 use Rattle.zic_columns.specs.Round.{BeginsTooLong}
 use Rattle.zic_counted.specs.Counts.{Counts}
-use Rattle.zic_files.specs.File.{File}
+use Rattle.zic_zones.specs.declared.releases.Releases.{Releases}
 use Rattle.zic_plan.specs.Layout.{records_before}
 use Rattle.zic_plan.specs.declared.layout.Layout.{Layout}
 use Rattle.zic_base.specs.Growth.{Gains}
@@ -68,35 +68,35 @@ pub record IsOneTooMany (limit : Option ℕ) (faults : List RowNote) (row : ℕ)
   pub full : limit ≡ Some (length before)
 
 -- A header and all rows of these records were written, there are n rows, and their faults, which are few, were noted.
-abbrev pub WritesRows : Layout → List File → ℕ → Option ℕ → List ℕ → List CsvRecord → ℕ → Output → Type 0
-WritesRows layout files most limit header row_records n out =
-    WritesAllOf header (RecordsConvertBy layout files most 1 row_records) n out.held out.held' × Notes out.log out.log' (faults_by layout files most 1 row_records)
-    × AreFew limit (faults_by layout files most 1 row_records)
+abbrev pub WritesRows : Layout → Releases → ℕ → Option ℕ → List ℕ → List CsvRecord → ℕ → Output → Type 0
+WritesRows layout releases most limit header row_records n out =
+    WritesAllOf header (RecordsConvertBy layout releases most 1 row_records) n out.held out.held' × Notes out.log out.log' (faults_by layout releases.zones most 1 row_records)
+    × AreFew limit (faults_by layout releases.zones most 1 row_records)
 
 -- A header and the rows before one that ends the conversion were written, and their faults, which are few, were noted.
-abbrev pub EndsAtRow : Layout → List File → ℕ → Option ℕ → List ℕ → List CsvRecord → ℕ → RowKind → Output → Type 0
-EndsAtRow layout files most limit header row_records row kind out =
-    WritesUpToOf header (RecordsConvertBy layout files most 1 row_records) row kind out.held out.held' × Notes out.log out.log' (faults_by layout files most 1 row_records)
-    × AreFew limit (faults_by layout files most 1 row_records)
+abbrev pub EndsAtRow : Layout → Releases → ℕ → Option ℕ → List ℕ → List CsvRecord → ℕ → RowKind → Output → Type 0
+EndsAtRow layout releases most limit header row_records row kind out =
+    WritesUpToOf header (RecordsConvertBy layout releases most 1 row_records) row kind out.held out.held' × Notes out.log out.log' (faults_by layout releases.zones most 1 row_records)
+    × AreFew limit (faults_by layout releases.zones most 1 row_records)
 
 -- The conversion ends at a row with one fault too many: a header and the rows before it were written, and the faults before it were noted.
 -- Without a limit the records come to these texts, and to one fault that ends the run, or to none.
-pub record EndsAtFaults (layout : Layout) (files : List File) (most : ℕ) (limit : Option ℕ) (header : List ℕ) (row_records : List CsvRecord) (row : ℕ) (kind : RowKind) (out : Output) : Type 0 where
+pub record EndsAtFaults (layout : Layout) (releases : Releases) (most : ℕ) (limit : Option ℕ) (header : List ℕ) (row_records : List CsvRecord) (row : ℕ) (kind : RowKind) (out : Output) : Type 0 where
   pub texts : List (List ℕ)
   pub fault : Option RowKind
-  pub come : RecordsConvertBy layout files most 1 row_records texts fault
+  pub come : RecordsConvertBy layout releases most 1 row_records texts fault
   pub before : List RowNote
-  pub too_many : IsOneTooMany limit (faults_by layout files most 1 row_records) row kind before
+  pub too_many : IsOneTooMany limit (faults_by layout releases.zones most 1 row_records) row kind before
   pub wrote : Appends out.held out.held' (header ++ concat (take (row - 1) texts))
   pub noted : Notes out.log out.log' before
 
 -- Some lines were written, of the header and the first rows, and the faults of these rows, which are few, were noted, and no others. Nothing
 -- was written after these lines, unless a failure of the writer ended the run: then perhaps a beginning of those that come next, up to some
 -- line; the rows up to there have few faults too.
-pub record EndsAfterLines (layout : Layout) (files : List File) (most : ℕ) (limit : Option ℕ) (header : List ℕ) (row_records : List CsvRecord) (why : RunStop) (out : Output) : Type 0 where
+pub record EndsAfterLines (layout : Layout) (releases : Releases) (most : ℕ) (limit : Option ℕ) (header : List ℕ) (row_records : List CsvRecord) (why : RunStop) (out : Output) : Type 0 where
   pub texts : List (List ℕ)
   pub fault : Option RowKind
-  pub come : RecordsConvertBy layout files most 1 row_records texts fault
+  pub come : RecordsConvertBy layout releases most 1 row_records texts fault
   pub lines : ℕ
   pub upto : ℕ
   pub part : List ℕ
@@ -104,22 +104,22 @@ pub record EndsAfterLines (layout : Layout) (files : List File) (most : ℕ) (li
   pub least : StartsWith part (concat (take lines (header ∷ texts)))
   pub exact : (part ≡ concat (take lines (header ∷ texts))) ⊎ (why ≡ stop.WriteFailed)
   pub wrote : Appends out.held out.held' part
-  pub noted : Notes out.log out.log' (faults_by layout files most 1 (take (lines - 1) row_records))
-  pub few : AreFew limit (faults_by layout files most 1 (take (lines - 1) row_records))
-  pub may : AreFew limit (faults_by layout files most 1 (take (upto - 1) row_records))
+  pub noted : Notes out.log out.log' (faults_by layout releases.zones most 1 (take (lines - 1) row_records))
+  pub few : AreFew limit (faults_by layout releases.zones most 1 (take (lines - 1) row_records))
+  pub may : AreFew limit (faults_by layout releases.zones most 1 (take (upto - 1) row_records))
 
 -- how a conversion ends early: at a row that ends it or has one fault too many, or for another cause, but never for a fault of a source
-abbrev pub EndsIn : Layout → List File → ℕ → Option ℕ → List ℕ → List CsvRecord → RunStop → Output → Type 0
-EndsIn layout files most limit header row_records (stop.Row row kind) out =
-    EndsAtRow layout files most limit header row_records row kind out
-    ⊎ EndsAtFaults layout files most limit header row_records row kind out
-EndsIn layout files most limit header row_records (stop.Source fault) out = ⊥
-EndsIn layout files most limit header row_records why out = EndsAfterLines layout files most limit header row_records why out
+abbrev pub EndsIn : Layout → Releases → ℕ → Option ℕ → List ℕ → List CsvRecord → RunStop → Output → Type 0
+EndsIn layout releases most limit header row_records (stop.Row row kind) out =
+    EndsAtRow layout releases most limit header row_records row kind out
+    ⊎ EndsAtFaults layout releases most limit header row_records row kind out
+EndsIn layout releases most limit header row_records (stop.Source fault) out = ⊥
+EndsIn layout releases most limit header row_records why out = EndsAfterLines layout releases most limit header row_records why out
 
--- by these files, all rows of the column were written, there are n, and their faults, which are few, were noted
-abbrev pub ConvertsAllBy : {R W : Type 0} → Layout → ℕ → Option ℕ → ℕ → Run R W → List File → Type 0
-ConvertsAllBy layout most limit n run files = IfSome run.column (λ column.
-    (row_records : List CsvRecord) × AreRowRecords layout column row_records × WritesRows layout files most limit (header_text layout column) row_records n run.output)
+-- by these releases, all rows of the column were written, there are n, and their faults, which are few, were noted
+abbrev pub ConvertsAllBy : {R W : Type 0} → Layout → ℕ → Option ℕ → ℕ → Run R W → Releases → Type 0
+ConvertsAllBy layout most limit n run releases = IfSome run.column (λ column.
+    (row_records : List CsvRecord) × AreRowRecords layout column row_records × WritesRows layout releases most limit (header_text layout column) row_records n run.output)
 
 -- all of the line of names was written, if there is to be one, and perhaps more
 abbrev pub HasNames : Layout → Output → Type 0
@@ -136,11 +136,11 @@ pub record EndsAtHeader (layout : Layout) (column : List ℕ) (why : RunStop) (b
   pub wrote : Appends out.held out.held' bytes
   pub noted : Notes out.log out.log' []
 
--- by these files, the conversion of the column ended early, after the line of names: at the header, or later
-abbrev pub EndsBy : {R W : Type 0} → Layout → ℕ → Option ℕ → RunStop → Run R W → List File → Type 0
-EndsBy layout most limit why run files = IfSome run.column (λ column.
+-- by these releases, the conversion of the column ended early, after the line of names: at the header, or later
+abbrev pub EndsBy : {R W : Type 0} → Layout → ℕ → Option ℕ → RunStop → Run R W → Releases → Type 0
+EndsBy layout most limit why run releases = IfSome run.column (λ column.
     EndsAtHeader layout column why (names_line layout) run.output
-    ⊎ ((row_records : List CsvRecord) × AreRowRecords layout column row_records × EndsIn layout files most limit (header_text layout column) row_records why run.output × HasNames layout run.output))
+    ⊎ ((row_records : List CsvRecord) × AreRowRecords layout column row_records × EndsIn layout releases most limit (header_text layout column) row_records why run.output × HasNames layout run.output))
 
 -- The line of names could not be written: nothing was read of the column, and no fault was noted.
 pub record EndsAtNames {R W : Type 0} (layout : Layout) (why : RunStop) (run : Run R W) : Type 0 where
@@ -151,10 +151,10 @@ pub record EndsAtNames {R W : Type 0} (layout : Layout) (why : RunStop) (run : R
   pub starts : StartsWith (names_line layout) part
   pub wrote : Appends run.output.held run.output.held' part
 
--- The zones grew as names were requested, until the end or until memory was refused. By all files that rows may be made by then, `Ends`
+-- The zones grew as names were requested, until the end or until memory was refused. By all releases that rows may be made by then, `Ends`
 -- holds.
-pub record EndsByZones {Z : Type 0} (Grows Breaks : Z → Z → Type 0) (MayBe : Z → List File → Type 0) (old new : Z) (why : RunStop) (Ends : List File → Type 0) : Type 0 where
+pub record EndsByZones {Z : Type 0} (Grows Breaks : Z → Z → Type 0) (MayBe : Z → Releases → Type 0) (old new : Z) (why : RunStop) (Ends : Releases → Type 0) : Type 0 where
   pub then : Z
   pub grown : Grows old then
   pub ends : (new ≡ then) ⊎ ((why ≡ stop.Memory) × Breaks then new)
-  pub by : (files : List File) → MayBe then files → Ends files
+  pub by : (releases : Releases) → MayBe then releases → Ends releases

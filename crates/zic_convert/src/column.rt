@@ -57,17 +57,18 @@ pub fn rows_of_column(
 {
     column_records_are_read();
     let zones = zones_for(alloc, files, column.len())?;
+    let ready = zones.ready();
     let layout = Layout::plain(Header::Absent);
     let piece = Piece {
         bytes: without_mark(column),
-        zones: &zones.ready(),
+        zones: &ready.zones,
         layout: &layout,
         first: 1,
         most: max_rows,
         lines_before: None,
     };
     let text = RowText::with_capacity(alloc, room_for(column.len()))?;
-    let rows = rows_of_piece(alloc, &piece, text)?;
+    let rows = rows_of_piece(alloc, &piece, &ready.old, text)?;
     Ok(ColumnRows {
         text: rows.text.into_bytes(),
         count: rows.count,

@@ -8,9 +8,9 @@ ghost use Rattle.zic_columns.specs.Own.{first_text};
 ghost use Rattle.zic_columns.specs.Round.{ArePiecesOf, PassesRecord, records_of, unread};
 ghost use Rattle.zic_columns.specs.declared.pieces.TheConstants.{MAX_ROUND_PIECES};
 ghost use Rattle.zic_counted.specs.Counts.{HasFailedSince};
-ghost use Rattle.zic_files.specs.File.{File};
 ghost use Rattle.zic_plan.specs.declared.plan.TheConstants.{MAX_ROWS};
 ghost use Rattle.zic_zones.specs.Zones.{zone_in};
+ghost use Rattle.zic_zones.specs.declared.releases.Releases.{Releases};
 ghost use Rattle.zic_convert.specs.Column.{own_header};
 ghost use Rattle.zic_convert.specs.Convert.{IsCauseOf, WritesAll, WritesAt};
 ghost use Rattle.zic_convert.specs.Run.{ConvertsAllBy, EndsAtNames, EndsBy, EndsByZones};
@@ -186,10 +186,10 @@ fn convert_rounds<T: Threads + Wait + Sync, G: Gate + Sync, Z: Zones, R: Read, W
 ) -> Result<u64, Halt>
     requires { column.old.by ≡ conversion.now.layout.now.records }
     ensures grown { IfOk result (λ _. Z.grown zones.old zones.new) }
-    ensures all { (files : List File) → Z.may_be zones.new files → IfOk result (λ n. ConvertsRest
+    ensures all { (releases : Releases) → Z.may_be zones.new releases → IfOk result (λ n. ConvertsRest
         conversion.now.layout.now conversion.now.plan.now.max_rows conversion.now.max_faults
         (unread R.remaining column.old) n (output_of W.contents L.noted writer.old writer.new
-        log.old log.new) files) }
+        log.old log.new) releases) }
     ensures flushed { IfOk result (λ _. writer.new.failures ≡ writer.old.failures) }
     ensures halt { IfErr result (λ halt. EndsByZones Z.grown Z.broken Z.may_be zones.old zones.new
         (stop_of halt) (EndsInRest conversion.now.layout.now conversion.now.plan.now.max_rows
@@ -357,9 +357,10 @@ fn convert_rows<
     log: &mut L,
 ) -> Result<u64, Halt>
     ensures grown { IfOk result (λ _. Z.grown zones.old zones.new) }
-    ensures all { (files : List File) → Z.may_be zones.new files → IfOk result (λ n. ConvertsColumn
+    ensures all { (releases : Releases) → Z.may_be zones.new releases → IfOk result (λ n. ConvertsColumn
         conversion.now.layout.now conversion.now.plan.now.max_rows conversion.now.max_faults
-        (R.remaining reader) n (output_of W.contents L.noted writer.old writer.new log.old log.new) files) }
+        (R.remaining reader) n (output_of W.contents L.noted writer.old writer.new log.old log.new)
+        releases) }
     ensures flushed { IfOk result (λ _. writer.new.failures ≡ writer.old.failures) }
     ensures halt { IfErr result (λ halt. EndsByZones Z.grown Z.broken Z.may_be zones.old zones.new
         (stop_of halt) (EndsInColumn conversion.now.layout.now conversion.now.plan.now.max_rows
@@ -503,10 +504,10 @@ pub fn convert_column<
     log: &mut L,
 ) -> Result<u64, RunStop>
     ensures grown { IfOk result (λ _. Z.grown zones.old zones.new) }
-    ensures ok { (files : List File) → Z.may_be zones.new files → IfOk result (λ n. ConvertsAllBy
+    ensures ok { (releases : Releases) → Z.may_be zones.new releases → IfOk result (λ n. ConvertsAllBy
         conversion.now.layout.now conversion.now.plan.now.max_rows conversion.now.max_faults n
         (run_of R.remaining W.contents L.noted reader.old reader.new writer.old writer.new log.old
-        log.new) files) }
+        log.new) releases) }
     ensures within { IfOk result
         (λ _. reader.new.taken ≤ reader.old.taken + conversion.now.plan.now.max_bytes) }
     ensures unfailed { IfOk result (λ _. HasFailedSince reader.new reader.old.failures → ⊥) }

@@ -5,6 +5,7 @@ ghost use Rattle.zic_columns.specs.Own.{CsvRecord};
 ghost use Rattle.zic_columns.specs.Round.{may_have};
 ghost use Rattle.zic_files.specs.File.{File};
 ghost use Rattle.zic_plan.specs.Noted.{RowNote};
+ghost use Rattle.zic_zones.specs.declared.releases.Releases.{Releases};
 ghost use Rattle.zic_layout_rows.specs.LayoutRows.{ends_by};
 ghost use Rattle.zic_plan.specs.declared.plan.TheConstants.{MAX_BYTES};
 ghost use Rattle.zic_convert.specs.Column.{read_of_lines};
@@ -62,9 +63,9 @@ pub(crate) fn long_kind(most: u64, number: u64) -> RowKind
 /// Has the writer pass on what it holds back, and returns the stop at such a record as the row of a
 /// number, or `WriteFailed`.
 pub(crate) fn end_at_long<W: Write>(writer: &mut Counted<W>, most: u64, number: u64) -> RunStop
-    ensures stop { (layout : Layout) (files : List File) (limit : Option ℕ) (given : CsvRecord)
+    ensures stop { (layout : Layout) (releases : Releases) (limit : Option ℕ) (given : CsvRecord)
         (log : Option (List RowNote)) → may_have (longest_of layout) (length given.own) ≡ false
-        → EndsInRecords layout files most limit number (given ∷ []) W.contents writer.old writer.new
+        → EndsInRecords layout releases most limit number (given ∷ []) W.contents writer.old writer.new
         log log result }
     ensures cause { IsOwnCause writer.old writer.new result }
 {

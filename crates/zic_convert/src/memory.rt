@@ -8,6 +8,7 @@ ghost use Rattle.zic_convert.specs.code.Memory.{AreRowsOfLeft};
 ghost use Rattle.zic_layout_rows.specs.code.Row.{followed_by};
 ghost use Rattle.zic_convert.specs.code.Row.{records_of_all, taken_rows};
 ghost use Rattle.zic_layout_rows.specs.PieceRows.{AreRowsOf};
+ghost use Rattle.zic_zones.specs.Zones.{alone};
 
 use crate::column::zones_for;
 use crate::conversion::begin_rows;
@@ -25,7 +26,7 @@ use zic_files::Files;
 use zic_layout_rows::{Piece, Rows, rows_of_piece};
 use zic_plan::{FaultyRow, Layout, Plan, Unnoted};
 use zic_rows::RowText;
-use zic_zones::{RowZones, Zones};
+use zic_zones::{Releases, Zones};
 
 /// The rows of a column by a layout, up to the first that ends the run: the text of the header and of
 /// the rows, the number of rows, the fault that ends the run, and the rows before it that have a fault.
@@ -43,11 +44,11 @@ const READ: usize = 4_194_304;
 /// The number of records of a piece.
 const PIECE: usize = 65_536;
 
-/// What rows are made by: the zones, the layout, and the greatest number that a row may have.
+/// What rows are made by: the releases, the layout, and the greatest number that a row may have.
 #[derive(Clone, Copy, Drop)]
 struct RowsBy<'a, 's> {
     alloc: Global,
-    zones: &'a RowZones<'s>,
+    releases: &'a Releases<'s>,
     layout: &'a Layout,
     most: u64,
 }
@@ -69,7 +70,7 @@ fn append(rows: &mut Rows, more: Rows) -> Result<(), AllocError>
 fn rows_of_round(by: &RowsBy<'_, '_>, round: &Round<'_>, first: u64) -> Result<Rows, AllocError>
     requires first { first ≤ by.now.most + 1 }
     requires most { by.now.most ≤ MAX_ROWS }
-    ensures { IfOk result (AreRowsOf by.now.layout.now by.now.zones.now by.now.most first
+    ensures { IfOk result (AreRowsOf by.now.layout.now by.now.releases.now by.now.most first
         (records_of_all by.now.layout.now.delimiter round.now)) }
 {
     let mut rows = Rows::new(by.alloc, RowText::new(by.alloc));
@@ -79,14 +80,14 @@ fn rows_of_round(by: &RowsBy<'_, '_>, round: &Round<'_>, first: u64) -> Result<R
         }
         let piece = Piece {
             bytes: round.piece(i),
-            zones: by.zones,
+            zones: &by.releases.zones,
             layout: by.layout,
             first: first + rows.count,
             most: by.most,
             lines_before: round.lines_before(i),
         };
         let text = RowText::with_capacity(by.alloc, room_for(piece.bytes.len()))?;
-        let more = rows_of_piece(by.alloc, &piece, text)?;
+        let more = rows_of_piece(by.alloc, &piece, &by.releases.old, text)?;
         append(&mut rows, more)?;
     }
     Ok(rows)
@@ -103,7 +104,7 @@ fn rows_taken(
     requires short { taken.now ≡ Taken.TooLong → ⊥ }
     requires first { first ≤ by.now.most + 1 }
     requires most { by.now.most ≤ MAX_ROWS }
-    ensures { IfOk result (AreRowsOf by.now.layout.now by.now.zones.now by.now.most first
+    ensures { IfOk result (AreRowsOf by.now.layout.now by.now.releases.now by.now.most first
         (taken_rows by.now.layout.now.delimiter taken.now round.now)) }
 {
     if let Taken::OpenLine(line) = taken {
@@ -120,7 +121,7 @@ fn rows_taken(
 fn rows_of_left<R: Read>(by: &RowsBy<'_, '_>, column: &mut Column<R>) -> Result<Rows, AllocError>
     requires mode { column.old.by ≡ by.now.layout.now.records }
     requires most { by.now.most ≤ MAX_ROWS }
-    ensures { IfOk result (AreRowsOfLeft by.now.layout.now by.now.zones.now by.now.most
+    ensures { IfOk result (AreRowsOfLeft by.now.layout.now by.now.releases.now by.now.most
         (unread R.remaining column.old)) }
 {
     let mut rows = Rows::new(by.alloc, RowText::new(by.alloc));
@@ -146,7 +147,8 @@ fn rows_of_left<R: Read>(by: &RowsBy<'_, '_>, column: &mut Column<R>) -> Result<
 
 /// Converts a column in memory by a layout, on the calling thread, to the header and the rows of
 /// [`crate::convert_column`]. Returns those up to the first that ends the run, and the faults. The
-/// plan says how many rows and bytes the column may have; its workers and pieces change nothing.
+/// plan says how many rows and bytes the column may have; its workers and pieces change nothing. The
+/// files are compared with none: rows that only another release could show moved are none.
 ///
 /// # Errors
 ///
@@ -158,8 +160,8 @@ pub fn rows_by_layout(
     layout: &Layout,
     column: &[u8],
 ) -> Result<LayoutRows, AllocError>
-    ensures rows { IfOk result (λ rows. AreRowsByLayout files.now layout.now plan.now.max_rows column.now
-        rows.text.items rows.count rows.fault rows.faults.items) }
+    ensures rows { IfOk result (λ rows. AreRowsByLayout (alone files.now) layout.now plan.now.max_rows
+        column.now rows.text.items rows.count rows.fault rows.faults.items) }
     ensures within { IfOk result (λ _. length column.now ≤ plan.now.max_bytes) }
 {
     records_by_are_exchanged();
@@ -171,7 +173,7 @@ pub fn rows_by_layout(
     let ready = zones.ready();
     let by = RowsBy {
         alloc,
-        zones: &ready,
+        releases: &ready,
         layout,
         most: plan.max_rows(),
     };

@@ -5,6 +5,8 @@ ghost use Rattle.zic_columns.specs.Exchange.{exchanged};
 ghost use Rattle.zic_columns.specs.Lines.{exchanged_record, open_record};
 ghost use Rattle.zic_files.specs.File.{File};
 ghost use Rattle.zic_plan.specs.declared.plan.TheConstants.{MAX_ROWS};
+ghost use Rattle.zic_zones.specs.declared.releases.Releases.{Releases};
+ghost use Rattle.zic_convert.specs.code.Row.{unless_moved};
 ghost use Rattle.zic_layout_rows.specs.LayoutRows.{fault_by, if_aside, unless_aside};
 ghost use Rattle.zic_layout_rows.specs.PieceRows.{AreRowsOf};
 ghost use Rattle.zic_convert.specs.code.Written.{EndsInRecords, WritesRecords};
@@ -18,7 +20,7 @@ use zic_base::{RowFault, RowKind, RunStop};
 use zic_columns::{TakenLine, may_have};
 use zic_counted::Counted;
 use zic_layout_rows::{Rows, aside, ends_run, push_own};
-use zic_plan::{AtFault, FaultDetail, FaultyRow, Layout, RowLog};
+use zic_plan::{AtFault, FaultDetail, FaultyRow, Layout, RowLog, Written};
 use zic_rows::RowText;
 
 /// Returns the fault of an open line, the row of this number: `TooManyRows` if that is above `most`, else
@@ -37,16 +39,19 @@ fn open_kind(layout: &Layout, most: u64, number: u64, line: &[u8]) -> RowKind
     RowKind::RowQuote
 }
 
-/// Returns what an open line adds to the text of rows: its own bytes, unless it is put aside. The line
-/// has the delimiter and the comma in each other's place.
+/// Returns what an open line adds to the text of rows: its own bytes, unless it is put aside, or only
+/// rows are written that another release answers differently. The line has the delimiter and the comma
+/// in each other's place.
 fn open_text(alloc: Global, layout: &Layout, line: &[u8]) -> Result<Vec<u8>, AllocError>
-    ensures { IfOk result (λ text. text.items ≡ unless_aside layout.now.at_fault
-        (exchanged layout.now.delimiter line.now ++ 10 ∷ [])) }
+    ensures { IfOk result (λ text. text.items ≡ unless_moved layout.now.written
+        (unless_aside layout.now.at_fault (exchanged layout.now.delimiter line.now ++ 10 ∷ []))) }
 {
     let mut text = Vec::new(alloc);
-    match layout.at_fault {
-        AtFault::Reject => {}
-        AtFault::End | AtFault::GoOn => push_own(&mut text, line, b"", layout.delimiter.byte())?,
+    match (layout.at_fault, layout.written) {
+        (AtFault::Reject, _) | (_, Written::Moved) => {}
+        (AtFault::End | AtFault::GoOn, Written::All) => {
+            push_own(&mut text, line, b"", layout.delimiter.byte())?
+        }
     }
     Ok(text)
 }
@@ -90,7 +95,7 @@ pub(crate) fn open_row(
     number: u64,
     line: &TakenLine,
 ) -> Result<Rows, AllocError>
-    ensures { IfOk result (λ rows. (files : List File) → AreRowsOf layout.now files most number
+    ensures { IfOk result (λ rows. (releases : Releases) → AreRowsOf layout.now releases most number
         (exchanged_record layout.now.delimiter (open_record line.now.own.items) ∷ []) rows) }
 {
     let mut rows = Rows::new(alloc, RowText::new(alloc));
@@ -125,13 +130,13 @@ pub(crate) fn write_open_line<T, G, W: Write, L: RowLog>(
     log: &mut L,
 ) -> Result<Tally, RunStop>
     requires { number ≤ MAX_ROWS + 1 }
-    ensures ok { IfOk result (λ tally. (files : List File) → WritesRecords
-        conversion.now.layout.now files conversion.now.plan.now.max_rows left number
+    ensures ok { IfOk result (λ tally. (releases : Releases) → WritesRecords
+        conversion.now.layout.now releases conversion.now.plan.now.max_rows left number
         (exchanged_record conversion.now.layout.now.delimiter (open_record line.now.own.items)
         ∷ [])
         W.contents writer.old writer.new (L.noted log.old) (L.noted log.new) tally) }
-    ensures stop { IfErr result (λ why. (files : List File) → EndsInRecords
-        conversion.now.layout.now files conversion.now.plan.now.max_rows left number
+    ensures stop { IfErr result (λ why. (releases : Releases) → EndsInRecords
+        conversion.now.layout.now releases conversion.now.plan.now.max_rows left number
         (exchanged_record conversion.now.layout.now.delimiter (open_record line.now.own.items)
         ∷ [])
         W.contents writer.old writer.new (L.noted log.old) (L.noted log.new) why) }

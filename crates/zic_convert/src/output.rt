@@ -4,7 +4,9 @@ ghost use Rattle.std.specs.Prelude.{◌≡◌, ◌+◌, ◌^◌, ◌<◌, [], If
 ghost use Rattle.zic_columns.specs.Exchange.{exchanged};
 ghost use Rattle.zic_counted.specs.Written.{FailsWithin};
 ghost use Rattle.zic_plan.specs.declared.layout.RowStart.TheVariants as start;
-ghost use Rattle.zic_convert.specs.Column.{added_names, header_of, names_line, names_of};
+ghost use Rattle.zic_plan.specs.declared.layout.Written.TheVariants as written;
+ghost use Rattle.zic_convert.specs.Column.{added_names, header_of, names_added, names_after};
+ghost use Rattle.zic_convert.specs.Column.{names_line, names_of, old_names};
 ghost use Rattle.zic_convert.specs.code.Pieces.{joined};
 ghost use Rattle.zic_convert.specs.code.Written.{EndsAtHead, EndsInPieces, IsStopAt, Wrote, WroteRows};
 
@@ -15,7 +17,7 @@ use zic_base::{RowKind, RunStop};
 use zic_columns::exchange;
 use zic_counted::{Counted, WriteFailed};
 use zic_layout_rows::{Rows, put_back};
-use zic_plan::{Header, Layout, RowLog, RowStart, Style, TimeFrom};
+use zic_plan::{Header, Layout, RowLog, RowStart, Style, TimeFrom, Written};
 
 /// Returns the names of the fields that a row adds to its record.
 fn added_names(style: Style, from: TimeFrom) -> &'static [u8]
@@ -31,23 +33,47 @@ fn added_names(style: Style, from: TimeFrom) -> &'static [u8]
     }
 }
 
+/// Returns the names of the fields that another release answers.
+fn old_names(style: Style, from: TimeFrom) -> &'static [u8]
+    ensures { result.now ≡ old_names style from }
+{
+    match (style, from) {
+        (Style::Fields, TimeFrom::Count | TimeFrom::Rfc3339) => {
+            b",old_local,old_offset,old_daylight,old_abbreviation"
+        }
+        (Style::Fields, TimeFrom::Local(_)) => {
+            b",old_instant,old_offset,old_daylight,old_abbreviation"
+        }
+        (Style::Iso, TimeFrom::Count | TimeFrom::Rfc3339) => {
+            b",old_local,old_daylight,old_abbreviation"
+        }
+        (Style::Iso, TimeFrom::Local(_)) => b",old_instant,old_time,old_daylight,old_abbreviation",
+    }
+}
+
+/// Returns the names after all others: those of another release's fields, where rows are compared.
+fn names_after(written: Written, style: Style, from: TimeFrom) -> &'static [u8]
+    ensures { result.now ≡ names_after written style from }
+{
+    match written {
+        Written::All => b"",
+        Written::Moved => old_names(style, from),
+    }
+}
+
 /// Adds the names of the fields that a row adds to its record, and a newline, to the own bytes of a
 /// header, in which the delimiter and the comma stand in each other's place. Does nothing where
 /// there is no header.
-fn add_names(
-    line: &mut Vec<u8>,
-    style: Style,
-    from: TimeFrom,
-    delimiter: u8,
-) -> Result<(), AllocError>
-    ensures { OnOk result (line.new.items
-        ≡ header_of start.Record style from delimiter (exchanged delimiter line.old.items)) }
+fn add_names(line: &mut Vec<u8>, layout: &Layout) -> Result<(), AllocError>
+    ensures { OnOk result (line.new.items ≡ header_of start.Record (names_added layout.now)
+        layout.now.delimiter (exchanged layout.now.delimiter line.old.items)) }
 {
     if line.is_empty() {
         return Ok(());
     }
-    line.extend_from_slice(added_names(style, from))?;
-    put_back(line, 0, delimiter);
+    line.extend_from_slice(added_names(layout.style, layout.from))?;
+    line.extend_from_slice(names_after(layout.written, layout.style, layout.from))?;
+    put_back(line, 0, layout.delimiter.byte());
     line.push(b'\n')?;
     Ok(())
 }
@@ -60,8 +86,8 @@ fn add_names(
 ///
 /// Fails where memory is refused.
 fn header_line(layout: &Layout, own: Vec<u8>) -> Result<Vec<u8>, AllocError>
-    ensures { IfOk result (λ line. line.items ≡ header_of layout.now.start layout.now.style
-        layout.now.from layout.now.delimiter (exchanged layout.now.delimiter own.items)) }
+    ensures { IfOk result (λ line. line.items ≡ header_of layout.now.start
+        (names_added layout.now) layout.now.delimiter (exchanged layout.now.delimiter own.items)) }
 {
     let mut line = own;
     match layout.start {
@@ -70,8 +96,7 @@ fn header_line(layout: &Layout, own: Vec<u8>) -> Result<Vec<u8>, AllocError>
             Ok(line)
         }
         RowStart::Record => {
-            let delimiter = layout.delimiter.byte();
-            add_names(&mut line, layout.style, layout.from, delimiter)?;
+            add_names(&mut line, layout)?;
             Ok(line)
         }
     }
@@ -132,13 +157,9 @@ fn write_line<W: Write>(
     write_all(writer, names_of(layout.start, layout.header, line))
 }
 
-/// Writes the line of names before rows that begin with a name and an instant, or a local time, where
-/// the layout has a header. Doesn't flush.
-///
-/// # Errors
-///
-/// `WriteFailed`.
-pub(crate) fn write_names<W: Write>(writer: &mut Counted<W>, layout: &Layout) -> Result<(), RunStop>
+/// Writes the line of names of rows that are compared with none, as [`write_names`] does.
+fn write_row_names<W: Write>(writer: &mut Counted<W>, layout: &Layout) -> Result<(), RunStop>
+    requires { layout.now.written ≡ written.All }
     ensures ok { OnOk result (Wrote W.contents writer.old writer.new (names_line layout.now)) }
     ensures err { IfErr result (λ stop. (stop ≡ RunStop.WriteFailed)
         × FailsWithin W.contents writer.old writer.new (names_line layout.now)) }
@@ -163,6 +184,51 @@ pub(crate) fn write_names<W: Write>(writer: &mut Counted<W>, layout: &Layout) ->
     }
 }
 
+/// Writes the line of names of rows that are compared with those of another release, as [`write_names`]
+/// does.
+fn write_moved_names<W: Write>(writer: &mut Counted<W>, layout: &Layout) -> Result<(), RunStop>
+    requires { layout.now.written ≡ written.Moved }
+    ensures ok { OnOk result (Wrote W.contents writer.old writer.new (names_line layout.now)) }
+    ensures err { IfErr result (λ stop. (stop ≡ RunStop.WriteFailed)
+        × FailsWithin W.contents writer.old writer.new (names_line layout.now)) }
+{
+    match (layout.style, layout.from) {
+        (Style::Fields, TimeFrom::Count | TimeFrom::Rfc3339) => {
+            let mut line = *b"zone,instant,local,offset,daylight,abbreviation,old_local,old_offset,old_daylight,old_abbreviation\n";
+            write_line(writer, layout, &mut line)
+        }
+        (Style::Fields, TimeFrom::Local(_)) => {
+            let mut line = *b"zone,local,instant,offset,daylight,abbreviation,old_instant,old_offset,old_daylight,old_abbreviation\n";
+            write_line(writer, layout, &mut line)
+        }
+        (Style::Iso, TimeFrom::Count | TimeFrom::Rfc3339) => {
+            let mut line = *b"zone,instant,local,daylight,abbreviation,old_local,old_daylight,old_abbreviation\n";
+            write_line(writer, layout, &mut line)
+        }
+        (Style::Iso, TimeFrom::Local(_)) => {
+            let mut line = *b"zone,local,instant,time,daylight,abbreviation,old_instant,old_time,old_daylight,old_abbreviation\n";
+            write_line(writer, layout, &mut line)
+        }
+    }
+}
+
+/// Writes the line of names before rows that begin with a name and an instant, or a local time, where
+/// the layout has a header. Doesn't flush.
+///
+/// # Errors
+///
+/// `WriteFailed`.
+pub(crate) fn write_names<W: Write>(writer: &mut Counted<W>, layout: &Layout) -> Result<(), RunStop>
+    ensures ok { OnOk result (Wrote W.contents writer.old writer.new (names_line layout.now)) }
+    ensures err { IfErr result (λ stop. (stop ≡ RunStop.WriteFailed)
+        × FailsWithin W.contents writer.old writer.new (names_line layout.now)) }
+{
+    match layout.written {
+        Written::All => write_row_names(writer, layout),
+        Written::Moved => write_moved_names(writer, layout),
+    }
+}
+
 /// Writes the column's own header before rows that begin with their records, by the header's own bytes
 /// as [`header_line`] has them, and has the writer pass it on. Writes nothing where there is none.
 ///
@@ -175,10 +241,10 @@ pub(crate) fn write_header<W: Write>(
     own: Vec<u8>,
 ) -> Result<(), RunStop>
     ensures ok { OnOk result (Wrote W.contents writer.old writer.new (header_of layout.now.start
-        layout.now.style layout.now.from layout.now.delimiter
+        (names_added layout.now) layout.now.delimiter
         (exchanged layout.now.delimiter own.items))) }
     ensures err { IfErr result (EndsAtHead W.contents writer.old writer.new (header_of
-        layout.now.start layout.now.style layout.now.from layout.now.delimiter
+        layout.now.start (names_added layout.now) layout.now.delimiter
         (exchanged layout.now.delimiter own.items))) }
 {
     let Ok(line) = header_line(layout, own) else {

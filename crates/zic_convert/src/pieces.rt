@@ -13,7 +13,7 @@ use zic_columns::Round;
 use zic_layout_rows::{Piece, Rows, rows_of_piece};
 use zic_pieces::{PieceStop, Task};
 use zic_plan::{Layout, Plan};
-use zic_zones::RowZones;
+use zic_zones::Releases;
 
 /// The least room for the text of a piece that is taken at once, in bytes.
 const LEAST_ROOM: usize = 256;
@@ -26,7 +26,7 @@ const GREATEST_ROOM: usize = 4_194_304;
 #[derive(Drop)]
 pub(crate) struct RowPieces<'a, 's> {
     layout: &'a Layout,
-    zones: &'a RowZones<'s>,
+    releases: &'a Releases<'s>,
     round: Round<'a>,
     first: u64,
     /// The greatest number that a row may have.
@@ -47,7 +47,7 @@ impl<'a, 's> Model for RowPieces<'a, 's> {
 
     ghost view = { λ p. record {
       layout = p.layout.now;
-      files = p.zones.now;
+      releases = p.releases.now;
       pieces = p.round;
       first = p.first;
       most = p.most;
@@ -57,7 +57,7 @@ impl<'a, 's> Model for RowPieces<'a, 's> {
 
     ghost invariant = { λ p. ArePieces (record {
       layout = p.layout.now;
-      files = p.zones.now;
+      releases = p.releases.now;
       pieces = p.round;
       first = p.first;
       most = p.most;
@@ -71,7 +71,7 @@ impl<'a, 's> RowPieces<'a, 's> {
     /// the run. The first record is the row of this number. Rows are written into spare texts.
     pub(crate) fn new(
         layout: &'a Layout,
-        zones: &'a RowZones<'s>,
+        releases: &'a Releases<'s>,
         round: Round<'a>,
         first: u64,
         plan: &Plan,
@@ -83,7 +83,7 @@ impl<'a, 's> RowPieces<'a, 's> {
         requires cut { ArePiecesOf plan.now.row_piece round }
         ensures pieces { result ≡ record {
           layout = layout.now;
-          files = zones.now;
+          releases = releases.now;
           pieces = round.entry;
           first = first;
           most = plan.now.max_rows;
@@ -94,7 +94,7 @@ impl<'a, 's> RowPieces<'a, 's> {
     {
         RowPieces {
             layout,
-            zones,
+            releases,
             round,
             first,
             most: plan.max_rows(),
@@ -122,7 +122,7 @@ impl<'a, 's> RowPieces<'a, 's> {
     {
         RowPieces {
             layout: self.layout,
-            zones: self.zones,
+            releases: self.releases,
             round: self.round.front(i as usize + 1),
             first: self.first,
             most: self.most,
@@ -143,7 +143,7 @@ impl<'a, 's> RowPieces<'a, 's> {
     {
         RowPieces {
             layout: self.layout,
-            zones: self.zones,
+            releases: self.releases,
             round: self.round.front(self.round.len()),
             first: self.first,
             most: row - 1,
@@ -165,14 +165,14 @@ impl<'a, 's> RowPieces<'a, 's> {
     {
         let piece = Piece {
             bytes: self.round.piece(i as usize),
-            zones: self.zones,
+            zones: &self.releases.zones,
             layout: self.layout,
             first: self.first + i * self.size,
             most: self.most,
             lines_before: self.round.lines_before(i as usize),
         };
         let text = self.spare.take(alloc, room_for(piece.bytes.len()))?;
-        rows_of_piece(alloc, &piece, text)
+        rows_of_piece(alloc, &piece, &self.releases.old, text)
     }
 }
 

@@ -4,6 +4,8 @@ pub mod MoreRows
 pub mod NextRows
 pub mod PieceRows
 pub mod PutBack
+pub mod Written
+pub mod MovedRows
 pub mod RowFaults
 pub mod Stated
 pub mod QuickRows

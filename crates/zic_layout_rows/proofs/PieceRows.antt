@@ -9,7 +9,7 @@ use Rattle.zic_columns.specs.Own.{CsvRecord, csv_records}
 use Rattle.zic_columns.specs.Record.{IsSplit, Splitting, record_at}
 use Rattle.zic_columns.specs.declared.fields.Record.{Record}
 use Rattle.zic_columns.specs.declared.splits.TheConstants.{BATCH}
-use Rattle.zic_files.specs.File.{File}
+use Rattle.zic_zones.specs.declared.releases.Releases.{Releases}
 use Rattle.zic_plan.specs.declared.layout.Layout.{Layout}
 use Rattle.zic_layout_rows.specs.code.Batch.{record_of, records_of, wanted_by}
 use Rattle.zic_layout_rows.specs.code.Piece.{AreSoFar}
@@ -24,20 +24,20 @@ none_by None none = refl
 none_by (Some kind) none = absurd (cc none)
 
 -- records after a row that ends the run change nothing
-rows_more : (layout : Layout) (files : List File) (most first : ℕ) (xs ys : List CsvRecord) (rows : RowsOf) (fault : Option RowKind) → rows.fault ≡ fault → IsSome fault
-    → AreRowsOf layout files most first xs rows → AreRowsOf layout files most first (xs ++ ys) rows
-rows_more layout files most first xs ys rows None e some are = absurd (cc some)
-rows_more layout files most first xs ys rows (Some kind) e some are =
+rows_more : (layout : Layout) (releases : Releases) (most first : ℕ) (xs ys : List CsvRecord) (rows : RowsOf) (fault : Option RowKind) → rows.fault ≡ fault → IsSome fault
+    → AreRowsOf layout releases most first xs rows → AreRowsOf layout releases most first (xs ++ ys) rows
+rows_more layout releases most first xs ys rows None e some are = absurd (cc some)
+rows_more layout releases most first xs ys rows (Some kind) e some are =
     let come = rw e at are.come in
     record {
       texts = are.texts;
-      come = rw e (come_more layout files most first xs ys are.texts kind come);
+      come = rw e (come_more layout releases most first xs ys are.texts kind come);
       text = are.text;
       count = are.count;
-      faults = are.faults ∙ sym (faults_more layout files most first xs ys are.texts kind come);
+      faults = are.faults ∙ sym (faults_more layout releases most first xs ys are.texts kind come);
     }
 
-module _ (piece : Piece) where
+module _ (piece : Piece) (releases : Releases) where
   -- records that are split from those that are left
   parts_split : (records : List Record) (old left : List CsvRecord) → old ≡ map (record_at piece.bytes.now) records ++ left
       → map (exchanged_record piece.layout.now.delimiter) old ≡ map (record_of piece) records ++ map (exchanged_record piece.layout.now.delimiter) left
@@ -50,7 +50,7 @@ module _ (piece : Piece) where
   pub far_at_first : (rows : RowsOf) (batch : Batch) (count : ℕ) (old new : Splitting) → rows ≡ empty_rows → length batch.records ≡ BATCH → old.left ≡ csv_records piece.bytes.now
       → old.piece ≡ piece.bytes.now → old.wanted ≡ wanted_by piece.layout.now → new.piece ≡ old.piece → new.wanted ≡ old.wanted → count ≤ BATCH
       → old.left ≡ map (record_at old.piece) (take count batch.records) ++ new.left → All (IsSplit old.piece old.wanted) (take count batch.records) → (count < BATCH → new.left ≡ [])
-      → AreSoFar piece rows batch count new
+      → AreSoFar piece releases rows batch count new
   far_at_first rows batch count old new none long all is_piece is_wanted same_piece same_wanted few split each end =
       let here = rw is_piece at split in
       record {
@@ -62,11 +62,11 @@ module _ (piece : Piece) where
         end = end;
         done = [];
         parts = ap (map (exchanged_record piece.layout.now.delimiter)) (sym all) ∙ parts_split (take count batch.records) old.left new.left here;
-        rows_are = rw none (no_rows piece.layout.now piece.zones.now piece.most piece.first);
+        rows_are = rw none (no_rows piece.layout.now releases piece.most piece.first);
         counted = λ _. rw none refl;
       }
 
-  module _ (rows : RowsOf) (batch : Batch) (count : ℕ) (splitter : Splitting) (far : AreSoFar piece rows batch count splitter) where
+  module _ (rows : RowsOf) (batch : Batch) (count : ℕ) (splitter : Splitting) (far : AreSoFar piece releases rows batch count splitter) where
     many : length (take count batch.records) ≡ count
     many = length-take-le count batch.records (omega (arith, far.few, far.long))
 
@@ -86,7 +86,7 @@ module _ (piece : Piece) where
         )
 
     -- all records have their rows
-    pub all_made : splitter.left ≡ [] → count ≤ 0 → AreRowsOf piece.layout.now piece.zones.now piece.most piece.first (csv_records_in piece.layout.now.delimiter piece.bytes.now) rows
+    pub all_made : splitter.left ≡ [] → count ≤ 0 → AreRowsOf piece.layout.now releases piece.most piece.first (csv_records_in piece.layout.now.delimiter piece.bytes.now) rows
     all_made none zero =
         let no_more : count ≡ 0 = omega (arith, zero) in
         let is : csv_records_in piece.layout.now.delimiter piece.bytes.now ≡ far.done =
@@ -94,15 +94,15 @@ module _ (piece : Piece) where
         rw is far.rows_are
 
     -- or a row ends the run
-    pub ended : IsSome rows.fault → AreRowsOf piece.layout.now piece.zones.now piece.most piece.first (csv_records_in piece.layout.now.delimiter piece.bytes.now) rows
-    ended some = rw far.parts (rows_more piece.layout.now piece.zones.now piece.most piece.first far.done _ rows rows.fault refl some far.rows_are)
+    pub ended : IsSome rows.fault → AreRowsOf piece.layout.now releases piece.most piece.first (csv_records_in piece.layout.now.delimiter piece.bytes.now) rows
+    ended some = rw far.parts (rows_more piece.layout.now releases piece.most piece.first far.done _ rows rows.fault refl some far.rows_are)
 
     -- the next batch
     pub far_after : (next : RowsOf) (then : Batch) (n : ℕ) (new : Splitting) → length then.records ≡ BATCH → rows.fault ≡ None
-        → AreRowsOf piece.layout.now piece.zones.now piece.most piece.first (far.done ++ records_of piece batch count) next → (next.fault ≡ None → next.count ≡ rows.count + count)
+        → AreRowsOf piece.layout.now releases piece.most piece.first (far.done ++ records_of piece batch count) next → (next.fault ≡ None → next.count ≡ rows.count + count)
         → new.piece ≡ splitter.piece → new.wanted ≡ splitter.wanted → n ≤ BATCH
         → splitter.left ≡ map (record_at splitter.piece) (take n then.records) ++ new.left → All (IsSplit splitter.piece splitter.wanted) (take n then.records) → (n < BATCH → new.left ≡ [])
-        → AreSoFar piece next then n new
+        → AreSoFar piece releases next then n new
     far_after next then n new long none are counted same_piece same_wanted few split each end =
         let put = exchanged_record piece.layout.now.delimiter in
         let here = rw far.piece_is at split in

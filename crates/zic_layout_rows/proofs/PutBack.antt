@@ -35,7 +35,7 @@ use Rattle.zic_plan.specs.declared.layout.ZoneFrom.TheVariants as zone
 use Rattle.zic_rows.specs.Count.{count_of, second_of}
 use Rattle.zic_base.specs.Number.{decimal_value, number}
 use Rattle.zic_zones.specs.Zones.{AnswersAt, field_at, is_named, number_of, zone_in}
-use Rattle.zic_layout_rows.specs.LayoutRows.{IsTextBy, beginning, checks_of, count_in, fault_by, file_named, rest_by, start_text, time_by}
+use Rattle.zic_layout_rows.specs.LayoutRows.{IsAnswerBy, IsTextBy, beginning, checks_of, count_in, fault_by, file_named, rest_by, start_text, time_by}
 use Rattle.zic_layout_rows.specs.Rows.{is_closed}
 use Rattle.zic_layout_rows.specs.code.Batch.{IsRowQuery, count_at, wanted_by}
 use Rattle.zic_layout_rows.specs.code.Row.{field_start}
@@ -243,6 +243,30 @@ text_made piece given query state delimiter sound is answers =
       state = state;
       answers = rw got at answers;
       is = ap (λ (n : List ℕ). start_text layout (exchanged d row_record.own) n query.counts.input ++ exchanged d (rest_by layout.style layout.from layout.unit query.counts.count state)) (sym called);
+    }
+
+-- what files answer the record, as it was made
+pub answer_made : (piece : Piece) (given : Record) (query : RowQuery) (state : Shown) → is_delimiter piece.layout.now.delimiter ≡ true → AreSoundFiles piece.zones.now
+    → IsRowQuery piece given query → AnswersAt piece.zones.now query.file (second_of piece.layout.now.unit query.counts.count) state
+    → let layout = piece.layout.now in
+    IsAnswerBy layout piece.zones.now (exchanged_record layout.delimiter (record_at piece.bytes.now given))
+    (exchanged layout.delimiter (rest_by layout.style layout.from layout.unit query.counts.count state))
+answer_made piece given query state delimiter sound is answers =
+    let row_record = record_at piece.bytes.now given in
+    let layout = piece.layout.now in
+    let d = layout.delimiter in
+    let (file, got, called, known) = found piece.zones.now (zone_in layout.zone row_record.fields) query.file is.file in
+    record {
+      file = file;
+      among = among piece.zones.now query.file file got;
+      named = zone_named d (outside d delimiter) piece.zones.now sound layout.zone row_record.fields file (among piece.zones.now query.file file got) called;
+      input = query.counts.input;
+      says = is.counts.input_is;
+      count = query.counts.count;
+      means = rw (is.file, got, is.counts.input_is) at is.counts.time;
+      state = state;
+      answers = rw got at answers;
+      is = refl;
     }
 
 -- the count of a field that has decimals is that of the record, where counts are read

@@ -1,7 +1,7 @@
 -- The rows of a column's records, by a layout: own choice. A record has an instant or a local time, and perhaps a zone's name. Its row has the
 -- text of what the file of that name answers at the instant, or a fault. A row with a fault ends the run, has no more than its record, or is
 -- empty, and its record is put aside.
-use Rattle.std.specs.Prelude.{◌≡◌, ℕ, ◌+◌, nat_le, ℤ, pos, ◌+ℤ◌, ◌*ℤ◌, List, [], ◌∷◌, ◌++◌, length, replicate, Option, Some, None, Result, Ok, Err, option_map, is_some, IsSome, Contains, slice_get, if◌then◌else◌}
+use Rattle.std.specs.Prelude.{◌≡◌, ℕ, ◌+◌, nat_le, ℤ, pos, ◌+ℤ◌, ◌*ℤ◌, List, [], ◌∷◌, ◌++◌, length, replicate, take, Option, Some, None, Result, Ok, Err, option_map, is_some, IsSome, Contains, slice_get, if◌then◌else◌}
 use Rattle.std.specs.Fmt.{signed_decimal}
 use Rattle.csv.specs.Writing.{default_writer, row_text, with_delimiter}
 use Rattle.zic_base.specs.Check.{Check, first_failed}
@@ -29,11 +29,14 @@ use Rattle.zic_plan.specs.declared.layout.Style.TheVariants as styles
 use Rattle.zic_plan.specs.declared.layout.TimeFrom.{TimeFrom}
 use Rattle.zic_plan.specs.declared.layout.TimeFrom.TheVariants as from
 use Rattle.zic_plan.specs.declared.layout.Unit.{Unit}
+use Rattle.zic_plan.specs.declared.layout.Written.{Written}
+use Rattle.zic_plan.specs.declared.layout.Written.TheVariants as written
 use Rattle.zic_plan.specs.Noted.{RowNote}
 use Rattle.zic_base.specs.declared.row_fault.RowKind.{RowKind}
 use Rattle.zic_base.specs.declared.row_fault.RowKind.TheVariants as kind
 use Rattle.zic_zones.specs.Resolved.{resolved}
 use Rattle.zic_zones.specs.Zones.{field_at, is_named, number_of, zone_in}
+use Rattle.zic_zones.specs.declared.releases.Releases.{Releases}
 use Rattle.zic_layout_rows.specs.Rows.{is_closed, is_row_instant, row_checks}
 
 -- the count that a field has: of an instant, in decimals or as a date and a time of day with a UT offset, or of a local time
@@ -155,13 +158,17 @@ answered styles.Iso from.Count = 3
 answered styles.Iso from.Rfc3339 = 3
 answered styles.Iso (from.Local choice) = 4
 
+-- these fields without text, and the end of a row
+abbrev pub empty_fields : Layout → List ℕ
+empty_fields layout = replicate (answered layout.style layout.from) layout.delimiter ++ 10 ∷ []
+
 -- The text of a row without what a file answers, whose fields are empty. Where rows begin with names, it is what a CSV writer with the
 -- layout's delimiter writes of the zone's name, the field of the instant or of the local time as it was read, and these. Where they begin with
 -- their records, it is the record's own bytes and these.
 abbrev pub timeless_text : RowStart → Layout → CsvRecord → List ℕ
 timeless_text start.Fields layout row_record =
     row_text (with_delimiter default_writer layout.delimiter) (zone_in layout.zone row_record.fields ∷ field_at row_record.fields layout.time ∷ replicate (answered layout.style layout.from) [])
-timeless_text start.Record layout row_record = row_record.own ++ (replicate (answered layout.style layout.from) layout.delimiter ++ 10 ∷ [])
+timeless_text start.Record layout row_record = row_record.own ++ empty_fields layout
 
 -- The text of a row with a fault that is written: one without local time, or, of a record with too many bytes, an open line, or a record
 -- with another number of fields than the layout's, the record's own bytes alone.
@@ -213,13 +220,66 @@ IsRowAt layout files (Some kind) row_record text = text ≡ faulty_text layout k
 abbrev pub IsRowBy : Layout → List File → ℕ → ℕ → CsvRecord → List ℕ → Type 0
 IsRowBy layout files most number row_record text = IsRowAt layout files (fault_by layout files most number row_record) row_record text
 
+-- What files answer a record: the end of its row, in which stands the state that the file of the zone's name answers at the whole second of the
+-- instant's count.
+pub record IsAnswerBy (layout : Layout) (files : List File) (row_record : CsvRecord) (answer : List ℕ) : Type 0 where
+  pub file : File
+  pub among : Contains files file
+  pub named : file.name ≡ zone_in layout.zone row_record.fields
+  pub input : ℤ
+  pub says : count_in layout row_record.fields ≡ Some input
+  pub count : ℤ
+  pub means : instant_by layout.from layout.unit file input ≡ Ok count
+  pub state : Shown
+  pub answers : Answers file.image.content (second_of layout.unit count) (Some state)
+  pub is : answer ≡ exchanged layout.delimiter (rest_by layout.style layout.from layout.unit count state)
+
+-- what files answer a record that has this fault as a row, or none
+abbrev pub IsAnswerAt : Layout → List File → Option RowKind → CsvRecord → List ℕ → Type 0
+IsAnswerAt layout files None row_record answer = IsAnswerBy layout files row_record answer
+IsAnswerAt layout files (Some kind) row_record answer = answer ≡ empty_fields layout
+
+-- what files answer a record, as the row of a number
+abbrev pub IsAnswer : Layout → List File → ℕ → ℕ → CsvRecord → List ℕ → Type 0
+IsAnswer layout files most number row_record answer = IsAnswerAt layout files (fault_by layout files most number row_record) row_record answer
+
+-- a row, and after its last field those of another answer; a record that is put aside has no row
+abbrev pub with_fields : List ℕ → List ℕ → List ℕ
+with_fields [] answer = []
+with_fields (byte ∷ row) answer = take (length row) (byte ∷ row) ++ answer
+
+-- The row of a record that is written only if other files answer the record differently. It is the row by the first files, and at its end
+-- stands what the others answer.
+pub record IsMovedRow (layout : Layout) (files old : List File) (most number : ℕ) (row_record : CsvRecord) (text : List ℕ) : Type 0 where
+  pub row : List ℕ
+  pub by : IsRowBy layout files most number row_record row
+  pub answer : List ℕ
+  pub answers : IsAnswer layout files most number row_record answer
+  pub other : List ℕ
+  pub others : IsAnswer layout old most number row_record other
+  pub same : answer ≡ other → text ≡ []
+  pub moved : (answer ≡ other → ⊥) → text ≡ with_fields row other
+
+-- the files of another release, if there is one
+abbrev pub old_files : Option (List File) → List File
+old_files None = []
+old_files (Some files) = files
+
+-- what is written of a record, as the row of a number: its row, or its row only if the other release answers differently
+abbrev pub IsWrittenAt : Written → Layout → Releases → ℕ → ℕ → CsvRecord → List ℕ → Type 0
+IsWrittenAt written.All layout releases most number row_record text = IsRowBy layout releases.zones most number row_record text
+IsWrittenAt written.Moved layout releases most number row_record text = IsMovedRow layout releases.zones (old_files releases.old) most number row_record text
+
+abbrev pub IsWrittenBy : Layout → Releases → ℕ → ℕ → CsvRecord → List ℕ → Type 0
+IsWrittenBy layout releases most number row_record text = IsWrittenAt layout.written layout releases most number row_record text
+
 -- The outcome of records, the first of which is the row of this number: the texts of the rows up to the first that ends the run, and its
--- fault, or none.
-abbrev pub RecordsConvertBy : Layout → List File → ℕ → ℕ → List CsvRecord → List (List ℕ) → Option RowKind → Type 0
-RecordsConvertBy layout files most number [] texts fault = (texts ≡ []) × (fault ≡ None)
-RecordsConvertBy layout files most number (row_record ∷ row_records) [] fault = (fault ≡ ends_by layout files most number row_record) × IsSome fault
-RecordsConvertBy layout files most number (row_record ∷ row_records) (text ∷ texts) fault =
-    (ends_by layout files most number row_record ≡ None) × IsRowBy layout files most number row_record text × RecordsConvertBy layout files most (number + 1) row_records texts fault
+-- fault, or none. The faults are those of rows by the first release.
+abbrev pub RecordsConvertBy : Layout → Releases → ℕ → ℕ → List CsvRecord → List (List ℕ) → Option RowKind → Type 0
+RecordsConvertBy layout releases most number [] texts fault = (texts ≡ []) × (fault ≡ None)
+RecordsConvertBy layout releases most number (row_record ∷ row_records) [] fault = (fault ≡ ends_by layout releases.zones most number row_record) × IsSome fault
+RecordsConvertBy layout releases most number (row_record ∷ row_records) (text ∷ texts) fault =
+    (ends_by layout releases.zones most number row_record ≡ None) × IsWrittenBy layout releases most number row_record text × RecordsConvertBy layout releases most (number + 1) row_records texts fault
 
 -- what is noted of the record with these own bytes as the row of a number: its fault, if it has one, and the bytes, where it is put aside
 abbrev pub noted : AtFault → ℕ → List ℕ → Option RowKind → List RowNote

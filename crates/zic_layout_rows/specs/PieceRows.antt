@@ -3,10 +3,10 @@ use Rattle.std.specs.Prelude.{◌≡◌, ℕ, List, [], length, map, Option, Non
 use Rattle.std.specs.List.{concat}
 use Rattle.zic_columns.specs.Lines.{exchanged_record}
 use Rattle.zic_columns.specs.Own.{CsvRecord, csv_records}
-use Rattle.zic_files.specs.File.{File}
 use Rattle.zic_plan.specs.declared.layout.Layout.{Layout}
 use Rattle.zic_plan.specs.Noted.{RowNote}
 use Rattle.zic_base.specs.declared.row_fault.RowKind.{RowKind}
+use Rattle.zic_zones.specs.declared.releases.Releases.{Releases}
 use Rattle.zic_layout_rows.specs.LayoutRows.{RecordsConvertBy, faults_by}
 
 -- the records of bytes in which the comma and the delimiter stand in each other's place, with the two put back
@@ -25,9 +25,9 @@ abbrev pub empty_rows : RowsOf
 empty_rows = record { text = []; count = 0; fault = None; faults = [] }
 
 -- the outcome of these records, by a layout, the first of which is the row of this number
-pub record AreRowsOf (layout : Layout) (files : List File) (most first : ℕ) (row_records : List CsvRecord) (rows : RowsOf) : Type 0 where
+pub record AreRowsOf (layout : Layout) (releases : Releases) (most first : ℕ) (row_records : List CsvRecord) (rows : RowsOf) : Type 0 where
   pub texts : List (List ℕ)
-  pub come : RecordsConvertBy layout files most first row_records texts rows.fault
+  pub come : RecordsConvertBy layout releases most first row_records texts rows.fault
   pub text : rows.text ≡ concat texts
   pub count : rows.count ≡ length texts
-  pub faults : rows.faults ≡ faults_by layout files most first row_records
+  pub faults : rows.faults ≡ faults_by layout releases.zones most first row_records

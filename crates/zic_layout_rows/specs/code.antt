@@ -2,3 +2,4 @@
 pub mod Batch
 pub mod Piece
 pub mod Row
+pub mod Moved

@@ -108,6 +108,21 @@ fn file_of(
     }
 }
 
+/// Returns the number of the file of a record's zone, if there is one.
+pub(crate) fn zone_of(
+    alloc: Global,
+    piece: &Piece<'_, '_>,
+    given: &Record,
+) -> Result<Option<usize>, AllocError>
+    requires { IsSplit piece.now.bytes.now (wanted_by piece.now.layout.now) given.now }
+    ensures { IfOk result (λ file. file ≡ zone_at piece.now given.now) }
+{
+    match &piece.layout.zone {
+        ZoneFrom::Field(_) => find_field(alloc, piece.zones, piece.bytes, given.zone),
+        ZoneFrom::Name(name) => Ok(piece.zones.find(name.as_bytes())),
+    }
+}
+
 /// Returns the number of the file that a field of a piece names, if there is one.
 #[inline(always)]
 fn find_field(

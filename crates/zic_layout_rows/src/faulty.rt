@@ -96,7 +96,7 @@ fn csv_row(alloc: Global, delimiter: u8, fields: &[&[u8]]) -> Result<Vec<u8>, Al
 }
 
 /// Returns how many fields of a row come from the zone's file.
-fn answered(style: Style, from: TimeFrom) -> usize
+pub(crate) fn answered(style: Style, from: TimeFrom) -> usize
     ensures { result ≡ answered style from }
 {
     match (style, from) {

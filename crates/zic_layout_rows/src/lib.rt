@@ -1,10 +1,12 @@
 //! The rows of the records of a piece of a column, by its layout and by zones.
 #![tactic(auto)]
 
+mod answer;
 mod batch;
 mod faulty;
 mod local;
 mod lookup;
+mod moved;
 mod note;
 mod only;
 mod piece;

@@ -9,8 +9,9 @@ ghost use Rattle.zic_columns.specs.Record.{IsSplit, IsWithinPiece, bytes_at, fie
 ghost use Rattle.zic_columns.specs.Round.{may_have};
 ghost use Rattle.zic_rows.specs.Count.{count_of, second_of};
 ghost use Rattle.zic_rows.specs.Instant.{IsRowInstant};
-ghost use Rattle.zic_zones.specs.Zones.{AnswersAt, zone_in};
+ghost use Rattle.zic_zones.specs.Zones.{AnswersAt, alone, zone_in};
 ghost use Rattle.zic_plan.specs.declared.layout.TimeFrom.TheVariants as from;
+ghost use Rattle.zic_plan.specs.declared.layout.Written.TheVariants as written;
 ghost use Rattle.zic_layout_rows.specs.LayoutRows.{IsTextBy, input_text, rest_by};
 ghost use Rattle.zic_layout_rows.specs.Rows.{is_row_instant};
 ghost use Rattle.zic_layout_rows.specs.code.Batch.{AreColumns, AreStates, IsFoundAt, IsLookup, IsKnown, IsPen, IsQuickRow, IsRowQuery, IsSoundQuery, fault_at, records_of, wanted_by, zone_at};
@@ -57,8 +58,8 @@ impl Model for Rows {
 /// A writer of rows out of the common, and the file and the number of the state that it shows.
 #[derive(Drop)]
 pub(crate) struct RowPen {
-    alloc: Global,
-    writer: RowWriter,
+    pub(crate) alloc: Global,
+    pub(crate) writer: RowWriter,
     /// The text of one row, or of a part.
     row: Vec<u8>,
     /// None before the first row.
@@ -90,7 +91,7 @@ impl RowPen {
 
     /// Shows the state of a file with this number, which the file shows at some second.
     #[inline(always)]
-    fn show(&mut self, piece: &Piece<'_, '_>, file: usize, state: FoundState<'_>)
+    pub(crate) fn show(&mut self, piece: &Piece<'_, '_>, file: usize, state: FoundState<'_>)
         requires within { file < length piece.now.zones.now }
         requires shown { (second : ℤ) × IsFoundAt piece.now.zones.now file second state }
         requires pen { IsPen piece.now.zones.now self.old }
@@ -139,7 +140,7 @@ fn is_in_range(count: i128, unit: Unit) -> bool
 /// field, another number of fields, a name that no file has, no instant, or an instant that no row may
 /// have.
 #[inline(always)]
-fn query(
+pub(crate) fn query(
     piece: &Piece<'_, '_>,
     number: u64,
     given: &Record,
@@ -247,7 +248,7 @@ fn push_start(
 /// Appends what follows in a row, with commas: the local time of an instant, or the instant of a local
 /// time, and the state, in the layout's style.
 #[inline(always)]
-fn push_rest(
+pub(crate) fn push_rest(
     text: &mut Vec<u8>,
     layout: &Layout,
     count: i128,
@@ -379,7 +380,7 @@ impl Rows {
     /// by check, whatever the record has. The record has the delimiter and the comma in each other's
     /// place.
     #[inline(never)]
-    fn add_checked(
+    pub(crate) fn add_checked(
         &mut self,
         piece: &Piece<'_, '_>,
         given: &Record,
@@ -459,6 +460,7 @@ impl Rows {
         count: usize,
         pen: &mut RowPen,
     ) -> Result<(), AllocError>
+        requires written { piece.now.layout.now.written ≡ written.All }
         requires columns { AreColumns piece.now batch.now count }
         requires long { count ≤ length shown.now.numbers }
         requires states { AreStates piece.now batch.now count shown.now }
@@ -466,10 +468,10 @@ impl Rows {
         requires fits { piece.now.first + self.old.count + count < 2 ^ 64 }
         requires pen { IsPen piece.now.zones.now pen.old }
         ensures pen { IsPen piece.now.zones.now pen.new }
-        ensures rows { (before : List CsvRecord) → AreRowsOf piece.now.layout.now piece.now.zones.now
-            piece.now.most piece.now.first before self.old → OnOk result (AreRowsOf
-            piece.now.layout.now piece.now.zones.now piece.now.most piece.now.first
-            (before ++ records_of piece.now batch.now count) self.new) }
+        ensures rows { (before : List CsvRecord) → AreRowsOf piece.now.layout.now
+            (alone piece.now.zones.now) piece.now.most piece.now.first before self.old → OnOk result
+            (AreRowsOf piece.now.layout.now (alone piece.now.zones.now) piece.now.most
+            piece.now.first (before ++ records_of piece.now batch.now count) self.new) }
         ensures count { OnOk result
             (self.new.fault ≡ None → self.new.count ≡ self.old.count + count) }
     {

@@ -23,8 +23,8 @@ use Rattle.zic_plan.specs.Noted.{RowNote}
 use Rattle.zic_base.specs.declared.row_fault.RowKind.TheVariants as kinds
 use Rattle.zic_base.specs.declared.run_stop.RunStop.{RunStop}
 use Rattle.zic_base.specs.declared.run_stop.RunStop.TheVariants as stop
-use Rattle.zic_files.specs.File.{File}
-use Rattle.zic_convert.specs.Column.{AreRowRecords, header_of, own_header, own_line}
+use Rattle.zic_zones.specs.declared.releases.Releases.{Releases}
+use Rattle.zic_convert.specs.Column.{AreRowRecords, header_of, names_added, own_header, own_line}
 use Rattle.zic_layout_rows.specs.LayoutRows.{RecordsConvertBy, faults_by}
 use Rattle.zic_convert.specs.Run.{EndsAtHeader, EndsIn, Notes, Output, WritesRows}
 use Rattle.zic_convert.specs.code.Row.{records_in}
@@ -46,40 +46,40 @@ ComeNext layout left row_records = IfSome left (λ bytes. (more : List CsvRecord
 
 -- Of these records this number was converted and written, none of which ends the run, and the bytes that are left have the others. So many
 -- more rows with a fault may come, where there is a limit.
-pub record IsSoFar (layout : Layout) (files : List File) (most : ℕ) (limit : Option ℕ) (all : List CsvRecord) (left : Option (List ℕ)) (count : ℕ) (more : Option ℕ) (out : Output) : Type 0 where
+pub record IsSoFar (layout : Layout) (releases : Releases) (most : ℕ) (limit : Option ℕ) (all : List CsvRecord) (left : Option (List ℕ)) (count : ℕ) (more : Option ℕ) (out : Output) : Type 0 where
   pub row_records : List CsvRecord
   pub texts : List (List ℕ)
   pub rest : List ℕ
   pub bytes : left ≡ Some rest
   pub goes_on : all ≡ row_records ++ records_in layout rest
-  pub come : RecordsConvertBy layout files most 1 row_records texts None
+  pub come : RecordsConvertBy layout releases most 1 row_records texts None
   pub counted : count ≡ length texts
   pub wrote : Appends out.held out.held' (concat texts)
-  pub noted : Notes out.log out.log' (faults_by layout files most 1 row_records)
-  pub few : IsLeft limit (faults_by layout files most 1 row_records) more
+  pub noted : Notes out.log out.log' (faults_by layout releases.zones most 1 row_records)
+  pub few : IsLeft limit (faults_by layout releases.zones most 1 row_records) more
 
--- by these files, all rows of the bytes that were left, where they are known, were written, there are n, and their faults were noted
-abbrev pub ConvertsRest : Layout → ℕ → Option ℕ → Option (List ℕ) → ℕ → Output → List File → Type 0
-ConvertsRest layout most limit known n out files = IfSome known (λ bytes. WritesRows layout files most limit [] (records_in layout bytes) n out)
+-- by these releases, all rows of the bytes that were left, where they are known, were written, there are n, and their faults were noted
+abbrev pub ConvertsRest : Layout → ℕ → Option ℕ → Option (List ℕ) → ℕ → Output → Releases → Type 0
+ConvertsRest layout most limit known n out releases = IfSome known (λ bytes. WritesRows layout releases most limit [] (records_in layout bytes) n out)
 
 -- the conversion of those bytes ended early
-abbrev pub EndsInRest : Layout → ℕ → Option ℕ → Option (List ℕ) → RunStop → Output → List File → Type 0
-EndsInRest layout most limit known why out files = IfSome known (λ bytes. EndsIn layout files most limit [] (records_in layout bytes) why out)
+abbrev pub EndsInRest : Layout → ℕ → Option ℕ → Option (List ℕ) → RunStop → Output → Releases → Type 0
+EndsInRest layout most limit known why out releases = IfSome known (λ bytes. EndsIn layout releases most limit [] (records_in layout bytes) why out)
 
--- by these files, all rows of a column were written below its own header
-abbrev pub ConvertsColumn : Layout → ℕ → Option ℕ → Option (List ℕ) → ℕ → Output → List File → Type 0
-ConvertsColumn layout most limit known n out files = IfSome known (λ column.
-    (row_records : List CsvRecord) × AreRowRecords layout column row_records × WritesRows layout files most limit (own_line layout column) row_records n out)
+-- by these releases, all rows of a column were written below its own header
+abbrev pub ConvertsColumn : Layout → ℕ → Option ℕ → Option (List ℕ) → ℕ → Output → Releases → Type 0
+ConvertsColumn layout most limit known n out releases = IfSome known (λ column.
+    (row_records : List CsvRecord) × AreRowRecords layout column row_records × WritesRows layout releases most limit (own_line layout column) row_records n out)
 
 -- the conversion of that column ended early: at its header, or later
-abbrev pub EndsInColumn : Layout → ℕ → Option ℕ → Option (List ℕ) → RunStop → Output → List File → Type 0
-EndsInColumn layout most limit known why out files = IfSome known (λ column.
+abbrev pub EndsInColumn : Layout → ℕ → Option ℕ → Option (List ℕ) → RunStop → Output → Releases → Type 0
+EndsInColumn layout most limit known why out releases = IfSome known (λ column.
     EndsAtHeader layout column why [] out
-    ⊎ ((row_records : List CsvRecord) × AreRowRecords layout column row_records × EndsIn layout files most limit (own_line layout column) row_records why out))
+    ⊎ ((row_records : List CsvRecord) × AreRowRecords layout column row_records × EndsIn layout releases most limit (own_line layout column) row_records why out))
 
 -- the column's own header with names added, but for the delimiter of the column
 abbrev pub own_line_in : Layout → List ℕ → List ℕ
-own_line_in layout column = header_of layout.start layout.style layout.from layout.delimiter (exchanged layout.delimiter (own_header layout.header (texts_by layout.records (strip_bom column))))
+own_line_in layout column = header_of layout.start (names_added layout) layout.delimiter (exchanged layout.delimiter (own_header layout.header (texts_by layout.records (strip_bom column))))
 
 -- The bytes that are left of a column have its records after those that are a header.
 abbrev pub BeginsRows : Layout → List ℕ → Option (List ℕ) → Type 0

@@ -6,6 +6,8 @@ use Rattle.zic_columns.specs.Own.{CsvRecord}
 use Rattle.zic_columns.specs.declared.columns.Taken.{Taken}
 use Rattle.zic_columns.specs.declared.columns.Taken.TheVariants as taken
 use Rattle.zic_plan.specs.declared.layout.Layout.{Layout}
+use Rattle.zic_plan.specs.declared.layout.Written.{Written}
+use Rattle.zic_plan.specs.declared.layout.Written.TheVariants as written
 use Rattle.zic_layout_rows.specs.PieceRows.{csv_records_in}
 
 -- the records that are left of a column, by where they end, with the two put back
@@ -27,3 +29,8 @@ taken_rows delimiter taken.End pieces = []
 -- the fields of each record
 abbrev pub fields_of_all : List CsvRecord → List (List (List ℕ))
 fields_of_all row_records = map (λ (w : CsvRecord). w.fields) row_records
+
+-- the text of a row that each release answers alike: nothing where only others are written
+abbrev pub unless_moved : Written → List ℕ → List ℕ
+unless_moved written.All text = text
+unless_moved written.Moved text = []

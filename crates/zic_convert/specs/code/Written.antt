@@ -6,7 +6,7 @@ use Rattle.std.specs.Io.KnownBytes.{Appends}
 use Rattle.zic_columns.specs.Own.{CsvRecord}
 use Rattle.zic_counted.specs.Counts.{Counts, HasFailedSince}
 use Rattle.zic_counted.specs.Written.{FailsWithin}
-use Rattle.zic_files.specs.File.{File}
+use Rattle.zic_zones.specs.declared.releases.Releases.{Releases}
 use Rattle.zic_plan.specs.Plan.{Limits}
 use Rattle.zic_plan.specs.declared.layout.Layout.{Layout}
 use Rattle.zic_plan.specs.Noted.{RowNote}
@@ -67,28 +67,28 @@ IsLeft limit faults left = limit ≡ option_map (λ n. length faults + n) left
 
 -- The rows of these records, the first of which is the row of a number, were all written. This is how many they are, and how many more rows
 -- with a fault may come.
-abbrev pub WritesRecords : {W : Type 0} → Layout → List File → ℕ → Option ℕ → ℕ → List CsvRecord → (W → Option (List ℕ)) → Counts W → Counts W → Option (List RowNote) → Option (List RowNote) → Tally → Type 0
-WritesRecords layout files most limit first row_records contents old new log log' tally =
-    (rows : RowsOf) × AreRowsOf layout files most first row_records rows × WroteRows contents old new log log' rows tally.rows × IsLeft limit rows.faults tally.left
+abbrev pub WritesRecords : {W : Type 0} → Layout → Releases → ℕ → Option ℕ → ℕ → List CsvRecord → (W → Option (List ℕ)) → Counts W → Counts W → Option (List RowNote) → Option (List RowNote) → Tally → Type 0
+WritesRecords layout releases most limit first row_records contents old new log log' tally =
+    (rows : RowsOf) × AreRowsOf layout releases most first row_records rows × WroteRows contents old new log log' rows tally.rows × IsLeft limit rows.faults tally.left
 
 -- those of a round
 abbrev pub WritesRound : {W : Type 0} → Pieces → Option ℕ → (W → Option (List ℕ)) → Counts W → Counts W → Option (List RowNote) → Option (List RowNote) → Tally → Type 0
-WritesRound p limit contents old new log log' tally = WritesRecords p.layout p.files p.most limit p.first (records_of_all p.layout.delimiter p.pieces) contents old new log log' tally
+WritesRound p limit contents old new log log' tally = WritesRecords p.layout p.releases p.most limit p.first (records_of_all p.layout.delimiter p.pieces) contents old new log log' tally
 
 -- Of the rows of these records, those of the first records were written, and their faults, which are few, noted. Then the writer failed,
 -- before the row of a record up to which faults are few too.
 pub record FailsInRows {W : Type 0} (contents : W → Option (List ℕ)) (old new : Counts W) (log log' : Option (List RowNote))
-    (layout : Layout) (files : List File) (most : ℕ) (limit : Option ℕ) (first : ℕ) (row_records : List CsvRecord) : Type 0 where
+    (layout : Layout) (releases : Releases) (most : ℕ) (limit : Option ℕ) (first : ℕ) (row_records : List CsvRecord) : Type 0 where
   pub done : List CsvRecord
   pub more : List CsvRecord
   pub parts : row_records ≡ done ++ more
   pub front : RowsOf
-  pub are : AreRowsOf layout files most first done front
+  pub are : AreRowsOf layout releases most first done front
   pub reached : List CsvRecord
   pub beyond : List CsvRecord
   pub within : row_records ≡ reached ++ beyond
   pub upto : RowsOf
-  pub are_upto : AreRowsOf layout files most first reached upto
+  pub are_upto : AreRowsOf layout releases most first reached upto
   pub fails : FailsAfter contents old new front.text upto.text
   pub noted : Notes log log' front.faults
   pub few : AreFew limit front.faults
@@ -96,10 +96,10 @@ pub record FailsInRows {W : Type 0} (contents : W → Option (List ℕ)) (old ne
 
 -- the rows of these records before one with one fault too many were written, and the faults before it noted
 pub record StopsAtFault {W : Type 0} (contents : W → Option (List ℕ)) (old new : Counts W) (log log' : Option (List RowNote))
-    (layout : Layout) (files : List File) (most : ℕ) (limit : Option ℕ) (first : ℕ) (row_records : List CsvRecord) (rows : RowsOf) (row : ℕ) (kind : RowKind) : Type 0 where
+    (layout : Layout) (releases : Releases) (most : ℕ) (limit : Option ℕ) (first : ℕ) (row_records : List CsvRecord) (rows : RowsOf) (row : ℕ) (kind : RowKind) : Type 0 where
   pub front : List (List ℕ)
   pub rest : List (List ℕ)
-  pub come : RecordsConvertBy layout files most first row_records (front ++ rest) rows.fault
+  pub come : RecordsConvertBy layout releases most first row_records (front ++ rest) rows.fault
   pub before : List RowNote
   pub too_many : IsOneTooMany limit rows.faults row kind before
   pub number : row ≡ first + length front
@@ -108,30 +108,30 @@ pub record StopsAtFault {W : Type 0} (contents : W → Option (List ℕ)) (old n
 
 -- the rows of records were written up to one that ends the run, or up to where the writer failed
 abbrev pub EndsInRows : {W : Type 0} → (W → Option (List ℕ)) → Counts W → Counts W → Option (List RowNote) → Option (List RowNote)
-    → Layout → List File → ℕ → Option ℕ → ℕ → List CsvRecord → RowsOf → RunStop → Type 0
-EndsInRows contents old new log log' layout files most limit first row_records rows (stop.Row row kind) =
+    → Layout → Releases → ℕ → Option ℕ → ℕ → List CsvRecord → RowsOf → RunStop → Type 0
+EndsInRows contents old new log log' layout releases most limit first row_records rows (stop.Row row kind) =
     (StopsAtRow contents old new log log' first rows row kind × AreFew limit rows.faults)
-    ⊎ StopsAtFault contents old new log log' layout files most limit first row_records rows row kind
-EndsInRows contents old new log log' layout files most limit first row_records rows stop.WriteFailed = FailsInRows contents old new log log' layout files most limit first row_records
-EndsInRows contents old new log log' layout files most limit first row_records rows _ = ⊥
+    ⊎ StopsAtFault contents old new log log' layout releases most limit first row_records rows row kind
+EndsInRows contents old new log log' layout releases most limit first row_records rows stop.WriteFailed = FailsInRows contents old new log log' layout releases most limit first row_records
+EndsInRows contents old new log log' layout releases most limit first row_records rows _ = ⊥
 
 -- the rows of these records before one that ends the run were written, or the writer failed, or memory ran out
-abbrev pub EndsInRecords : {W : Type 0} → Layout → List File → ℕ → Option ℕ → ℕ → List CsvRecord → (W → Option (List ℕ)) → Counts W → Counts W → Option (List RowNote) → Option (List RowNote) → RunStop → Type 0
-EndsInRecords layout files most limit first row_records contents old new log log' why =
+abbrev pub EndsInRecords : {W : Type 0} → Layout → Releases → ℕ → Option ℕ → ℕ → List CsvRecord → (W → Option (List ℕ)) → Counts W → Counts W → Option (List RowNote) → Option (List RowNote) → RunStop → Type 0
+EndsInRecords layout releases most limit first row_records contents old new log log' why =
     ((why ≡ stop.Memory) × (new ≡ old) × (log' ≡ log))
-    ⊎ ((rows : RowsOf) × AreRowsOf layout files most first row_records rows × EndsInRows contents old new log log' layout files most limit first row_records rows why)
+    ⊎ ((rows : RowsOf) × AreRowsOf layout releases most first row_records rows × EndsInRows contents old new log log' layout releases most limit first row_records rows why)
 
 -- those of a round
 abbrev pub EndsInRound : {W : Type 0} → Pieces → Option ℕ → (W → Option (List ℕ)) → Counts W → Counts W → Option (List RowNote) → Option (List RowNote) → RunStop → Type 0
-EndsInRound p limit contents old new log log' why = EndsInRecords p.layout p.files p.most limit p.first (records_of_all p.layout.delimiter p.pieces) contents old new log log' why
+EndsInRound p limit contents old new log log' why = EndsInRecords p.layout p.releases p.most limit p.first (records_of_all p.layout.delimiter p.pieces) contents old new log log' why
 
 -- among the rows of a round is this one with one fault too many
 abbrev pub HasOneTooMany : Pieces → Option ℕ → RowFault → Type 0
 HasOneTooMany p limit fault =
-    (rows : RowsOf) × AreRowsOf p.layout p.files p.most p.first (records_of_all p.layout.delimiter p.pieces) rows
+    (rows : RowsOf) × AreRowsOf p.layout p.releases p.most p.first (records_of_all p.layout.delimiter p.pieces) rows
     × (before : List RowNote) × IsOneTooMany limit rows.faults fault.row fault.kind before
 
--- the pieces of a round by a layout, files and a plan; the first record is the row of this number
-abbrev pub pieces_by : Layout → List File → Limits → List (List ℕ) → ℕ → Pieces
-pieces_by layout files plan pieces first =
-    record { layout = layout; files = files; pieces = pieces; first = first; most = plan.max_rows; size = plan.row_piece; stops = true }
+-- the pieces of a round by a layout, releases and a plan; the first record is the row of this number
+abbrev pub pieces_by : Layout → Releases → Limits → List (List ℕ) → ℕ → Pieces
+pieces_by layout releases plan pieces first =
+    record { layout = layout; releases = releases; pieces = pieces; first = first; most = plan.max_rows; size = plan.row_piece; stops = true }

@@ -4,6 +4,7 @@ use Rattle.std.specs.Prelude.{◌≡◌, ◌<◌, ◌≤◌, ℕ, List, [], ◌+
 use Rattle.zic_columns.specs.Own.{CsvRecord}
 use Rattle.zic_columns.specs.Record.{IsSplit, Splitting}
 use Rattle.zic_columns.specs.declared.splits.TheConstants.{BATCH}
+use Rattle.zic_zones.specs.declared.releases.Releases.{Releases}
 use Rattle.zic_layout_rows.specs.code.Batch.{records_of, wanted_by}
 use Rattle.zic_layout_rows.specs.PieceRows.{AreRowsOf, RowsOf, csv_records_in}
 use Rattle.zic_layout_rows.specs.declared.batch.Batch.{Batch}
@@ -11,7 +12,7 @@ use Rattle.zic_layout_rows.specs.declared.piece.Piece.{Piece}
 
 -- the rows of the first records of a piece, or of fewer, where one ends the run, whose others are the first of a batch and those that are
 -- left to split
-pub record AreSoFar (piece : Piece) (rows : RowsOf) (batch : Batch) (count : ℕ) (splitter : Splitting) : Type 0 where
+pub record AreSoFar (piece : Piece) (releases : Releases) (rows : RowsOf) (batch : Batch) (count : ℕ) (splitter : Splitting) : Type 0 where
   pub few : count ≤ BATCH
   pub long : length batch.records ≡ BATCH
   pub piece_is : splitter.piece ≡ piece.bytes.now
@@ -20,5 +21,5 @@ pub record AreSoFar (piece : Piece) (rows : RowsOf) (batch : Batch) (count : ℕ
   pub end : count < BATCH → splitter.left ≡ []
   pub done : List CsvRecord
   pub parts : csv_records_in piece.layout.now.delimiter piece.bytes.now ≡ done ++ (records_of piece batch count ++ map (exchanged_record piece.layout.now.delimiter) splitter.left)
-  pub rows_are : AreRowsOf piece.layout.now piece.zones.now piece.most piece.first done rows
+  pub rows_are : AreRowsOf piece.layout.now releases piece.most piece.first done rows
   pub counted : rows.fault ≡ None → rows.count ≡ length done

@@ -6,7 +6,8 @@ use Rattle.zic_plan.specs.declared.layout.Layout.{Layout}
 use Rattle.zic_plan.specs.declared.layout.RowStart.{RowStart}
 use Rattle.zic_plan.specs.declared.layout.RowStart.TheVariants as start
 use Rattle.zic_base.specs.declared.row_fault.RowKind.{RowKind}
-use Rattle.zic_layout_rows.specs.LayoutRows.{IsRowBy, ends_by, fault_by, noted}
+use Rattle.zic_zones.specs.declared.releases.Releases.{Releases}
+use Rattle.zic_layout_rows.specs.LayoutRows.{IsRowBy, IsWrittenBy, ends_by, fault_by, noted}
 use Rattle.zic_layout_rows.specs.PieceRows.{RowsOf}
 
 -- what a row begins with, before the delimiter is put back, by the text of the field
@@ -19,6 +20,15 @@ abbrev pub AreNext : Layout → List File → ℕ → ℕ → CsvRecord → Rows
 AreNext layout files most number row_record old new = MatchOption (ends_by layout files most number row_record)
     ((row : List ℕ) × IsRowBy layout files most number row_record row × (new ≡ record { text = old.text ++ row; count = old.count + 1; fault = old.fault; faults = old.faults ++ noted layout.at_fault number row_record.own (fault_by layout files most number row_record) }))
     (λ kind. new ≡ record old { fault = Some kind })
+
+-- The same of a record whose row is written as the layout says, by the end of the run there, or none.
+abbrev pub IsNextBy : Layout → Releases → ℕ → ℕ → CsvRecord → RowsOf → RowsOf → Option RowKind → Type 0
+IsNextBy layout releases most number row_record old new end = MatchOption end
+    ((row : List ℕ) × IsWrittenBy layout releases most number row_record row × (new ≡ record { text = old.text ++ row; count = old.count + 1; fault = old.fault; faults = old.faults ++ noted layout.at_fault number row_record.own (fault_by layout releases.zones most number row_record) }))
+    (λ kind. new ≡ record old { fault = Some kind })
+
+abbrev pub AreNextBy : Layout → Releases → ℕ → ℕ → CsvRecord → RowsOf → RowsOf → Type 0
+AreNextBy layout releases most number row_record old new = IsNextBy layout releases most number row_record old new (ends_by layout releases.zones most number row_record)
 
 -- some rows, and the rows after them, where none of the first ends the run
 abbrev pub followed_by : RowsOf → RowsOf → Option RowKind → RowsOf

@@ -25,11 +25,11 @@ returns-clause-grown g c = ok_end _ _ _ _ c.convert_rows-outcome.result c.ended.
 
 pub returns-clause-ok : goal.returns-clause-ok
 returns-clause-ok g c =
-    λ files may. on_ok c.ended.result _ _
-    (λ n w. column_after_names c.args.conversion.now.layout.now c.args.conversion.now.plan.now.max_rows c.args.conversion.now.max_faults (g.R.Read.remaining c.args.reader.now.inner) files (g.W.Write.contents c.args.writer.now.inner)
+    λ releases may. on_ok c.ended.result _ _
+    (λ n w. column_after_names c.args.conversion.now.layout.now c.args.conversion.now.plan.now.max_rows c.args.conversion.now.max_faults (g.R.Read.remaining c.args.reader.now.inner) releases (g.W.Write.contents c.args.writer.now.inner)
     (g.W.Write.contents c.write_names.new.writer.inner) (g.W.Write.contents c.convert_rows-outcome.new.writer.inner) (g.L.RowLog.noted c.args.log.now) (g.L.RowLog.noted c.convert_rows-outcome.new.log)
     c.in_ok-write_names.ensures.ok.0 n w)
-    (ok_end _ _ _ _ c.convert_rows-outcome.result c.ended.result _ c.ended.ensures (c.convert_rows-outcome.ensures.all files may))
+    (ok_end _ _ _ _ c.convert_rows-outcome.result c.ended.result _ c.ended.ensures (c.convert_rows-outcome.ensures.all releases may))
 
 pub returns-clause-within : goal.returns-clause-within
 returns-clause-within g c = rw (c.taken-taken.ensures, c.max_bytes.ensures.bytes) at c.ended.ensures.within
@@ -56,7 +56,7 @@ returns-clause-err g c =
     let then = c.convert_rows-outcome.new.zones in
     on_err c.ended.result (λ why. EndsByZones g.Z.Zones.grown g.Z.Zones.broken g.Z.Zones.may_be zones then why (EndsInColumn layout most limit known why (output mid now log last))) _
     (λ why ends. inr (ends_map g.Z.Zones.grown g.Z.Zones.broken g.Z.Zones.may_be zones then why why _ _ (λ e. e)
-    (λ files w. column_ends_after_names layout most limit known files held mid now log last c.in_ok-write_names.ensures.ok.0 why w) ends))
+    (λ releases w. column_ends_after_names layout most limit known releases held mid now log last c.in_ok-write_names.ensures.ok.0 why w) ends))
     (zones_end _ _ _ _ g.Z.Zones.grown g.Z.Zones.broken g.Z.Zones.may_be zones then layout most limit known (output mid now log last) c.convert_rows-outcome.result c.ended.result c.ended.ensures
     c.convert_rows-outcome.ensures.grown c.convert_rows-outcome.ensures.all c.convert_rows-outcome.ensures.halt)
 

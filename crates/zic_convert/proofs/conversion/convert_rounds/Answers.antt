@@ -6,7 +6,7 @@ use Rattle.zic_convert.proofs.Halts.{as_many, no_more}
 use Rattle.zic_convert.proofs.Joining.{taken_some}
 use Rattle.zic_convert.proofs.Progress.{rows_taken}
 use Rattle.zic_convert.proofs.Rounds.{far_at_start, far_on, flush_fails, long_ends, no_round, round_ends, rounds_done}
-use Rattle.zic_convert.proofs.Staying.{taken_known}
+use Rattle.zic_convert.proofs.Staying.{takens_known}
 use Rattle.zic_convert.proofs.conversion.convert_rounds.Goals as goal
 
 pub rounds-init : goal.rounds-init
@@ -15,9 +15,9 @@ rounds-init g c = record {
   within = search rules;
   failures = refl;
   grown = g.met.Z.Zones.same c.args.zones.now;
-  far = λ files may.
+  far = λ releases may.
       far_at_start c.args.conversion.now.layout.now c.args.conversion.now.plan.now.max_rows c.args.conversion.now.max_faults (unread g.R.Read.remaining c.args.column.now) (g.W.Write.contents c.args.writer.now.inner)
-      (g.L.RowLog.noted c.args.log.now) files;
+      (g.L.RowLog.noted c.args.log.now) releases;
 }
 
 pub returns-in_err-taken-clause-halt : goal.returns-in_err-taken-clause-halt
@@ -61,7 +61,7 @@ returns-in_err-tally-clause-halt g c =
     let p = err_from_is_err_and c.from_residual-in_err-tally.result c.from_residual-in_err-tally.ensures.1 in
     rw (p.1, p.2) (round_ends g.Z.Zones.known g.Z.Zones.settled g.Z.Zones.may_be g.Z.Zones.grown g.Z.Zones.broken g.met.Z.Zones.same g.met.Z.Zones.then g.met.Z.Zones.narrows g.met.Z.Zones.agrees contents
     c.files_answer_once.ensures layout plan limit known left l.count l.left held l.writer log now c.args.zones.now l.zones l.invariant.grown l.invariant.far
-    then grows rs next rows_next (λ files may. taken_known layout.delimiter c.byte.ensures.sound (g.Z.Zones.settled then) (g.Z.Zones.known then) files (g.met.Z.Zones.agrees then files may) layout.zone taken pieces c.in_ok-taken.ensures.settled) c.convert_ready.new.writer (g.L.RowLog.noted c.convert_ready.new.log) c.in_err-tally.field-0.0 ends)
+    then grows rs next rows_next (λ releases may. takens_known layout.delimiter c.byte.ensures.sound (g.Z.Zones.settled then) (g.Z.Zones.known then) releases (g.met.Z.Zones.agrees then releases may) layout.zone taken pieces c.in_ok-taken.ensures.settled) c.convert_ready.new.writer (g.L.RowLog.noted c.convert_ready.new.log) c.in_err-tally.field-0.0 ends)
 
 pub overflow_add-count-in-rounds : goal.overflow_add-count-in-rounds
 overflow_add-count-in-rounds g c =
@@ -143,7 +143,7 @@ rounds-preserved g c =
       grown = g.met.Z.Zones.then c.args.zones.now l.zones then l.invariant.grown grows;
       far = far_on g.Z.Zones.known g.Z.Zones.settled g.Z.Zones.may_be g.Z.Zones.grown g.Z.Zones.broken g.met.Z.Zones.same g.met.Z.Zones.then g.met.Z.Zones.narrows g.met.Z.Zones.agrees contents
           c.files_answer_once.ensures layout plan limit known left l.count l.left held l.writer log now c.args.zones.now l.zones l.invariant.grown l.invariant.far
-          then grows rs next rows_next (λ files may. taken_known layout.delimiter c.byte.ensures.sound (g.Z.Zones.settled then) (g.Z.Zones.known then) files (g.met.Z.Zones.agrees then files may) layout.zone taken pieces c.in_ok-taken.ensures.settled) c.convert_ready.new.writer (g.L.RowLog.noted c.convert_ready.new.log) c.in_ok-tally.tally ok;
+          then grows rs next rows_next (λ releases may. takens_known layout.delimiter c.byte.ensures.sound (g.Z.Zones.settled then) (g.Z.Zones.known then) releases (g.met.Z.Zones.agrees then releases may) layout.zone taken pieces c.in_ok-taken.ensures.settled) c.convert_ready.new.writer (g.L.RowLog.noted c.convert_ready.new.log) c.in_ok-tally.tally ok;
     }
 
 pub rounds-preserved-in_ok-tally : goal.rounds-preserved-in_ok-tally
@@ -176,7 +176,7 @@ rounds-preserved-in_ok-tally g c =
       grown = g.met.Z.Zones.then c.args.zones.now l.zones then l.invariant.grown grows;
       far = far_on g.Z.Zones.known g.Z.Zones.settled g.Z.Zones.may_be g.Z.Zones.grown g.Z.Zones.broken g.met.Z.Zones.same g.met.Z.Zones.then g.met.Z.Zones.narrows g.met.Z.Zones.agrees contents
           c.files_answer_once.ensures layout plan limit known left l.count l.left held l.writer log now c.args.zones.now l.zones l.invariant.grown l.invariant.far
-          then grows rs next rows_next (λ files may. taken_known layout.delimiter c.byte.ensures.sound (g.Z.Zones.settled then) (g.Z.Zones.known then) files (g.met.Z.Zones.agrees then files may) layout.zone taken pieces c.in_ok-taken.ensures.settled) c.convert_ready.new.writer (g.L.RowLog.noted c.convert_ready.new.log) c.in_ok-tally.tally ok;
+          then grows rs next rows_next (λ releases may. takens_known layout.delimiter c.byte.ensures.sound (g.Z.Zones.settled then) (g.Z.Zones.known then) releases (g.met.Z.Zones.agrees then releases may) layout.zone taken pieces c.in_ok-taken.ensures.settled) c.convert_ready.new.writer (g.L.RowLog.noted c.convert_ready.new.log) c.in_ok-tally.tally ok;
     }
 
 pub returns-in_err-flush-clause-halt : goal.returns-in_err-flush-clause-halt
@@ -258,4 +258,4 @@ returns-in-TooLong-clause-halt g c =
     long_ends g.Z.Zones.known g.Z.Zones.settled g.Z.Zones.may_be g.Z.Zones.grown g.Z.Zones.broken g.met.Z.Zones.same g.met.Z.Zones.then g.met.Z.Zones.narrows g.met.Z.Zones.agrees contents
     c.files_answer_once.ensures layout plan limit known left l.count l.left held l.writer log now c.args.zones.now l.zones l.invariant.grown l.invariant.far
     then grows rs next rows_next nothing long c.end_at_long.new.writer c.end_at_long.result
-    (λ files given over. rw c.max_rows-most.ensures.rows at (c.end_at_long.ensures.stop layout files l.left given now over))
+    (λ releases given over. rw c.max_rows-most.ensures.rows at (c.end_at_long.ensures.stop layout releases l.left given now over))

@@ -1,6 +1,6 @@
 use Rattle.std.proofs.Common.{◌≡◌, ◌≤◌, ◌+◌, ◌-◌, List}
 use Rattle.zic_columns.specs.Round.{unread}
-use Rattle.zic_files.specs.File.{File}
+use Rattle.zic_zones.specs.declared.releases.Releases.{Releases}
 use Rattle.zic_convert.proofs.Rounds.{IsFarBy}
 use Rattle.zic_convert.proofs.conversion.convert_rounds.Given as goal
 
@@ -10,9 +10,9 @@ invariant-rounds g l = record {
   within : l.count ≤ l.fn.conversion.plan.now.max_rows;
   failures : l.writer.failures ≡ l.fn.writer.failures;
   grown : g.Z.Zones.grown l.fn.zones l.zones;
-  far : (files : List File) → g.Z.Zones.may_be l.zones files
+  far : (releases : Releases) → g.Z.Zones.may_be l.zones releases
       → IsFarBy l.fn.conversion.layout.now l.fn.conversion.plan.now.max_rows l.fn.conversion.max_faults (unread g.R.Read.remaining l.fn.column) (unread g.R.Read.remaining l.column) l.count l.left (g.W.Write.contents l.fn.writer.inner)
-      (g.W.Write.contents l.writer.inner) (g.L.RowLog.noted l.fn.log) (g.L.RowLog.noted l.log) files;
+      (g.W.Write.contents l.writer.inner) (g.L.RowLog.noted l.fn.log) (g.L.RowLog.noted l.log) releases;
 }
 
 abbrev pub decreases-rounds : goal.decreases-rounds

@@ -24,9 +24,9 @@ returns-in_err-column-clause-halt g c =
       then = c.args.zones.now;
       grown = g.met.Z.Zones.same c.args.zones.now;
       ends = inl refl;
-      by = λ files may.
+      by = λ releases may.
           ends_at_head layout c.args.conversion.now.plan.now.max_rows c.args.conversion.now.max_faults c.records_by_are_exchanged.ensures c.texts_by_are_exchanged.ensures c.byte.ensures.sound known inside is g.W.Write.contents
-          c.files_answer_once.ensures c.args.writer.now c.begin_rows.new.writer (g.L.RowLog.noted c.args.log.now) files (g.met.Z.Zones.agrees c.args.zones.now files may).sound c.in_err-column.field-0.0
+          c.files_answer_once.ensures c.args.writer.now c.begin_rows.new.writer (g.L.RowLog.noted c.args.log.now) releases (g.met.Z.Zones.agrees c.args.zones.now releases may).sound c.in_err-column.field-0.0
           c.in_err-column.ensures.halt;
     })
 
@@ -47,11 +47,11 @@ returns-clause-all g c =
     let is : inside ≡ option_map (exchanged layout.delimiter) (option_map (read_by layout) known) =
     rw (c.new-exchanged.ensures.delimiter, c.byte.ensures.byte, c.new-exchanged.ensures.inner, c.new-short.ensures, c.read_of_lines.ensures) refl in
     let left = unread (λ r. option_map (exchanged r.delimiter) (truncated_known r.inner.most r.inner.room (g.R.Read.remaining r.inner.inner))) c.in_ok-column.column in
-    λ files may. on_ok c.convert_rounds.result _ _
-    (λ n w. converts_column layout most c.args.conversion.now.max_faults c.records_by_are_exchanged.ensures c.texts_by_are_exchanged.ensures c.byte.ensures.sound known inside is files left (g.W.Write.contents c.args.writer.now.inner)
+    λ releases may. on_ok c.convert_rounds.result _ _
+    (λ n w. converts_column layout most c.args.conversion.now.max_faults c.records_by_are_exchanged.ensures c.texts_by_are_exchanged.ensures c.byte.ensures.sound known inside is releases left (g.W.Write.contents c.args.writer.now.inner)
     (g.W.Write.contents c.begin_rows.new.writer.inner) (g.W.Write.contents c.convert_rounds.new.writer.inner) (g.L.RowLog.noted c.args.log.now) (g.L.RowLog.noted c.convert_rounds.new.log)
     c.in_ok-column.ensures.begins c.in_ok-column.ensures.head n w)
-    (rw c.begin_rows.ensures.noted at (c.convert_rounds.ensures.all files may))
+    (rw c.begin_rows.ensures.noted at (c.convert_rounds.ensures.all releases may))
 
 pub returns-clause-halt : goal.returns-clause-halt
 returns-clause-halt g c =
@@ -65,7 +65,7 @@ returns-clause-halt g c =
     let left = unread (λ r. option_map (exchanged r.delimiter) (truncated_known r.inner.most r.inner.room (g.R.Read.remaining r.inner.inner))) c.in_ok-column.column in
     on_err c.convert_rounds.result _ _
     (λ why ends. ends_map g.Z.Zones.grown g.Z.Zones.broken g.Z.Zones.may_be c.args.zones.now c.convert_rounds.new.zones (stop_of why) (stop_of why) _ _ (λ e. e)
-    (λ files w. ends_column layout most c.args.conversion.now.max_faults c.records_by_are_exchanged.ensures c.texts_by_are_exchanged.ensures c.byte.ensures.sound known inside is files left (g.W.Write.contents c.args.writer.now.inner)
+    (λ releases w. ends_column layout most c.args.conversion.now.max_faults c.records_by_are_exchanged.ensures c.texts_by_are_exchanged.ensures c.byte.ensures.sound known inside is releases left (g.W.Write.contents c.args.writer.now.inner)
     (g.W.Write.contents c.begin_rows.new.writer.inner) (g.W.Write.contents c.convert_rounds.new.writer.inner) (g.L.RowLog.noted c.args.log.now) (g.L.RowLog.noted c.convert_rounds.new.log)
     c.in_ok-column.ensures.begins c.in_ok-column.ensures.head (stop_of why) w) ends)
     (rw c.begin_rows.ensures.noted at c.convert_rounds.ensures.halt)

@@ -5,6 +5,7 @@ use Rattle.zic_columns.specs.Round.{unread}
 use Rattle.zic_columns.specs.Truncated.{truncated_known}
 use Rattle.zic_convert.specs.Column.{AreRowsByLayout, read_by}
 use Rattle.zic_layout_rows.specs.PieceRows.{RowsOf}
+use Rattle.zic_zones.specs.Zones.{alone}
 use Rattle.zic_convert.proofs.Adding.{ok_if, rows_by}
 use Rattle.zic_convert.proofs.memory.rows_by_layout.Goals as goal
 
@@ -22,6 +23,6 @@ returns-clause-rows c =
     let none : c.new-writer.result.inner.items ≡ [] = rw c.new-writer.ensures c.new.ensures.items in
     let text = c.in_ok-extend_from_slice.ensures.items
     ∙ ap₂ (λ (a b : List ℕ). a ++ b) (rw c.into_inner-text.ensures refl) (c.bytes.ensures ∙ ap (λ (r : RowsOf). r.text) c.rows.view_is) in
-    subst (λ (r : RowsOf). AreRowsByLayout c.args.files.now layout c.args.plan.now.max_rows column c.extend_from_slice.new.self.items r.count r.fault r.faults) (sym c.rows.view_is)
-    (rows_by layout c.args.files.now c.args.plan.now.max_rows c.records_by_are_exchanged.ensures c.texts_by_are_exchanged.ensures c.byte.ensures.sound column inside left is c.in-Ok.ensures.begins
+    subst (λ (r : RowsOf). AreRowsByLayout (alone c.args.files.now) layout c.args.plan.now.max_rows column c.extend_from_slice.new.self.items r.count r.fault r.faults) (sym c.rows.view_is)
+    (rows_by layout (alone c.args.files.now) c.args.plan.now.max_rows c.records_by_are_exchanged.ensures c.texts_by_are_exchanged.ensures c.byte.ensures.sound column inside left is c.in-Ok.ensures.begins
     c.new-writer.result.inner.items c.write_names.new.writer.inner.items c.begin_rows.new.writer.inner.items c.extend_from_slice.new.self.items none named c.in-Ok.ensures.head c.in_ok-rows.rows are text)

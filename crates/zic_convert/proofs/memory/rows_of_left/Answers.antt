@@ -15,13 +15,13 @@ loop-init g c =
     rw c.new-rows.ensures (record {
       by = c.requires.mode;
       within = λ none. omega arith;
-      far = left_at_start by.layout.now by.zones.now by.most (unread g.R.Read.remaining c.args.column.now);
+      far = left_at_start by.layout.now by.releases.now by.most (unread g.R.Read.remaining c.args.column.now);
     })
 
 pub returns-then-is_some : goal.returns-then-is_some
 returns-then-is_some g c =
     let by = c.args.by.now in
-    left_ended by.layout.now by.zones.now by.most (unread g.R.Read.remaining c.args.column.now) (unread g.R.Read.remaining c.loop.column) c.loop.rows
+    left_ended by.layout.now by.releases.now by.most (unread g.R.Read.remaining c.args.column.now) (unread g.R.Read.remaining c.loop.column) c.loop.rows
     (ap (λ (r : RowsOf). is_some r.fault) (sym c.rows.view_is) ∙ sym c.if-is_some.ensures) c.loop.invariant.far
 
 pub append-requires : goal.append-requires
@@ -31,7 +31,7 @@ append-requires g c =
     let none : c.loop.rows.fault ≡ None = ap (λ (r : RowsOf). r.fault) (sym c.rows.view_is) ∙ none_if c.rows.inside.fault (sym c.if-is_some.ensures) in
     let within = c.loop.invariant.within none in
     let first : c.rows.inside.count + 1 ≤ by.most + 1 = omega (arith, same, within) in
-    let more = rows_within by.layout.now by.zones.now by.most (c.rows.inside.count + 1) _ c.in_ok-more.more c.in_ok-more.ensures first in
+    let more = rows_within by.layout.now by.releases.now by.most (c.rows.inside.count + 1) _ c.in_ok-more.more c.in_ok-more.ensures first in
     omega (arith, same, more, c.requires.most)
 
 pub loop-preserved : goal.loop-preserved
@@ -48,13 +48,13 @@ loop-preserved g c =
     let same : c.rows.inside.count ≡ l.rows.count = ap (λ (r : RowsOf). r.count) c.rows.view_is in
     let none : l.rows.fault ≡ None = ap (λ (r : RowsOf). r.fault) (sym c.rows.view_is) ∙ none_if c.rows.inside.fault (sym c.if-is_some.ensures) in
     let within = l.invariant.within none in
-    let are = subst (λ n. AreRowsOf layout by.zones.now by.most (n + 1) rs c.in_ok-more.more) same (rw c.round.ensures at c.in_ok-more.ensures) in
-    let many = rows_within layout by.zones.now by.most (l.rows.count + 1) rs c.in_ok-more.more are (omega (arith, within)) in
+    let are = subst (λ n. AreRowsOf layout by.releases.now by.most (n + 1) rs c.in_ok-more.more) same (rw c.round.ensures at c.in_ok-more.ensures) in
+    let many = rows_within layout by.releases.now by.most (l.rows.count + 1) rs c.in_ok-more.more are (omega (arith, within)) in
     let takes = rows_taken layout l.column.by l.invariant.by left next taken pieces c.in-Ok.ensures.takes in
     rw c.in_ok-append.ensures (record {
       by = c.in-Ok.ensures.by ∙ l.invariant.by;
       within = λ goes. omega (arith, many);
-      far = left_on layout by.zones.now by.most known left next rs l.rows c.in_ok-more.more none l.invariant.far takes are;
+      far = left_on layout by.releases.now by.most known left next rs l.rows c.in_ok-more.more none l.invariant.far takes are;
     })
 
 pub returns-in-TooLong : goal.returns-in-TooLong
@@ -72,6 +72,6 @@ returns-in-TooLong g c =
     let none : l.rows.fault ≡ None = ap (λ (r : RowsOf). r.fault) (sym c.rows.view_is) ∙ none_if c.rows.inside.fault (sym c.if-is_some.ensures) in
     let nothing = rw c.in-TooLong.is at (rows_taken layout l.column.by l.invariant.by left next taken pieces c.in-Ok.ensures.takes) in
     let long = rw (l.invariant.by, c.longest_of.ensures) at (c.in-Ok.ensures.long c.in-TooLong.is) in
-    subst (λ (r : RowsOf). AreRowsOfLeft layout by.zones.now by.most known r) (sym (ap (λ (r : RowsOf). record r { fault = Some kind }) c.rows.view_is))
-    (left_long layout by.zones.now by.most known left next l.rows kind none l.invariant.far nothing long
-    (λ given over. subst (λ (n : ℕ). ends_by layout by.zones.now by.most (n + 1) given ≡ Some kind) same (c.long_kind.ensures layout by.zones.now given over)))
+    subst (λ (r : RowsOf). AreRowsOfLeft layout by.releases.now by.most known r) (sym (ap (λ (r : RowsOf). record r { fault = Some kind }) c.rows.view_is))
+    (left_long layout by.releases.now by.most known left next l.rows kind none l.invariant.far nothing long
+    (λ given over. subst (λ (n : ℕ). ends_by layout by.releases.now.zones by.most (n + 1) given ≡ Some kind) same (c.long_kind.ensures layout by.releases.now.zones given over)))

@@ -8,5 +8,5 @@ abbrev pub invariant-loop : goal.invariant-loop
 invariant-loop g l = record {
   by : l.column.by ≡ l.fn.by.layout.now.records;
   within : l.rows.fault ≡ None → l.rows.count ≤ l.fn.by.most;
-  far : AreRowsSoFar l.fn.by.layout.now l.fn.by.zones.now l.fn.by.most (unread g.R.Read.remaining l.fn.column) (unread g.R.Read.remaining l.column) l.rows;
+  far : AreRowsSoFar l.fn.by.layout.now l.fn.by.releases.now l.fn.by.most (unread g.R.Read.remaining l.fn.column) (unread g.R.Read.remaining l.column) l.rows;
 }

@@ -14,7 +14,7 @@ write_rows-requires g c =
     let sound = c.first-first.ensures.sound in
     let rows = c.in-Ok.rows.items in
     let all = joined_low p sound c.args.fault rows (rw c.before-before.ensures at c.in-Ok.ensures.ok) in
-    let few_rows = few p.layout p.files _ p.first (records_of_all p.layout.delimiter p.pieces) (joined rows) all in
+    let few_rows = few p.layout p.releases _ p.first (records_of_all p.layout.delimiter p.pieces) (joined rows) all in
     let fits : p.first + (joined rows).count < 18446744073709551616 = omega (arith, few_rows, few_records p sound, sound.first) in
     rw (c.first-first.ensures.first, c.deref.ensures.value) fits
 

@@ -12,7 +12,7 @@ write_rows-requires g c =
     let rows = c.args.rows.now in
     let sound = c.first-first.ensures.sound in
     let all = joined_round p rows sound c.requires.values in
-    omega (arith, few p.layout p.files p.most p.first (records_of_all p.layout.delimiter p.pieces) (joined rows) all, few_records p sound, sound.first, c.first-first.ensures.first)
+    omega (arith, few p.layout p.releases p.most p.first (records_of_all p.layout.delimiter p.pieces) (joined rows) all, few_records p sound, sound.first, c.first-first.ensures.first)
 
 pub end_at_fault-requires-clause-fault : goal.end_at_fault-requires-clause-fault
 end_at_fault-requires-clause-fault g c κs within =

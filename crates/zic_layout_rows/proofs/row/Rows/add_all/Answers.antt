@@ -5,7 +5,9 @@ use Rattle.zic_columns.specs.Own.{CsvRecord}
 use Rattle.zic_layout_rows.specs.code.Batch.{blank, record_of, zone_at}
 use Rattle.zic_layout_rows.specs.PieceRows.{AreRowsOf, RowsOf}
 use Rattle.zic_layout_rows.proofs.Columns.{one_is}
+use Rattle.zic_zones.specs.Zones.{alone}
 use Rattle.zic_layout_rows.proofs.MoreRows.{end_added, not_some, one_counted, records_at, row_added}
+use Rattle.zic_layout_rows.proofs.Written.{next_written}
 use Rattle.zic_layout_rows.proofs.row.Rows.add_all.Goals as goal
 
 pub add-requires-clause-fits : goal.add-requires-clause-fits
@@ -23,8 +25,9 @@ returns-then-is_some-clause-rows c = λ before are.
     let first = before ++ map f (take l.i records) in
     let rest = map f (drop (suc l.i) (take c.args.count records)) in
     let one = f (slice_index_or records l.i blank) in
-    let all = end_added piece.layout.now piece.zones.now piece.most piece.first first one l.self c.add.new.self (l.invariant.rows before are) l.invariant.none c.in_ok-add.ensures.next some rest in
-    subst (λ (ws : List CsvRecord). AreRowsOf piece.layout.now piece.zones.now piece.most piece.first ws c.add.new.self)
+    let all = end_added piece.layout.now (alone piece.zones.now) piece.most piece.first first one l.self c.add.new.self (l.invariant.rows before are) l.invariant.none
+    (next_written piece.layout.now piece.zones.now piece.most c.requires.written (piece.first + l.self.count) one l.self c.add.new.self c.in_ok-add.ensures.next) some rest in
+    subst (λ (ws : List CsvRecord). AreRowsOf piece.layout.now (alone piece.zones.now) piece.most piece.first ws c.add.new.self)
     (append_assoc before (map f (take l.i records)) (one ∷ rest) ∙ ap (λ (ws : List CsvRecord). before ++ ws) (sym (records_at f records c.args.count l.i blank few c.loop-i-test.true))) all
 
 pub loop-i-preserved : goal.loop-i-preserved
@@ -38,16 +41,17 @@ loop-i-preserved c =
     let few : c.args.count ≤ length records = omega (arith, c.requires.columns.few, c.told-batch) in
     let lt : l.i + 1 ≤ length records = omega (arith, few, c.loop-i-test.true) in
     let one = f (slice_index_or records l.i blank) in
-    let counted = one_counted piece.layout.now piece.zones.now piece.most (piece.first + l.self.count) one l.self c.add.new.self c.in_ok-add.ensures.next none in
+    let next = next_written piece.layout.now piece.zones.now piece.most c.requires.written (piece.first + l.self.count) one l.self c.add.new.self c.in_ok-add.ensures.next in
+    let counted = one_counted piece.layout.now (alone piece.zones.now) piece.most (piece.first + l.self.count) one l.self c.add.new.self next none in
     let parts = ap (map f) (take_more records l.i blank (omega (arith, lt))) ∙ map-append f (take l.i records) (slice_index_or records l.i blank ∷ []) in
     record {
       none = none;
       pen = c.in_ok-add.ensures.pen;
       count = omega (arith, counted, l.invariant.count);
       rows = λ before are.
-          let all = row_added piece.layout.now piece.zones.now piece.most piece.first (before ++ map f (take l.i records)) one l.self c.add.new.self (l.invariant.rows before are) l.invariant.none
-          c.in_ok-add.ensures.next none in
-          subst (λ (ws : List CsvRecord). AreRowsOf piece.layout.now piece.zones.now piece.most piece.first ws c.add.new.self)
+          let all = row_added piece.layout.now (alone piece.zones.now) piece.most piece.first (before ++ map f (take l.i records)) one l.self c.add.new.self (l.invariant.rows before are) l.invariant.none
+          next none in
+          subst (λ (ws : List CsvRecord). AreRowsOf piece.layout.now (alone piece.zones.now) piece.most piece.first ws c.add.new.self)
           (append_assoc before (map f (take l.i records)) (one ∷ []) ∙ ap (λ (ws : List CsvRecord). before ++ ws) (sym parts)) all;
     }
 
