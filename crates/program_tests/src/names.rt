@@ -40,7 +40,7 @@ static FOLLOWING: [&[u8]; 5] = [
 fn names_among_other_bytes_are_found(rt: HostRuntime) {
     let files = must(&rt, built(&rt, rt.alloc(), ZONES, 1, &Open));
     let zones = must(&rt, SourceZones::new(rt.alloc(), &files));
-    let ready = zones.ready();
+    let ready = zones.ready().zones;
     for (name, want) in &NAMES {
         for following in &FOLLOWING {
             let mut bytes = Vec::new(rt.alloc());

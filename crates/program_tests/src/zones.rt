@@ -105,7 +105,7 @@ fn rows_of_texts_at_hand(rt: HostRuntime) {
     let Ok(zones) = SourceZones::new(rt.alloc(), &files) else {
         panic!(rt; "the zones are ready");
     };
-    let ready = zones.ready();
+    let ready = zones.ready().zones;
     for (record, row) in &ROWS {
         let mut text = RowText::new(rt.alloc());
         push(&rt, &mut text, &files, &ready, record);

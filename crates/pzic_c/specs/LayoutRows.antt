@@ -8,6 +8,7 @@ use Rattle.zic_base.specs.declared.row_fault.RowKind.{RowKind}
 use Rattle.zic_plan.specs.declared.layout.Layout.{Layout}
 use Rattle.zic_plan.specs.Noted.{RowNote}
 use Rattle.zic_plan.specs.declared.plan.TheConstants.{MAX_BYTES, MAX_ROWS}
+use Rattle.zic_zones.specs.Zones.{alone}
 use Rattle.pzic_c.specs.Handle.{rows_of}
 use Rattle.pzic_c.specs.Layout.{HasNoLayout, IsLayoutOf}
 use Rattle.pzic_c.specs.Text.{overwritten}
@@ -37,7 +38,7 @@ status_of_end (Some kind) = BAD_ROW
 -- They are the header and the rows of the column by the layout, up to the first that ends the run, and the faults.
 abbrev pub AreMadeBy : List File → Layout → List ℕ → ℤ → Made → Type 0
 AreMadeBy files layout column status made =
-    (fault : Option RowKind) × (faults : List RowNote) × AreRowsByLayout files layout MAX_ROWS column made.text.items made.count fault faults
+    (fault : Option RowKind) × (faults : List RowNote) × AreRowsByLayout (alone files) layout MAX_ROWS column made.text.items made.count fault faults
     × (made.faults.items ≡ map note_seen (faults_with_end faults made.count fault)) × (status ≡ status_of_end fault)
 
 -- The handle holds them, or nothing, since memory ran out.

@@ -1,5 +1,5 @@
 -- A conversion by the zones of the files of a source.
-use Rattle.std.proofs.Common.{◌≡◌, ◌∙◌, ◌⊎◌, ℕ, List, Option, Result, Ok, Err, inl, inr, refl, sym, subst}
+use Rattle.std.proofs.Common.{◌≡◌, ◌∙◌, ◌⊎◌, ℕ, List, Option, Result, Ok, Err, inl, inr, refl, sym, subst, ap}
 use Rattle.std.specs.Prelude.{IfOk, IfErr}
 use Rattle.zic_compile.specs.Build.{AreFilesOfTexts}
 use Rattle.zic_convert.specs.Run.{Run}
@@ -11,6 +11,8 @@ use Rattle.zic_plan.specs.Plan.{Limits}
 use Rattle.zic_plan.specs.declared.layout.Layout.{Layout}
 use Rattle.zic_plan.specs.declared.layout.ZoneFrom.{ZoneFrom}
 use Rattle.zic_plan.specs.declared.layout.ZoneFrom.TheVariants as zone
+use Rattle.zic_zones.specs.Zones.{alone}
+use Rattle.zic_zones.specs.declared.releases.Releases.{Releases}
 use Rattle.zic_commands.specs.Converting.{ConvertsBySource, IsFailureAfterTexts, IsFailureByFiles}
 use Rattle.zic_file_commands.specs.Converting.{Converts, IsFailureOfConvert, IsFailureOfZone, IsFailureOfZones, zones_of}
 
@@ -23,30 +25,30 @@ abbrev StaysFor : List File → List ℕ → List File → Type 0
 StaysFor old name new = new ≡ old
 
 -- and rows may be made by no others
-abbrev Only : List File → List File → Type 0
-Only zones files = (files ≡ zones) × AreSoundFiles zones
+abbrev Only : List File → Releases → Type 0
+Only zones releases = (releases ≡ alone zones) × AreSoundFiles zones
 
 module _ (files : List File) (sound : AreSoundFiles files) where
-  only : (zones : List File) → zones ≡ files → Only zones files
-  only zones same = (sym same, subst AreSoundFiles (sym same) sound)
+  only : (zones : List File) → zones ≡ files → Only zones (alone files)
+  only zones same = (ap alone (sym same), subst AreSoundFiles (sym same) sound)
 
   module _ {R W : Type 0} (plan : Limits) (limit : Option ℕ) (layout : Layout) (run : Run R W) (zones zones' : List File) (are : zones ≡ files) where
     without_zone : (from : ZoneFrom) (failure : Failure) → IsFailureOfZones from (zones_of Stays Stays StaysFor Only zones zones') failure
         → (failure ≡ failures.Memory) ⊎ IsFailureOfZone files from failure
     without_zone (zone.Field index) failure none = absurd none
     without_zone (zone.Name name) failure (inl memory) = inl memory.0
-    without_zone (zone.Name name) failure (inr none) = inr (none.1 files (only zones' (none.0 ∙ are)))
+    without_zone (zone.Name name) failure (inr none) = inr (none.1 (alone files) (only zones' (none.0 ∙ are)))
 
     pub by_files : (failure : Failure) → IsFailureOfConvert plan limit layout run (zones_of Stays Stays StaysFor Only zones zones') failure → IsFailureByFiles plan limit layout run files failure
     by_files failure (inl none) = inl (none.untouched, without_zone layout.zone failure none.of_zones)
-    by_files failure (inr (inl names)) = inr (inl (names.has_zone files (only zones' (names.grown ∙ are)), names.fails))
+    by_files failure (inr (inl names)) = inr (inl (names.has_zone (alone files) (only zones' (names.grown ∙ are)), names.fails))
     by_files failure (inr (inr rows)) =
-        let by = rows.ends.by files (only rows.ends.then (rows.ends.grown ∙ are)) in
+        let by = rows.ends.by (alone files) (only rows.ends.then (rows.ends.grown ∙ are)) in
         inr (inr (record { has_zone = by.0; stop = rows.stop; is = rows.is; cause = rows.cause; ends = by.1 }))
 
     pub all_by_source : (texts : List (List ℕ)) → AreFilesOfTexts texts files → (result : Result ℕ Failure) → IfOk result (λ _. Stays zones zones')
-        → ((fs : List File) → Only zones' fs → IfOk result (λ n. Converts layout plan.max_rows limit n run fs)) → IfOk result (λ n. ConvertsBySource texts layout plan.max_rows limit n run)
-    all_by_source texts of (Ok n) stays all = record { files = files; are_files = of; converts = all files (only zones' (stays ∙ are)) }
+        → ((rs : Releases) → Only zones' rs → IfOk result (λ n. Converts layout plan.max_rows limit n run rs)) → IfOk result (λ n. ConvertsBySource texts layout plan.max_rows limit n run)
+    all_by_source texts of (Ok n) stays all = record { files = files; are_files = of; converts = all (alone files) (only zones' (stays ∙ are)) }
     all_by_source texts of (Err e) stays all = tt
 
     pub fails_after_texts : (texts : List (List ℕ)) → AreFilesOfTexts texts files → (result : Result ℕ Failure)

@@ -1,7 +1,11 @@
 //! `convert` by texts: compiles them, and converts a column by their files.
 
 ghost use Rattle.std.specs.Prelude.{◌≤◌, ◌+◌, ◌≡◌, IfOk, IfErr};
-ghost use Rattle.zic_commands.specs.Converting.{ConvertsBySource, IsFailureOfConvertSource};
+ghost use Rattle.zic_commands.specs.Converting.{ConvertsAgainst, ConvertsBySource, against};
+ghost use Rattle.zic_commands.specs.Converting.{IsFailureOfConvertAgainst, IsFailureOfConvertSource};
+ghost use Rattle.zic_compile.specs.Build.{AreFilesOfTexts};
+ghost use Rattle.zic_files.specs.Sound.{AreSoundFiles};
+ghost use Rattle.zic_source_commands.specs.Failing.{IsFailureOfTexts};
 ghost use Rattle.zic_convert.specs.Run.{run_of};
 ghost use Rattle.zic_counted.specs.Counts.{HasFailedSince};
 ghost use Rattle.zic_source.specs.Texts.{texts_of};
@@ -15,7 +19,41 @@ use zic_io::Failure;
 use zic_pieces::Gate;
 use zic_plan::RowLog;
 use zic_source_commands::files_of;
-use zic_zones::SourceZones;
+use zic_files::Files;
+use zic_zones::{Compared, SourceZones, Zones};
+
+/// The texts of a source, and the key that seeds the hash of names, so that names can't be chosen to
+/// collide. Rows don't depend on the key.
+#[derive(Clone, Copy, Drop)]
+pub struct KeyedTexts<'a> {
+    pub texts: &'a [Vec<u8>],
+    pub key: u64,
+}
+
+/// Returns the files of texts.
+///
+/// # Errors
+///
+/// Why the texts have none, or memory ran out.
+fn keyed_files<T: Threads + Wait + Sync, G: Gate + Sync>(
+    conversion: &Conversion<'_, T, G>,
+    source: KeyedTexts<'_>,
+) -> Result<Files, Failure>
+    ensures ok { IfOk result (AreFilesOfTexts (texts_of source.entry.texts.now)) }
+    ensures sound { IfOk result AreSoundFiles }
+    ensures err { IfErr result (IsFailureOfTexts (texts_of source.entry.texts.now)) }
+{
+    let files = files_of(
+        conversion.rt,
+        conversion.alloc,
+        conversion.plan,
+        source.texts,
+    )?;
+    let files = files.with_key(conversion.alloc, source.key)?;
+    // The files of a source are sound.
+    prove!(files.len() <= usize::MAX);
+    Ok(files)
+}
 
 /// Compiles the texts, and converts a column by a layout and their files. Returns the number of rows,
 /// without the header. The key seeds the hash of names, so that names can't be chosen to collide; rows
@@ -46,10 +84,50 @@ pub fn convert_source<T: Threads + Wait + Sync, G: Gate + Sync, R: Read, W: Writ
         (run_of R.remaining W.contents L.noted reader.old reader.new writer.old writer.new
         log.old log.new)) }
 {
-    let files = files_of(conversion.rt, conversion.alloc, conversion.plan, texts)?;
-    let files = files.with_key(conversion.alloc, key)?;
-    // The files of a source are sound.
-    prove!(files.len() <= usize::MAX);
+    let files = keyed_files(conversion, KeyedTexts { texts, key })?;
     let mut zones = SourceZones::new(conversion.alloc, &files)?;
     zic_file_commands::convert(conversion, &mut zones, reader, writer, log)
+}
+
+/// Compiles the texts, and converts a column by a layout and their files, compared with the zones of
+/// another release: where the layout has only rows written that the other release answers differently,
+/// these. Returns the number of rows, without the header, with those that aren't written.
+///
+/// # Errors
+///
+/// As [`convert_source`]. A fault of a row is one by the files of the texts.
+pub fn convert_source_against<
+    T: Threads + Wait + Sync,
+    G: Gate + Sync,
+    O: Zones,
+    R: Read,
+    W: Write,
+    L: RowLog,
+>(
+    conversion: &Conversion<'_, T, G>,
+    source: KeyedTexts<'_>,
+    old: O,
+    reader: &mut Counted<R>,
+    writer: &mut Counted<W>,
+    log: &mut L,
+) -> Result<u64, Failure>
+    ensures ok { IfOk result (λ rows. ConvertsAgainst (texts_of source.entry.texts.now)
+        conversion.now.layout.now conversion.now.plan.now.max_rows conversion.now.max_faults rows
+        (run_of R.remaining W.contents L.noted reader.old reader.new writer.old writer.new
+        log.old log.new)
+        (λ files then. against files O.grown O.broken O.requests O.may_be old then)) }
+    ensures within { IfOk result
+        (λ _. reader.new.taken ≤ reader.old.taken + conversion.now.plan.now.max_bytes) }
+    ensures unfailed { IfOk result (λ _. HasFailedSince reader.new reader.old.failures → ⊥) }
+    ensures flushed { IfOk result (λ _. writer.new.failures ≡ writer.old.failures) }
+    ensures err { IfErr result (IsFailureOfConvertAgainst (texts_of source.entry.texts.now)
+        conversion.now.plan.now conversion.now.max_faults conversion.now.layout.now
+        (run_of R.remaining W.contents L.noted reader.old reader.new writer.old writer.new
+        log.old log.new)
+        (λ files then. against files O.grown O.broken O.requests O.may_be old then)) }
+{
+    let files = keyed_files(conversion, source)?;
+    let zones = SourceZones::new(conversion.alloc, &files)?;
+    let mut both = Compared { zones, old };
+    zic_file_commands::convert(conversion, &mut both, reader, writer, log)
 }

@@ -6,7 +6,7 @@
 
 mod convert_command;
 
-pub use convert_command::convert_source;
+pub use convert_command::{KeyedTexts, convert_source, convert_source_against};
 pub use zic_convert::Conversion;
 pub use zic_file_commands::{convert, dump, show, show_local};
 pub use zic_io::{
@@ -14,4 +14,4 @@ pub use zic_io::{
     Unplaced, read_file, read_file_bytes, read_source_text, read_sources,
 };
 pub use zic_source_commands::{build, build_linked, check};
-pub use zic_zones::TreeZones;
+pub use zic_zones::{Compared, SourceZones, TreeZones};

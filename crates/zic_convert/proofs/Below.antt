@@ -17,7 +17,7 @@ use Rattle.zic_plan.specs.declared.layout.TimeFrom.{TimeFrom}
 use Rattle.zic_plan.specs.Noted.{RowNote}
 use Rattle.zic_base.specs.declared.run_stop.RunStop.{RunStop}
 use Rattle.zic_base.specs.declared.run_stop.RunStop.TheVariants as stop
-use Rattle.zic_convert.specs.Column.{AreRowRecords, header_of, header_text, names_line, names_of, own_line}
+use Rattle.zic_convert.specs.Column.{AreRowRecords, header_of, header_text, names_added, names_line, names_of, own_line}
 use Rattle.zic_layout_rows.specs.LayoutRows.{faults_by}
 use Rattle.zic_convert.specs.Run.{AreFew, EndsAfterLines, EndsAtHeader, EndsIn, HasNames, Notes, WritesRows}
 use Rattle.zic_convert.specs.code.Progress.{ConvertsColumn, EndsInColumn, output}
@@ -125,7 +125,7 @@ module _ (layout : Layout) (releases : Releases) (most : ℕ) (limit : Option �
 
     lines_after_names : EndsAfterLines layout releases most limit (own_line layout column) row_records why (output mid new log last)
         → EndsAfterLines layout releases most limit (header_text layout column) row_records why (output old new log last)
-    lines_after_names w = elim (one_line layout.start layout.style layout.from layout.header layout.delimiter _ _) [
+    lines_after_names w = elim (one_line layout.start (names_added layout) layout.header layout.delimiter _ _) [
       | inl none ↦ no_names (names_line layout) (own_line layout column) begun none w
       | inr none ↦ no_own (names_line layout) (own_line layout column) begun none w
     ]

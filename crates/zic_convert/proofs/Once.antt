@@ -123,8 +123,8 @@ module _ (answers : FilesAnswerOnce) (releases : Releases) (sound : AreSoundRele
         | inl is ↦
             let same = (bytes_decides a.answer a.other).0 is in
             a.same same ∙ sym (b.same (sym answer ∙ same ∙ other))
-        | inr no ↦
-            let differ : (a.answer ≡ a.other → ⊥) = λ e. (let yes = (bytes_decides a.answer a.other).1 e in cc (sym yes ∙ no)) in
+        | inr unlike ↦
+            let differ : (a.answer ≡ a.other → ⊥) = λ e. (let yes = (bytes_decides a.answer a.other).1 e in cc (sym yes ∙ unlike)) in
             a.moved differ ∙ ap₂ with_fields row other ∙ sym (b.moved (λ e. differ (answer ∙ e ∙ sym other)))
       ]
 

@@ -131,8 +131,8 @@ module _ (layout : Layout) (releases : Releases) (most : ℕ) (known : All IsKno
         | inl is ↦
             let same = (bytes_decides answer other).0 is in
             ([], record { row = row; by = is_row; answer = answer; answers = answers; other = other; others = others; same = λ _. refl; moved = λ differ. absurd (differ same) })
-        | inr no ↦
-            let differ : (answer ≡ other → ⊥) = λ e. (let yes = (bytes_decides answer other).1 e in cc (sym yes ∙ no)) in
+        | inr unlike ↦
+            let differ : (answer ≡ other → ⊥) = λ e. (let yes = (bytes_decides answer other).1 e in cc (sym yes ∙ unlike)) in
             (with_fields row other, record { row = row; by = is_row; answer = answer; answers = answers; other = other; others = others; same = λ e. absurd (differ e); moved = λ _. refl })
       ]
 

@@ -125,9 +125,13 @@ abbrev pub header_of : RowStart → List ℕ → ℕ → List ℕ → List ℕ
 header_of start.Record names delimiter (byte ∷ own) = (byte ∷ own) ++ (exchanged delimiter names ++ 10 ∷ [])
 header_of _ names delimiter _ = []
 
+-- the line of names, with these after those of rows, or nothing
+abbrev pub names_with : Layout → List ℕ → List ℕ
+names_with layout names = names_of layout.start layout.header (exchanged layout.delimiter (row_names layout.style layout.from ++ (names ++ 10 ∷ [])))
+
 -- what is written before a column is read: the line of names, or nothing
 abbrev pub names_line : Layout → List ℕ
-names_line layout = names_of layout.start layout.header (exchanged layout.delimiter (row_names layout.style layout.from ++ (names_after layout.written layout.style layout.from ++ 10 ∷ [])))
+names_line layout = names_with layout (names_after layout.written layout.style layout.from)
 
 -- and once its header was read
 abbrev pub own_line : Layout → List ℕ → List ℕ

@@ -12,7 +12,7 @@ use zic_files::Files;
 use zic_layout_rows::{Piece, rows_of_piece};
 use zic_plan::{Header, Layout};
 use zic_rows::RowText;
-use zic_zones::{SourceZones, Zones};
+use zic_zones::{Releases, SourceZones, Zones};
 
 /// The rows of a column up to the first that has a fault: their text, their number, and that fault.
 #[derive(Drop)]
@@ -57,18 +57,21 @@ pub fn rows_of_column(
 {
     column_records_are_read();
     let zones = zones_for(alloc, files, column.len())?;
-    let ready = zones.ready();
+    let Releases {
+        zones: row_zones,
+        old,
+    } = zones.ready();
     let layout = Layout::plain(Header::Absent);
     let piece = Piece {
         bytes: without_mark(column),
-        zones: &ready.zones,
+        zones: &row_zones,
         layout: &layout,
         first: 1,
         most: max_rows,
         lines_before: None,
     };
     let text = RowText::with_capacity(alloc, room_for(column.len()))?;
-    let rows = rows_of_piece(alloc, &piece, &ready.old, text)?;
+    let rows = rows_of_piece(alloc, &piece, &old, text)?;
     Ok(ColumnRows {
         text: rows.text.into_bytes(),
         count: rows.count,

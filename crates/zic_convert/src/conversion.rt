@@ -453,7 +453,10 @@ fn ended<R>(
 /// takes note of the fault, and of the record's own bytes where it is put aside, with how its line ends
 /// in the column; where the layout's `notes` are details, also of the line where the record begins, from
 /// 1, with the header and lines without a byte, and of the field at fault. A header that is such a line is
-/// one as any other. Where each line is a record and the run goes on at faults, no more than four
+/// one as any other. Where the layout's `written` says so, only the rows are written that another release
+/// answers differently, with what it answers in fields of their own at the end, whose names begin with
+/// `old_`; it answers empty fields where the row has a fault by it. Faults are those by the first release
+/// alone. Where each line is a record and the run goes on at faults, no more than four
 /// bytes of a line are read beyond the most that the layout allows, and the others are dropped: they
 /// are in no row and no note. Where the run goes on at faults and `max_faults` is a number, it goes on after
 /// this many rows with a fault. The next ends the conversion, and is neither written nor noted.

@@ -147,8 +147,8 @@ fn rows_of_left<R: Read>(by: &RowsBy<'_, '_>, column: &mut Column<R>) -> Result<
 
 /// Converts a column in memory by a layout, on the calling thread, to the header and the rows of
 /// [`crate::convert_column`]. Returns those up to the first that ends the run, and the faults. The
-/// plan says how many rows and bytes the column may have; its workers and pieces change nothing. The
-/// files are compared with none: rows that only another release could show moved are none.
+/// plan says how many rows and bytes the column may have; its workers and pieces change nothing. There
+/// is no other release: where the layout compares, it answers nothing, and its fields are empty.
 ///
 /// # Errors
 ///

@@ -4,9 +4,8 @@ ghost use Rattle.std.specs.Prelude.{◌≡◌, ◌+◌, ◌^◌, ◌<◌, [], If
 ghost use Rattle.zic_columns.specs.Exchange.{exchanged};
 ghost use Rattle.zic_counted.specs.Written.{FailsWithin};
 ghost use Rattle.zic_plan.specs.declared.layout.RowStart.TheVariants as start;
-ghost use Rattle.zic_plan.specs.declared.layout.Written.TheVariants as written;
 ghost use Rattle.zic_convert.specs.Column.{added_names, header_of, names_added, names_after};
-ghost use Rattle.zic_convert.specs.Column.{names_line, names_of, old_names};
+ghost use Rattle.zic_convert.specs.Column.{names_line, names_of, names_with, old_names};
 ghost use Rattle.zic_convert.specs.code.Pieces.{joined};
 ghost use Rattle.zic_convert.specs.code.Written.{EndsAtHead, EndsInPieces, IsStopAt, Wrote, WroteRows};
 
@@ -159,10 +158,9 @@ fn write_line<W: Write>(
 
 /// Writes the line of names of rows that are compared with none, as [`write_names`] does.
 fn write_row_names<W: Write>(writer: &mut Counted<W>, layout: &Layout) -> Result<(), RunStop>
-    requires { layout.now.written ≡ written.All }
-    ensures ok { OnOk result (Wrote W.contents writer.old writer.new (names_line layout.now)) }
+    ensures ok { OnOk result (Wrote W.contents writer.old writer.new (names_with layout.now [])) }
     ensures err { IfErr result (λ stop. (stop ≡ RunStop.WriteFailed)
-        × FailsWithin W.contents writer.old writer.new (names_line layout.now)) }
+        × FailsWithin W.contents writer.old writer.new (names_with layout.now [])) }
 {
     match (layout.style, layout.from) {
         (Style::Fields, TimeFrom::Count | TimeFrom::Rfc3339) => {
@@ -187,10 +185,11 @@ fn write_row_names<W: Write>(writer: &mut Counted<W>, layout: &Layout) -> Result
 /// Writes the line of names of rows that are compared with those of another release, as [`write_names`]
 /// does.
 fn write_moved_names<W: Write>(writer: &mut Counted<W>, layout: &Layout) -> Result<(), RunStop>
-    requires { layout.now.written ≡ written.Moved }
-    ensures ok { OnOk result (Wrote W.contents writer.old writer.new (names_line layout.now)) }
+    ensures ok { OnOk result (Wrote W.contents writer.old writer.new (names_with layout.now
+        (old_names layout.now.style layout.now.from))) }
     ensures err { IfErr result (λ stop. (stop ≡ RunStop.WriteFailed)
-        × FailsWithin W.contents writer.old writer.new (names_line layout.now)) }
+        × FailsWithin W.contents writer.old writer.new (names_with layout.now
+        (old_names layout.now.style layout.now.from))) }
 {
     match (layout.style, layout.from) {
         (Style::Fields, TimeFrom::Count | TimeFrom::Rfc3339) => {

@@ -3,22 +3,22 @@ use Rattle.std.proofs.Common.{◌≡◌, ◌∙◌, ℕ, List, Option, ap, refl,
 use Rattle.zic_base.specs.declared.run_stop.RunStop.{RunStop}
 use Rattle.zic_convert.specs.Convert.{IsCauseOf}
 use Rattle.zic_convert.specs.Run.{EndsAtNames, EndsBy, EndsByZones, Run}
-use Rattle.zic_files.specs.File.{File}
+use Rattle.zic_zones.specs.declared.releases.Releases.{Releases}
 use Rattle.zic_io.specs.Failing.{run_failure}
 use Rattle.zic_io.specs.declared.failure.Failure.{Failure}
 use Rattle.zic_plan.specs.Plan.{Limits}
 use Rattle.zic_plan.specs.declared.layout.Layout.{Layout}
 use Rattle.zic_file_commands.specs.Converting.{HasZone, IsFailureOfNames, IsFailureOfRows, IsZoneRequested, zones_of}
 
-module _ {Z : Type 0} (grown broken : Z → Z → Type 0) (requests : Z → List ℕ → Z → Type 0) (may_be : Z → List File → Type 0) (joins : (a b c : Z) → grown a b → grown b c → grown a c)
-    (narrows : (a b : Z) (files : List File) → grown a b → may_be b files → may_be a files) (zones mid new : Z) (grew : grown zones mid) (layout : Layout) (requested : IsZoneRequested layout.zone (zones_of grown broken requests may_be zones mid))
-    (has : (files : List File) → may_be mid files → HasZone files layout.zone) {R W : Type 0} (run : Run R W) (why : RunStop) (failure : Failure) (is : failure ≡ run_failure why 1) where
+module _ {Z : Type 0} (grown broken : Z → Z → Type 0) (requests : Z → List ℕ → Z → Type 0) (may_be : Z → Releases → Type 0) (joins : (a b c : Z) → grown a b → grown b c → grown a c)
+    (narrows : (a b : Z) (releases : Releases) → grown a b → may_be b releases → may_be a releases) (zones mid new : Z) (grew : grown zones mid) (layout : Layout) (requested : IsZoneRequested layout.zone (zones_of grown broken requests may_be zones mid))
+    (has : (releases : Releases) → may_be mid releases → HasZone releases.zones layout.zone) {R W : Type 0} (run : Run R W) (why : RunStop) (failure : Failure) (is : failure ≡ run_failure why 1) where
   -- the line of names can't be written
   pub names_fail : (most : ℕ) → IsCauseOf most run.reader run.reader' run.writer run.writer' why → EndsAtNames layout why run × (new ≡ mid) → IsFailureOfNames layout run (zones_of grown broken requests may_be zones new) failure
   names_fail most cause (names, unrequested) = record {
     grown = subst (grown zones) (sym unrequested) grew;
     alone = subst (λ (z : Z). IsZoneRequested layout.zone (zones_of grown broken requests may_be zones z)) (sym unrequested) requested;
-    has_zone = λ files may. has files (subst (λ (z : Z). may_be z files) unrequested may);
+    has_zone = λ releases may. has releases (subst (λ (z : Z). may_be z releases) unrequested may);
     fails = record {
       is = is ∙ ap (λ (stop : RunStop). run_failure stop 1) names.is;
       ends = record { is = refl; unread = names.unread; unnoted = names.unnoted; part = names.part; starts = names.starts; wrote = names.wrote };
@@ -37,6 +37,6 @@ module _ {Z : Type 0} (grown broken : Z → Z → Type 0) (requests : Z → List
       then = rows.then;
       grown = joins zones mid rows.then grew rows.grown;
       ends = rows.ends;
-      by = λ files may. (has files (narrows mid rows.then files rows.grown may), rows.by files may);
+      by = λ releases may. (has releases (narrows mid rows.then releases rows.grown may), rows.by releases may);
     };
   }

@@ -14,6 +14,7 @@ use Rattle.zic_plan.specs.declared.layout.Layout.{Layout}
 use Rattle.zic_plan.specs.declared.layout.ZoneFrom.{ZoneFrom}
 use Rattle.zic_plan.specs.declared.layout.ZoneFrom.TheVariants as zone
 use Rattle.zic_zones.specs.Zones.{is_named}
+use Rattle.zic_zones.specs.declared.releases.Releases.{Releases}
 
 -- where all rows are to be in one zone, a file has its name
 abbrev pub HasZone : List File → ZoneFrom → Type 0
@@ -26,11 +27,11 @@ IsFailureOfZone files (zone.Field index) failure = ⊥
 IsFailureOfZone files (zone.Name name) failure =
     (is_named files (string_bytes name) ≡ false) × ((failure ≡ failures.Memory) ⊎ IsUnknownZone (string_bytes name) failure)
 
--- These files have the zone for all rows, if there is to be one. By them, all rows of the column were written, there are n, and their faults,
--- which are few, were noted.
-pub record Converts {R W : Type 0} (layout : Layout) (most : ℕ) (limit : Option ℕ) (n : ℕ) (run : Run R W) (files : List File) : Type 0 where
-  pub has_zone : HasZone files layout.zone
-  pub rows : ConvertsAllBy layout most limit n run files
+-- The first of these releases has the zone for all rows, if there is to be one. By them, all rows of the column were written, there are n, and
+-- their faults, which are few, were noted.
+pub record Converts {R W : Type 0} (layout : Layout) (most : ℕ) (limit : Option ℕ) (n : ℕ) (run : Run R W) (releases : Releases) : Type 0 where
+  pub has_zone : HasZone releases.zones layout.zone
+  pub rows : ConvertsAllBy layout most limit n run releases
 
 -- nothing was read of the column, nothing was written, and no fault was noted
 pub record IsUntouched {R W : Type 0} (run : Run R W) : Type 0 where
@@ -39,16 +40,16 @@ pub record IsUntouched {R W : Type 0} (run : Run R W) : Type 0 where
   pub unnoted : run.output.log' ≡ run.output.log
 
 -- The zones of a conversion, before it and after it: how zones grow as names are requested and break as memory is refused, what they may be
--- where one name alone is requested, and the files that rows may be made by.
+-- where one name alone is requested, and the releases that rows may be made by.
 pub record ZonesRequested (Z : Type 0) : Type 1 where
   pub grown : Z → Z → Type 0
   pub broken : Z → Z → Type 0
   pub requests : Z → List ℕ → Z → Type 0
-  pub may_be : Z → List File → Type 0
+  pub may_be : Z → Releases → Type 0
   pub zones : Z
   pub zones' : Z
 
-abbrev pub zones_of : {Z : Type 0} → (Grown Broken : Z → Z → Type 0) → (Z → List ℕ → Z → Type 0) → (Z → List File → Type 0) → Z → Z → ZonesRequested Z
+abbrev pub zones_of : {Z : Type 0} → (Grown Broken : Z → Z → Type 0) → (Z → List ℕ → Z → Type 0) → (Z → Releases → Type 0) → Z → Z → ZonesRequested Z
 zones_of Grown Broken Requests MayBe zones zones' = record { grown = Grown; broken = Broken; requests = Requests; may_be = MayBe; zones = zones; zones' = zones' }
 
 -- no zone was requested but the one that all rows are to be in, if there is to be one
@@ -56,13 +57,13 @@ abbrev pub IsZoneRequested : {Z : Type 0} → ZoneFrom → ZonesRequested Z → 
 IsZoneRequested (zone.Field index) requested = requested.zones' ≡ requested.zones
 IsZoneRequested (zone.Name name) requested = requested.requests requested.zones (string_bytes name) requested.zones'
 
--- Why zones have none for all rows: memory was refused as the zone was requested, or by all files that rows may be made by then, there is
+-- Why zones have none for all rows: memory was refused as the zone was requested, or by all releases that rows may be made by then, there is
 -- none.
 abbrev pub IsFailureOfZones : {Z : Type 0} → ZoneFrom → ZonesRequested Z → Failure → Type 0
 IsFailureOfZones (zone.Field index) requested failure = ⊥
 IsFailureOfZones (zone.Name name) requested failure =
     ((failure ≡ failures.Memory) × requested.broken requested.zones requested.zones')
-    ⊎ (requested.grown requested.zones requested.zones' × ((files : List File) → requested.may_be requested.zones' files → IsFailureOfZone files (zone.Name name) failure))
+    ⊎ (requested.grown requested.zones requested.zones' × ((releases : Releases) → requested.may_be requested.zones' releases → IsFailureOfZone releases.zones (zone.Name name) failure))
 
 -- the zones have none for all rows; nothing was read or written, and no other zone was requested
 pub record IsFailureWithoutZone {R W Z : Type 0} (layout : Layout) (run : Run R W) (requested : ZonesRequested Z) (failure : Failure) : Type 0 where
@@ -80,7 +81,7 @@ pub record FailsAtNames {R W : Type 0} (layout : Layout) (run : Run R W) (failur
 pub record IsFailureOfNames {R W Z : Type 0} (layout : Layout) (run : Run R W) (requested : ZonesRequested Z) (failure : Failure) : Type 0 where
   pub grown : requested.grown requested.zones requested.zones'
   pub alone : IsZoneRequested layout.zone requested
-  pub has_zone : (files : List File) → requested.may_be requested.zones' files → HasZone files layout.zone
+  pub has_zone : (releases : Releases) → requested.may_be requested.zones' releases → HasZone releases.zones layout.zone
   pub fails : FailsAtNames layout run failure
 
 -- The conversion of the column ended early. It never ends for a fault of a source, so the number of texts doesn't matter.
@@ -88,7 +89,7 @@ pub record IsFailureOfRows {R W Z : Type 0} (plan : Limits) (limit : Option ℕ)
   pub stop : RunStop
   pub is : failure ≡ run_failure stop 1
   pub cause : IsCauseOf plan.max_bytes run.reader run.reader' run.writer run.writer' stop
-  pub ends : EndsByZones requested.grown requested.broken requested.may_be requested.zones requested.zones' stop (λ files. HasZone files layout.zone × EndsBy layout plan.max_rows limit stop run files)
+  pub ends : EndsByZones requested.grown requested.broken requested.may_be requested.zones requested.zones' stop (λ releases. HasZone releases.zones layout.zone × EndsBy layout plan.max_rows limit stop run releases)
 
 -- why zones don't convert a column by a layout
 abbrev pub IsFailureOfConvert : {R W Z : Type 0} → Limits → Option ℕ → Layout → Run R W → ZonesRequested Z → Failure → Type 0

@@ -5,7 +5,7 @@ ghost use Rattle.zic_convert.specs.Run.{run_of};
 ghost use Rattle.zic_counted.specs.Counts.{HasFailedSince};
 ghost use Rattle.zic_file_commands.specs.Converting.{Converts, HasZone};
 ghost use Rattle.zic_file_commands.specs.Converting.{IsFailureOfConvert, IsFailureOfZones, IsZoneRequested, zones_of};
-ghost use Rattle.zic_files.specs.File.{File};
+ghost use Rattle.zic_zones.specs.declared.releases.Releases.{Releases};
 
 use std::alloc::Global;
 use std::io::{Read, Write};
@@ -37,11 +37,11 @@ pub fn convert<T: Threads + Wait + Sync, G: Gate + Sync, Z: Zones, R: Read, W: W
     log: &mut L,
 ) -> Result<u64, Failure>
     ensures grown { IfOk result (λ _. Z.grown zones.old zones.new) }
-    ensures ok { (files : List File) → Z.may_be zones.new files → IfOk result (λ rows.
+    ensures ok { (releases : Releases) → Z.may_be zones.new releases → IfOk result (λ rows.
         Converts conversion.now.layout.now conversion.now.plan.now.max_rows
         conversion.now.max_faults rows
         (run_of R.remaining W.contents L.noted reader.old reader.new writer.old writer.new
-        log.old log.new) files) }
+        log.old log.new) releases) }
     ensures within { IfOk result
         (λ _. reader.new.taken ≤ reader.old.taken + conversion.now.plan.now.max_bytes) }
     ensures unfailed { IfOk result (λ _. HasFailedSince reader.new reader.old.failures → ⊥) }
@@ -68,8 +68,8 @@ pub fn convert<T: Threads + Wait + Sync, G: Gate + Sync, Z: Zones, R: Read, W: W
 /// `UnknownZone` where there is none, or memory ran out.
 fn find_zone<Z: Zones>(alloc: Global, zones: &mut Z, zone: &ZoneFrom) -> Result<(), Failure>
     ensures grown { OnOk result (Z.grown zones.old zones.new) }
-    ensures ok { (files : List File) → Z.may_be zones.new files
-        → OnOk result (HasZone files zone.now) }
+    ensures ok { (releases : Releases) → Z.may_be zones.new releases
+        → OnOk result (HasZone releases.zones zone.now) }
     ensures err { IfErr result (IsFailureOfZones zone.now
         (zones_of Z.grown Z.broken Z.requests Z.may_be zones.old zones.new)) }
     ensures requested { IsZoneRequested zone.now
@@ -80,7 +80,7 @@ fn find_zone<Z: Zones>(alloc: Global, zones: &mut Z, zone: &ZoneFrom) -> Result<
     };
     let bytes = name.as_bytes();
     zones.learn(alloc, bytes)?;
-    match zones.ready().find(bytes) {
+    match zones.ready().zones.find(bytes) {
         Some(_) => Ok(()),
         None => Err(unknown_zone(alloc, name.as_str())),
     }

@@ -1,6 +1,7 @@
 //! `convert` over readers and writers that fail, and its progress reports.
 
 use super::{expect_reported, plan};
+use crate::files::built;
 use crate::samples::{Defect, Device, Sink, expect, expect_text, must};
 use std::alloc::Global;
 use std::cell::Cell;
@@ -14,7 +15,7 @@ use zic_commands::*;
 use zic_counted::Counted;
 use zic_io::FaultList;
 use zic_pieces::Open;
-use zic_plan::{AtFault, Header, Layout, Unnoted};
+use zic_plan::{AtFault, Disambiguation, Header, Layout, TimeFrom, Unnoted, Written};
 
 const UTC: &[u8] = b"Zone Etc/UTC 0 - UTC";
 
@@ -106,6 +107,70 @@ fn rows_and_faults_before_a_failed_read_end_at_the_same_row(rt: HostRuntime) {
         b"2,RowZone\n3,RowInstant\n",
         "the list of faults",
     );
+}
+
+/// A source, and one of another release, which has another offset of a zone and lacks a zone.
+const NEW: &[u8] = b"Zone Etc/UTC 0 - UTC\nZone Area/Moved 2:00 - BBB\nZone Area/New 0 - CCC\n";
+const OLD: &[u8] = b"Zone Etc/UTC 0 - UTC\nZone Area/Moved 1:00 - AAA\n";
+
+/// How the fields of times are written, a column, and the lines that `convert` writes of it where it
+/// compares the two.
+static MOVED: [(TimeFrom, &[u8], &[u8]); 2] = [
+    (
+        TimeFrom::Count,
+        b"zone,instant\nEtc/UTC,0\nArea/Moved,0\nArea/New,3600\nNo/Such,0\n",
+        b"zone,instant,local,offset,daylight,abbreviation,old_local,old_offset,old_daylight,old_abbreviation\n\
+        Area/Moved,0,1970-01-01T02:00:00,+02:00:00,0,BBB,1970-01-01T01:00:00,+01:00:00,0,AAA\n\
+        Area/New,3600,1970-01-01T01:00:00,+00:00:00,0,CCC,,,,\n",
+    ),
+    (
+        TimeFrom::Local(Disambiguation::Reject),
+        b"zone,local\nEtc/UTC,1970-01-01T00:00:00\nArea/Moved,1970-01-01T00:00:00\n",
+        b"zone,local,instant,offset,daylight,abbreviation,old_instant,old_offset,old_daylight,old_abbreviation\n\
+        Area/Moved,1970-01-01T00:00:00,-7200,+02:00:00,0,BBB,-3600,+01:00:00,0,AAA\n",
+    ),
+];
+
+/// Converts a column by the new source, compared with the old one.
+fn compared<T: Threads + Wait + Sync + Abort>(
+    rt: &T,
+    alloc: Global,
+    from: TimeFrom,
+    column: &[u8],
+    rows: &mut Counted<Vec<u8>>,
+) {
+    let source = must(rt, Vec::from_slice(alloc, NEW));
+    let files = must(rt, built(rt, alloc, OLD, 1, &Open));
+    let old = must(rt, SourceZones::new(alloc, &files));
+    let mut layout = Layout::plain(Header::First);
+    layout.from = from;
+    layout.written = Written::Moved;
+    layout.at_fault = AtFault::GoOn;
+    let conversion = Conversion {
+        rt,
+        alloc,
+        plan: &plan(rt, 2),
+        layout: &layout,
+        gate: &Open,
+        max_faults: None,
+    };
+    let texts = KeyedTexts {
+        texts: slice::from_ref(&source),
+        key: 7,
+    };
+    let mut column = Counted::new(column);
+    let answer =
+        convert_source_against(&conversion, texts, old, &mut column, rows, &mut Unnoted);
+    expect(rt, answer.is_ok(), "the rows");
+}
+
+#[test]
+fn rows_that_another_release_answers_differently_have_its_fields(rt: HostRuntime) {
+    for (from, column, wanted) in &MOVED {
+        let mut rows = Counted::new(Vec::new(rt.alloc()));
+        compared(&rt, rt.alloc(), *from, *column, &mut rows);
+        expect_text(&rt, &rows.into_inner(), *wanted, "the rows");
+    }
 }
 
 /// A clock that advances by a quarter of a second with each reading.

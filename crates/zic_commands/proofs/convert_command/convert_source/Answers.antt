@@ -1,8 +1,6 @@
-use Rattle.std.proofs.Common.{inl, inr, refl, subst, sym}
+use Rattle.std.proofs.Common.{inl, inr, refl}
 use Rattle.std.proofs.lemmas.Result.{err_from_is_err_and}
-use Rattle.zic_compile.specs.Build.{AreFilesOfTexts}
 use Rattle.zic_convert.specs.Run.{run_of}
-use Rattle.zic_source.specs.Texts.{texts_of}
 use Rattle.zic_convert.proofs.Joining.{on_err}
 use Rattle.zic_commands.proofs.SourceLemmas.{all_by_source, fails_after_texts}
 use Rattle.zic_commands.proofs.convert_command.convert_source.Goals as goal
@@ -24,12 +22,12 @@ returns-in_err-zones-clause-err g c =
 pub returns-clause-ok : goal.returns-clause-ok
 returns-clause-ok g c =
     let run = run_of g.R.Read.remaining g.W.Write.contents g.L.RowLog.noted c.args.reader.now c.convert.new.reader c.args.writer.now c.convert.new.writer c.args.log.now c.convert.new.log in
-    all_by_source c.in_ok-files-2.files c.len.ensures.sound c.args.conversion.now.plan.now c.args.conversion.now.max_faults c.args.conversion.now.layout.now run c.in_ok-zones.zones c.convert.new.zones c.in_ok-zones.ensures _
-    (subst (AreFilesOfTexts (texts_of c.args.texts.now)) (sym c.in_ok-files-2.ensures.ok) c.in_ok-files.ensures.ok) c.convert.result c.convert.ensures.grown c.convert.ensures.ok
+    all_by_source c.in_ok-files.files c.in_ok-files.ensures.sound c.args.conversion.now.plan.now c.args.conversion.now.max_faults c.args.conversion.now.layout.now run c.in_ok-zones.zones c.convert.new.zones c.in_ok-zones.ensures _
+    c.in_ok-files.ensures.ok c.convert.result c.convert.ensures.grown c.convert.ensures.ok
 
 pub returns-clause-err : goal.returns-clause-err
 returns-clause-err g c =
     let run = run_of g.R.Read.remaining g.W.Write.contents g.L.RowLog.noted c.args.reader.now c.convert.new.reader c.args.writer.now c.convert.new.writer c.args.log.now c.convert.new.log in
     on_err c.convert.result _ _ (λ e after. inr after)
-    (fails_after_texts c.in_ok-files-2.files c.len.ensures.sound c.args.conversion.now.plan.now c.args.conversion.now.max_faults c.args.conversion.now.layout.now run c.in_ok-zones.zones c.convert.new.zones c.in_ok-zones.ensures _
-    (subst (AreFilesOfTexts (texts_of c.args.texts.now)) (sym c.in_ok-files-2.ensures.ok) c.in_ok-files.ensures.ok) c.convert.result c.convert.ensures.err)
+    (fails_after_texts c.in_ok-files.files c.in_ok-files.ensures.sound c.args.conversion.now.plan.now c.args.conversion.now.max_faults c.args.conversion.now.layout.now run c.in_ok-zones.zones c.convert.new.zones c.in_ok-zones.ensures _
+    c.in_ok-files.ensures.ok c.convert.result c.convert.ensures.err)

@@ -11,7 +11,7 @@ returns-clause-rows c =
     let plain = c.plain-layout.ensures.rows in
     let files = c.args.files.now in
     let column = c.args.column.now in
-    let are = rw (c.without_mark.ensures, c.ready-ready.ensures, c.in_ok-zones.ensures) at c.in_ok-rows.ensures in
+    let are = rw (c.without_mark.ensures, c.ready-row_zones.ensures, c.in_ok-zones.ensures) at c.in_ok-rows.ensures in
     let all = rows_in_memory layout plain files c.args.max_rows column _ are c.column_records_are_read.ensures in
     rw c.into_bytes.ensures (rw (← c.rows.view_is) at all)
 
@@ -20,7 +20,7 @@ returns-clause-few c =
     let layout = c.plain-layout.result in
     let column = c.args.column.now in
     let found = c.in_ok-rows.ensures in
-    let are = rw (c.without_mark.ensures, c.ready-ready.ensures, c.in_ok-zones.ensures) at found in
+    let are = rw (c.without_mark.ensures, c.ready-row_zones.ensures, c.in_ok-zones.ensures) at found in
     let few = few_rows layout c.plain-layout.ensures.rows c.args.files.now c.args.max_rows column _ are in
     let counted = rw (← c.rows.view_is) at few in
     omega (arith, counted, few_records (strip_bom column), unmarked_shorter column)

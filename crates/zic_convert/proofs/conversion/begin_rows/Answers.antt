@@ -2,7 +2,7 @@ use Rattle.std.proofs.Common.{List, ℕ, refl, subst}
 use Rattle.std.specs.Io.KnownBytes.{Appends}
 use Rattle.std.proofs.lemmas.Result.{err_from_is_err_and}
 use Rattle.zic_columns.specs.Exchange.{exchanged}
-use Rattle.zic_convert.specs.Column.{header_of}
+use Rattle.zic_convert.specs.Column.{header_of, names_added}
 use Rattle.zic_convert.proofs.Heads.{halts_before, halts_begun}
 use Rattle.zic_convert.proofs.Options.{for_some, if_some}
 use Rattle.zic_convert.proofs.conversion.begin_rows.Goals as goal
@@ -22,5 +22,5 @@ pub returns-clause-head : goal.returns-clause-head
 returns-clause-head g c =
     let layout = c.args.layout.now in
     if_some (g.R.Read.remaining c.args.reader) _ (λ column e.
-    subst (λ (l : List ℕ). Appends (g.W.Write.contents c.args.writer.now.inner) (g.W.Write.contents c.write_header.new.writer.inner) (header_of layout.start layout.style layout.from layout.delimiter (exchanged layout.delimiter l)))
+    subst (λ (l : List ℕ). Appends (g.W.Write.contents c.args.writer.now.inner) (g.W.Write.contents c.write_header.new.writer.inner) (header_of layout.start (names_added layout) layout.delimiter (exchanged layout.delimiter l)))
     (for_some (g.R.Read.remaining c.args.reader) _ column c.in_ok-column.ensures.header e) c.in_ok-write_header.ensures.ok.0)

@@ -9,6 +9,7 @@ use Rattle.zic_convert.specs.code.Halt.{stop_of}
 use Rattle.zic_convert.proofs.Heads.{cause_at_head, converts_column, ends_at_head, ends_column}
 use Rattle.zic_convert.proofs.Joining.{on_err, on_ok}
 use Rattle.zic_convert.proofs.Rounds.{ends_map}
+use Rattle.zic_convert.proofs.Sounds.{agree_sound}
 use Rattle.zic_convert.proofs.conversion.convert_rows.Goals as goal
 
 pub returns-in_err-column-clause-halt : goal.returns-in_err-column-clause-halt
@@ -26,7 +27,7 @@ returns-in_err-column-clause-halt g c =
       ends = inl refl;
       by = λ releases may.
           ends_at_head layout c.args.conversion.now.plan.now.max_rows c.args.conversion.now.max_faults c.records_by_are_exchanged.ensures c.texts_by_are_exchanged.ensures c.byte.ensures.sound known inside is g.W.Write.contents
-          c.files_answer_once.ensures c.args.writer.now c.begin_rows.new.writer (g.L.RowLog.noted c.args.log.now) releases (g.met.Z.Zones.agrees c.args.zones.now releases may).sound c.in_err-column.field-0.0
+          c.files_answer_once.ensures c.args.writer.now c.begin_rows.new.writer (g.L.RowLog.noted c.args.log.now) releases (agree_sound (g.met.Z.Zones.agrees c.args.zones.now releases may)) c.in_err-column.field-0.0
           c.in_err-column.ensures.halt;
     })
 

@@ -17,9 +17,9 @@ pub returns-in-Ok-clause-grown : goal.returns-in-Ok-clause-grown
 returns-in-Ok-clause-grown g c = g.met.Z.Zones.then c.args.zones.now c.find_zone.new.zones c.convert_column.new.zones c.in_ok-find_zone.ensures.grown c.in-Ok.ensures.grown
 
 pub returns-in-Ok-clause-ok : goal.returns-in-Ok-clause-ok
-returns-in-Ok-clause-ok g c = λ files may. record {
-  has_zone = c.in_ok-find_zone.ensures.ok files (g.met.Z.Zones.narrows c.find_zone.new.zones c.convert_column.new.zones files c.in-Ok.ensures.grown may);
-  rows = c.in-Ok.ensures.ok files may;
+returns-in-Ok-clause-ok g c = λ releases may. record {
+  has_zone = c.in_ok-find_zone.ensures.ok releases (g.met.Z.Zones.narrows c.find_zone.new.zones c.convert_column.new.zones releases c.in-Ok.ensures.grown may);
+  rows = c.in-Ok.ensures.ok releases may;
 }
 
 pub returns-in-Err-clause-err : goal.returns-in-Err-clause-err

@@ -10,16 +10,16 @@ pub returns-in_default-clause-grown : goal.returns-in_default-clause-grown
 returns-in_default-clause-grown g c = g.met.Z.Zones.same c.args.zones.now
 
 pub returns-in_default-clause-ok : goal.returns-in_default-clause-ok
-returns-in_default-clause-ok g c = λ files may. rw c.in_default.is tt
+returns-in_default-clause-ok g c = λ releases may. rw c.in_default.is tt
 
 pub returns-in-Some-clause-ok : goal.returns-in-Some-clause-ok
-returns-in-Some-clause-ok g c = λ files may.
+returns-in-Some-clause-ok g c = λ releases may.
     let zones = c.learn.new.self in
     let name = c.as_bytes-bytes.result.now in
     let settled = c.in_ok-learn.ensures.settled in
     let found = sym (rw c.ready.ensures at c.find.ensures) ∙ c.in-Some.is in
-    let named = still_named (g.Z.Zones.settled zones) (g.Z.Zones.known zones) files (g.met.Z.Zones.agrees zones files may) name settled c.in-Some.field-0 found in
-    rw c.in-Name.is (subst (λ (n : List ℕ). is_named files n ≡ true) c.as_bytes-bytes.ensures.value named)
+    let named = still_named (g.Z.Zones.settled zones) (g.Z.Zones.known zones).zones releases.zones (g.met.Z.Zones.agrees zones releases may).zones name settled c.in-Some.field-0 found in
+    rw c.in-Name.is (subst (λ (n : List ℕ). is_named releases.zones n ≡ true) c.as_bytes-bytes.ensures.value named)
 
 pub returns-in_err-learn-clause-err : goal.returns-in_err-learn-clause-err
 returns-in_err-learn-clause-err g c =
@@ -35,9 +35,9 @@ returns-in-None-clause-err g c =
     let missing = sym (rw c.ready.ensures at c.find.ensures) ∙ c.in-None.is in
     rw c.in-Name.is (inr (
       c.in_ok-learn.ensures.grown,
-      λ files may. (
-        subst (λ (n : List ℕ). is_named files n ≡ false) c.as_bytes-bytes.ensures.value
-            (still_unnamed (g.Z.Zones.settled zones) (g.Z.Zones.known zones) files (g.met.Z.Zones.agrees zones files may) name settled missing),
+      λ releases may. (
+        subst (λ (n : List ℕ). is_named releases.zones n ≡ false) c.as_bytes-bytes.ensures.value
+            (still_unnamed (g.Z.Zones.settled zones) (g.Z.Zones.known zones).zones releases.zones (g.met.Z.Zones.agrees zones releases may).zones name settled missing),
         subst (λ (n : List ℕ). (failure ≡ failures.Memory) ⊎ IsUnknownZone n failure) c.as_str.ensures.value c.unknown_zone.ensures,
       ),
     ))
