@@ -163,7 +163,11 @@ fn write_row_names<W: Write>(writer: &mut Counted<W>, layout: &Layout) -> Result
         × FailsWithin W.contents writer.old writer.new (names_with layout.now [])) }
 {
     match (layout.style, layout.from) {
-        (Style::Fields, TimeFrom::Count | TimeFrom::Rfc3339) => {
+        (Style::Fields, TimeFrom::Count) => {
+            let mut line = *b"zone,instant,local,offset,daylight,abbreviation\n";
+            write_line(writer, layout, &mut line)
+        }
+        (Style::Fields, TimeFrom::Rfc3339) => {
             let mut line = *b"zone,instant,local,offset,daylight,abbreviation\n";
             write_line(writer, layout, &mut line)
         }
@@ -171,7 +175,11 @@ fn write_row_names<W: Write>(writer: &mut Counted<W>, layout: &Layout) -> Result
             let mut line = *b"zone,local,instant,offset,daylight,abbreviation\n";
             write_line(writer, layout, &mut line)
         }
-        (Style::Iso, TimeFrom::Count | TimeFrom::Rfc3339) => {
+        (Style::Iso, TimeFrom::Count) => {
+            let mut line = *b"zone,instant,local,daylight,abbreviation\n";
+            write_line(writer, layout, &mut line)
+        }
+        (Style::Iso, TimeFrom::Rfc3339) => {
             let mut line = *b"zone,instant,local,daylight,abbreviation\n";
             write_line(writer, layout, &mut line)
         }
@@ -192,20 +200,34 @@ fn write_moved_names<W: Write>(writer: &mut Counted<W>, layout: &Layout) -> Resu
         (old_names layout.now.style layout.now.from))) }
 {
     match (layout.style, layout.from) {
-        (Style::Fields, TimeFrom::Count | TimeFrom::Rfc3339) => {
-            let mut line = *b"zone,instant,local,offset,daylight,abbreviation,old_local,old_offset,old_daylight,old_abbreviation\n";
+        (Style::Fields, TimeFrom::Count) => {
+            let mut line =
+                *b"zone,instant,local,offset,daylight,abbreviation,old_local,old_offset,old_daylight,old_abbreviation\n";
+            write_line(writer, layout, &mut line)
+        }
+        (Style::Fields, TimeFrom::Rfc3339) => {
+            let mut line =
+                *b"zone,instant,local,offset,daylight,abbreviation,old_local,old_offset,old_daylight,old_abbreviation\n";
             write_line(writer, layout, &mut line)
         }
         (Style::Fields, TimeFrom::Local(_)) => {
-            let mut line = *b"zone,local,instant,offset,daylight,abbreviation,old_instant,old_offset,old_daylight,old_abbreviation\n";
+            let mut line =
+                *b"zone,local,instant,offset,daylight,abbreviation,old_instant,old_offset,old_daylight,old_abbreviation\n";
             write_line(writer, layout, &mut line)
         }
-        (Style::Iso, TimeFrom::Count | TimeFrom::Rfc3339) => {
-            let mut line = *b"zone,instant,local,daylight,abbreviation,old_local,old_daylight,old_abbreviation\n";
+        (Style::Iso, TimeFrom::Count) => {
+            let mut line =
+                *b"zone,instant,local,daylight,abbreviation,old_local,old_daylight,old_abbreviation\n";
+            write_line(writer, layout, &mut line)
+        }
+        (Style::Iso, TimeFrom::Rfc3339) => {
+            let mut line =
+                *b"zone,instant,local,daylight,abbreviation,old_local,old_daylight,old_abbreviation\n";
             write_line(writer, layout, &mut line)
         }
         (Style::Iso, TimeFrom::Local(_)) => {
-            let mut line = *b"zone,local,instant,time,daylight,abbreviation,old_instant,old_time,old_daylight,old_abbreviation\n";
+            let mut line =
+                *b"zone,local,instant,time,daylight,abbreviation,old_instant,old_time,old_daylight,old_abbreviation\n";
             write_line(writer, layout, &mut line)
         }
     }

@@ -1,10 +1,9 @@
 -- The records of a round, in pieces.
-use Rattle.std.specs.Prelude.{◌≡◌, ℕ, ◌+◌, ◌*◌, ◌≤◌, Bool, true, List, [], ◌∷◌, ◌++◌, length, slice_get, Option, Some, None, IsSome, IfSome, Result, Ok, Err}
+use Rattle.std.specs.Prelude.{◌≡◌, ℕ, ◌+◌, ◌*◌, ◌≤◌, Bool, true, List, [], ◌∷◌, length, slice_get, None, IsSome, IfSome, Result, Ok, Err}
 use Rattle.zic_columns.specs.Round.{ArePiecesOf}
 use Rattle.zic_columns.specs.declared.pieces.TheConstants.{MAX_ROUND_PIECES}
 use Rattle.zic_zones.specs.declared.releases.Releases.{Releases}
 use Rattle.zic_plan.specs.declared.layout.Layout.{Layout}
-use Rattle.zic_base.specs.declared.row_fault.RowKind.{RowKind}
 use Rattle.zic_plan.specs.declared.plan.TheConstants.{MAX_OF_PIECE, MAX_ROWS}
 use Rattle.zic_layout_rows.specs.PieceRows.{AreRowsOf, RowsOf, csv_records_in}
 use Rattle.zic_layout_rows.specs.code.Row.{followed_by}
