@@ -11,7 +11,7 @@ _pzic_zones() {
             find -L "$word/" -type f -printf '%P\n' 2>/dev/null
             return
             ;;
-        --zone | --faults | --rejects) ;;
+        --zone | --faults | --rejects | --against | --against-tree) ;;
         *) [ ! -f "$word" ] || source=$word ;;
         esac
     done
@@ -32,7 +32,7 @@ _pzic() {
     verify) options='--strict --workers --zone-piece --explain --help' ;;
     build) options='--links --sync --release --tables --workers --zone-piece --explain --help' ;;
     diff) options='--trees --from --to --ignore --summary --now --show-release --workers --zone-piece --explain --help' ;;
-    convert) options='--workers --zone-piece --row-piece --max-rows --max-bytes --max-record --tree --header --skip-header --zone --zone-field --time-field --delimiter --unit --from --ambiguous --style --records --append --keep-going --faults --rejects --max-faults --progress --show-release --explain --help' ;;
+    convert) options='--workers --zone-piece --row-piece --max-rows --max-bytes --max-record --tree --against --against-tree --header --skip-header --zone --zone-field --time-field --delimiter --unit --from --ambiguous --style --records --append --keep-going --faults --faults-with --rejects --max-faults --progress --show-release --explain --help' ;;
     show) options='--local --explain --help' ;;
     dump) options='--from --to --explain --help' ;;
     explain)
@@ -87,7 +87,12 @@ _pzic() {
         COMPREPLY=($(compgen -W 'reject earlier later compatible' -- "$current"))
         return
         ;;
-    --tree | --tables)
+    --faults-with)
+        # shellcheck disable=SC2207
+        COMPREPLY=($(compgen -W 'line value line,value' -- "$current"))
+        return
+        ;;
+    --tree | --against-tree | --tables)
         # shellcheck disable=SC2207
         COMPREPLY=($(compgen -d -- "$current"))
         return

@@ -3,7 +3,7 @@
 use crate::commands::commands;
 use crate::fields::{FieldNames, FieldWords};
 use crate::instant::{parse_instant_word, parse_local_word};
-use crate::layout::{layout, max_faults};
+use crate::layout::{fault_fields, layout, max_faults};
 use crate::no_request::NoRequest;
 use crate::release::is_release;
 use clap::error::ErrorKind;
@@ -16,6 +16,7 @@ use zic_base::STANDARD_INPUT;
 use zic_compare::Compared;
 use zic_dump::Years;
 use zic_explain::{Unexplained, entries, explanation, index, shown_word};
+use zic_io::FaultFields;
 use zic_local::LocalTime;
 use zic_plan::{Layout, Plan};
 
@@ -144,6 +145,8 @@ pub enum Zones {
 #[derive(Debug, Drop)]
 pub struct Conversion {
     pub zones: Zones,
+    /// Where the zones come from that rows are compared with, if they are.
+    pub against: Option<Zones>,
     pub plan: Plan,
     /// How the column is read, and what its rows are.
     pub layout: Layout,
@@ -151,6 +154,8 @@ pub struct Conversion {
     pub names: FieldNames,
     /// The path of the file for the faults of rows, if there is one.
     pub faults: Option<String>,
+    /// Which fields a line of that file has after the number of the row and the name of the fault.
+    pub fault_fields: FaultFields,
     /// The path of the file for the records of these rows, if they are put aside.
     pub rejects: Option<String>,
     /// The most rows with a fault after which a run goes on, where that is limited.
@@ -421,15 +426,18 @@ fn links_of(alloc: Global, matches: &ArgMatches<'_>) -> Result<Links, NoRequest>
 
 fn convert(alloc: Global, matches: &ArgMatches<'_>) -> Result<Request, NoRequest> {
     let zones = zones_of(alloc, matches)?;
+    let against = against(alloc, matches)?;
     let plan = column_plan(alloc, matches)?;
     let fields = FieldWords::of(alloc, matches)?;
     let layout = layout(alloc, matches, &fields)?;
     Ok(Request::Convert(Conversion {
         zones,
+        against,
         plan,
         layout,
         names: fields.names(),
         faults: optional(alloc, matches, "faults")?,
+        fault_fields: fault_fields(alloc, matches)?,
         rejects: optional(alloc, matches, "rejects")?,
         max_faults: max_faults(alloc, matches)?,
         progress: matches.get_flag("progress"),
@@ -449,6 +457,22 @@ fn zones_of(alloc: Global, matches: &ArgMatches<'_>) -> Result<Zones, NoRequest>
         (Some(_), Some(_)) => Err(usage(
             alloc,
             "--tree is given in place of SOURCE, not beside it",
+        )),
+    }
+}
+
+/// Returns where the zones come from that rows are compared with, if they are.
+fn against(alloc: Global, matches: &ArgMatches<'_>) -> Result<Option<Zones>, NoRequest> {
+    match (matches.get_str("against"), matches.get_str("against-tree")) {
+        (Some(STANDARD_INPUT), None) => {
+            Err(usage(alloc, "standard input is the column, so OLD can't be -"))
+        }
+        (Some(source), None) => Ok(Some(Zones::Source(String::from_str(alloc, source)?))),
+        (None, Some(folder)) => Ok(Some(Zones::Tree(String::from_str(alloc, folder)?))),
+        (None, None) => Ok(None),
+        (Some(_), Some(_)) => Err(usage(
+            alloc,
+            "--against-tree is given in place of --against, not beside it",
         )),
     }
 }

@@ -32,6 +32,9 @@ const CHOICE_WORDS: [&str; 4] = ["reject", "earlier", "later", "compatible"];
 /// The words for how a row has its local time and its UT offset.
 const STYLE_WORDS: [&str; 2] = ["fields", "iso"];
 
+/// The words for what the list of faults has of each besides its row and its name.
+const DETAIL_WORDS: [&str; 3] = ["line", "value", "line,value"];
+
 /// The words for what a record is.
 const RECORD_WORDS: [&str; 2] = ["csv", "lines"];
 
@@ -59,6 +62,10 @@ enum Form {
     Path,
     /// An option that is the path of a folder.
     Folder,
+    /// An option that is the path of an older source.
+    Old,
+    /// An option that is one of `DETAIL_WORDS`.
+    Details,
     /// An option that is the name of a release.
     Release,
     /// An option that says what stands between fields, a comma by default.
@@ -122,7 +129,7 @@ const WORKERS: Word = Word {
 
 const ZONE_PIECE: Word = Word {
     name: "zone-piece",
-    help: "Zones a thread takes at once, 1 to 65536",
+    help: "Zones a thread takes, 1 to 65536",
     form: Form::Number(Number {
         label: "N",
         default: "16",
@@ -266,7 +273,7 @@ static DIFF: [Word; 12] = [
     EXPLAIN,
 ];
 
-static CONVERT: [Word; 27] = [
+static CONVERT: [Word; 30] = [
     Word {
         name: "SOURCE",
         help: "A file of Rule, Zone and Link lines",
@@ -277,11 +284,21 @@ static CONVERT: [Word; 27] = [
         help: "A folder of TZif files, in place of SOURCE",
         form: Form::Folder,
     },
+    Word {
+        name: "against",
+        help: "Writes only rows that OLD, a source, has otherwise",
+        form: Form::Old,
+    },
+    Word {
+        name: "against-tree",
+        help: "The same by a folder of TZif files",
+        form: Form::Folder,
+    },
     WORKERS,
     ZONE_PIECE,
     Word {
         name: "row-piece",
-        help: "Rows a thread takes at once, 1 to 65536",
+        help: "Rows a thread takes, 1 to 65536",
         form: Form::Number(Number {
             label: "N",
             default: "1024",
@@ -291,7 +308,7 @@ static CONVERT: [Word; 27] = [
     },
     Word {
         name: "max-rows",
-        help: "The most rows, up to 100000000",
+        help: "Most rows, up to 100000000",
         form: Form::Number(Number {
             label: "N",
             default: "100000000",
@@ -301,7 +318,7 @@ static CONVERT: [Word; 27] = [
     },
     Word {
         name: "max-bytes",
-        help: "The most bytes, up to 4294967296",
+        help: "Most bytes, up to 4294967296",
         form: Form::Number(Number {
             label: "N",
             default: "4294967296",
@@ -311,32 +328,32 @@ static CONVERT: [Word; 27] = [
     },
     Word {
         name: "max-record",
-        help: "The most bytes of a record, up to 4294967296",
+        help: "Most bytes of a record, up to 4294967296",
         form: Form::Bytes,
     },
     Word {
         name: "header",
-        help: "Takes the first record for a header, and writes one",
+        help: "Takes the first record for a header, writes one",
         form: Form::Flag,
     },
     Word {
         name: "skip-header",
-        help: "Takes the first record for a header, and writes none",
+        help: "Takes the first record for a header, writes none",
         form: Form::Flag,
     },
     Word {
         name: "zone",
-        help: "The zone of all rows, in place of a field",
+        help: "Zone of all rows, in place of a field",
         form: Form::Zone,
     },
     Word {
         name: "zone-field",
-        help: "The field of the zone: from 1, or its name [default: 1]",
+        help: "Field of the zone: number or name [default: 1]",
         form: Form::Field,
     },
     Word {
         name: "time-field",
-        help: "The field of the time [default: 2, or 1 with --zone]",
+        help: "Field of the time [default: 2, or 1 with --zone]",
         form: Form::Field,
     },
     Word {
@@ -351,17 +368,17 @@ static CONVERT: [Word; 27] = [
     },
     Word {
         name: "from",
-        help: "Form of times: count, rfc3339 or local",
+        help: "Times: count, rfc3339 or local",
         form: Form::Time,
     },
     Word {
         name: "ambiguous",
-        help: "Of local times: reject, earlier, later or compatible",
+        help: "Local times: reject, earlier, later, compatible",
         form: Form::Choice,
     },
     Word {
         name: "style",
-        help: "Form of local time: fields or iso",
+        help: "Local time: fields or iso",
         form: Form::Style,
     },
     Word {
@@ -385,13 +402,18 @@ static CONVERT: [Word; 27] = [
         form: Form::Path,
     },
     Word {
+        name: "faults-with",
+        help: "Adds to each of these: line, value or line,value",
+        form: Form::Details,
+    },
+    Word {
         name: "rejects",
         help: "Where --keep-going puts the records of these rows",
         form: Form::Path,
     },
     Word {
         name: "max-faults",
-        help: "The most of these rows after which the run goes on",
+        help: "Most of these rows after which the run goes on",
         form: Form::Rows,
     },
     Word {
@@ -477,7 +499,7 @@ static COMMANDS: [Described; 8] = [
     Described {
         name: "convert",
         about: "Converts lines NAME,SECONDS of standard input to local time",
-        after: "Each row is NAME,SECONDS,LOCAL TIME,OFFSET,DAYLIGHT,ABBREVIATION.\n\nExample:\n  echo Europe/Dublin,0 | pzic convert /usr/share/zoneinfo/tzdata.zi\n  echo Europe/Dublin,0 | pzic convert --tree /usr/share/zoneinfo",
+        after: "Each row is NAME,SECONDS,LOCAL TIME,OFFSET,DAYLIGHT,ABBREVIATION.\n\nExample:\n  echo Europe/Dublin,0 | pzic convert /usr/share/zoneinfo/tzdata.zi\n  echo Europe/Dublin,0 | pzic convert --tree /usr/share/zoneinfo\n  pzic convert --against old/tzdata.zi new/tzdata.zi <column",
     },
     Described {
         name: "show",
@@ -584,6 +606,8 @@ fn option<'a>(argument: Arg<'a>, form: &'a Form) -> Arg<'a> {
         Form::Zone => argument.value_name("NAME"),
         Form::Path => argument.value_name("FILE"),
         Form::Folder => argument.value_name("DIR"),
+        Form::Old => argument.value_name("OLD"),
+        Form::Details => choice(argument.value_name("WHAT"), &DETAIL_WORDS),
         Form::Release => argument.value_name("NAME"),
         Form::Delimiter => argument.value_name("C").default_value(","),
         Form::Field => argument.value_name("F"),

@@ -5,6 +5,7 @@ use crate::fields::{FieldWord, FieldWords};
 use crate::no_request::NoRequest;
 use clap::ArgMatches;
 use std::alloc::Global;
+use zic_io::FaultFields;
 use zic_plan::{
     AtFault, Delimiter, Disambiguation, FieldCount, Header, Layout, Notes, Records, RowStart,
     Style, TimeFrom, Unit, Written, ZoneFrom,
@@ -53,9 +54,9 @@ pub(crate) fn layout(
         max_record: matches.get_one::<u64>("max-record"),
         start,
         style,
-        written: Written::All,
+        written: written(matches),
         at_fault,
-        notes: Notes::Faults,
+        notes: notes(matches),
     })
 }
 
@@ -150,6 +151,48 @@ fn at_fault(alloc: Global, matches: &ArgMatches<'_>) -> Result<AtFault, NoReques
         (false, _, true) => Err(usage(alloc, "--rejects has no meaning without --keep-going")),
         (false, false, false) => Ok(AtFault::End),
     }
+}
+
+/// Returns which rows are written.
+fn written(matches: &ArgMatches<'_>) -> Written {
+    if matches.get_str("against").is_some() || matches.get_str("against-tree").is_some() {
+        Written::Moved
+    } else {
+        Written::All
+    }
+}
+
+/// Returns what is noted of a row with a fault.
+fn notes(matches: &ArgMatches<'_>) -> Notes {
+    if matches.get_str("faults-with").is_some() {
+        Notes::Details
+    } else {
+        Notes::Faults
+    }
+}
+
+/// Returns which fields a line of the list of faults has after the number of the row and the name of
+/// the fault.
+///
+/// # Errors
+///
+/// The text of usage where there is no such list, or memory ran out.
+pub(crate) fn fault_fields(
+    alloc: Global,
+    matches: &ArgMatches<'_>,
+) -> Result<FaultFields, NoRequest> {
+    let word = matches.get_str("faults-with");
+    if word.is_some() && matches.get_str("faults").is_none() {
+        return Err(usage(alloc, "--faults-with has no meaning without --faults"));
+    }
+    let (line, value) = match word {
+        None => (false, false),
+        Some("line") => (true, false),
+        Some("value") => (false, true),
+        Some("line,value") => (true, true),
+        Some(_) => return Err(usage(alloc, "--faults-with is line, value or line,value")),
+    };
+    Ok(FaultFields { line, value })
 }
 
 /// Returns the most rows with a fault after which a run goes on, where that is limited.

@@ -1,26 +1,37 @@
 -- The rows with a fault that a list has noted, the lines of their faults in its file, and their records in another.
-use Rattle.std.specs.Prelude.{◌≡◌, ◌<◌, ℕ, codes, decimal, List, [], ◌∷◌, ◌++◌, Option, None, Some, IfSome, MatchOption, flat_map, is_some, option_map}
+use Rattle.std.specs.Prelude.{◌≡◌, ◌⊎◌, ◌<◌, ℕ, Bool, codes, decimal, List, [], ◌∷◌, ◌++◌, Option, None, Some, IfSome, MatchOption, if◌then◌else◌, is_some, option_map}
 use Rattle.std.specs.Io.KnownBytes.{Appends}
 use Rattle.zic_counted.specs.Counts.{Counts}
 use Rattle.zic_base.specs.RowFault.{row_kind_word}
 use Rattle.zic_base.specs.declared.row_fault.RowFault.{RowFault}
 use Rattle.zic_plan.specs.Noted.{RowNote}
+use Rattle.zic_io.specs.declared.fault_line.FaultFields.{FaultFields}
 
 -- the fault of a row that was noted, where there is one
 abbrev pub fault_of : Option RowNote → Option RowFault
 fault_of noted = option_map (λ (n : RowNote). n.fault) noted
 
--- the line of a fault: the number of its row, a comma and its name
-abbrev pub fault_line : RowFault → List ℕ
-fault_line fault = decimal fault.row ++ codes "," ++ row_kind_word fault.kind ++ codes "\n"
+-- a comma and a field, where it is requested
+abbrev pub field_if : Bool → List ℕ → List ℕ
+field_if requested field = if requested then codes "," ++ field else []
 
--- the lines of faults, in order
-abbrev pub faults_text : List RowNote → List ℕ
-faults_text noted = flat_map (λ (n : RowNote). fault_line n.fault) noted
+-- the line of a fault: the number of its row, a comma, its name, and the requested fields, each after a comma
+abbrev pub fault_line : FaultFields → RowFault → List ℕ → List ℕ → List ℕ
+fault_line fields fault line value =
+    decimal fault.row ++ codes "," ++ row_kind_word fault.kind ++ field_if fields.line line ++ field_if fields.value value ++ codes "\n"
 
--- the records that were put aside, in order: of each its own bytes and a newline
-abbrev pub rejects_text : List RowNote → List ℕ
-rejects_text noted = flat_map (λ (n : RowNote). n.own ++ 10 ∷ []) noted
+-- the line of a fault that was noted, where what the requested fields have is left open
+abbrev pub IsFaultLine : FaultFields → RowNote → List ℕ → Type 0
+IsFaultLine fields note text = (line : List ℕ) × (value : List ℕ) × (text ≡ fault_line fields note.fault line value)
+
+-- the line of a record that was put aside: its own bytes, and a line feed, or a carriage return and a line feed
+abbrev pub IsRecordLine : List ℕ → List ℕ → Type 0
+IsRecordLine own text = (text ≡ own ++ 10 ∷ []) ⊎ (text ≡ own ++ 13 ∷ 10 ∷ [])
+
+-- a text is a line for each row that was noted, in order
+abbrev pub AreLines : (RowNote → List ℕ → Type 0) → List RowNote → List ℕ → Type 0
+AreLines IsLine [] text = text ≡ []
+AreLines IsLine (note ∷ noted) text = (line : List ℕ) × (rest : List ℕ) × (text ≡ line ++ rest) × IsLine note line × AreLines IsLine noted rest
 
 -- A file, if there is one, with the count of its failed writes and flushes, and what it held before the first line of the list, where that
 -- is known. Before records that are put aside stands the header too.
@@ -28,8 +39,10 @@ pub record ListNotes (W : Type 0) : Type 0 where
   pub file : Option (Counts W)
   pub start : Option (List ℕ)
 
--- the rows with a fault that were noted, the file for the lines of their faults, and that for their records
+-- which fields a line has besides the number and the name of a fault, the rows with a fault that were noted, the file for the lines of
+-- their faults, and that for their records
 pub record FaultNotes (W : Type 0) : Type 0 where
+  pub fields : FaultFields
   pub noted : List RowNote
   pub faults : ListNotes W
   pub rejects : ListNotes W
@@ -51,13 +64,17 @@ list_for contents file = record { file = option_map unwritten file; start = held
 abbrev pub HasText : {W : Type 0} → (W → Option (List ℕ)) → Option (List ℕ) → Option (Counts W) → List ℕ → Type 0
 HasText contents start file text = IfSome file (λ f. Appends start (contents f.inner) text)
 
+-- what the file of a list holds grew by just a line for each row that was noted
+abbrev pub HasLinesFor : {W : Type 0} → (W → Option (List ℕ)) → (RowNote → List ℕ → Type 0) → List RowNote → ListNotes W → Type 0
+HasLinesFor contents IsLine noted list = (text : List ℕ) × AreLines IsLine noted text × HasText contents list.start list.file text
+
 -- what the file of faults holds grew by the lines of just the faults that were noted
 abbrev pub HasLines : {W : Type 0} → (W → Option (List ℕ)) → FaultNotes W → Type 0
-HasLines contents notes = HasText contents notes.faults.start notes.faults.file (faults_text notes.noted)
+HasLines contents notes = HasLinesFor contents (IsFaultLine notes.fields) notes.noted notes.faults
 
 -- what the file of records holds grew by the lines of just the records that were put aside
 abbrev pub HasRejects : {W : Type 0} → (W → Option (List ℕ)) → FaultNotes W → Type 0
-HasRejects contents notes = HasText contents notes.rejects.start notes.rejects.file (rejects_text notes.noted)
+HasRejects contents notes = HasLinesFor contents (λ note. IsRecordLine note.own) notes.noted notes.rejects
 
 -- there is a file, and a failure of it was counted
 abbrev pub HasFailed : {W : Type 0} → Option (Counts W) → Type 0

@@ -1,22 +1,22 @@
 //! The faults of rows, where a run goes on after them.
 
-ghost use Rattle.std.specs.Prelude.{◌≡◌, ◌++◌, ◌∷◌, [], List, Option, is_some, ℕ};
-ghost use Rattle.zic_io.specs.Faults.{fault_line};
-ghost use Rattle.zic_io.specs.code.FaultList.{IsFileOf};
+ghost use Rattle.std.specs.Prelude.{◌≡◌};
 
+use crate::fault_line::{FaultFields, push_fault, push_record};
 use crate::list_output::ListOutput;
 use crate::noted::Noted;
-use itoa::Buffer;
 use std::io::Write;
 use std::marker::Model;
 use zic_base::RowFault;
-use zic_plan::{FaultyRow, RowLog};
+use zic_plan::{FaultyRow, LineEnd, RowLog};
 
 /// Takes note of rows with a fault: counts them, keeps the first fault, and writes each into two files,
-/// where there are such. Into the one goes the number of the row and the name of the fault, with a
-/// comma between them, and into the other the record, each with a newline.
+/// where there are such. Into the one goes a line with the number of the row, the name of the fault
+/// and the requested fields, with commas between them, and into the other the record with its own
+/// line end.
 #[derive(Drop)]
 pub struct FaultList<W: Write> {
+    fields: FaultFields,
     first: Option<RowFault>,
     count: u64,
     /// Whether a row was noted that the files may hold back.
@@ -30,17 +30,18 @@ pub struct FaultList<W: Write> {
 }
 
 impl<W: Write> Model for FaultList<W> {
-    ghost use Rattle.zic_io.specs.Faults.{FaultNotes, faults_text, rejects_text};
-    ghost use Rattle.zic_io.specs.code.FaultList.{list_of, notes_of, AreFieldsOf, IsFileOf};
+    ghost use Rattle.zic_io.specs.Faults.{FaultNotes, IsFaultLine, IsRecordLine};
+    ghost use Rattle.zic_io.specs.code.FaultList.{list_of, notes_of, AreFieldsOf, IsFileFor};
 
     ghost Value = { FaultNotes W };
 
-    ghost view = { λ l. notes_of l.noted.faults (list_of l.noted.start l.faults)
+    ghost view = { λ l. notes_of l.fields l.noted.faults (list_of l.noted.start l.faults)
         (list_of l.held.start l.rejects) };
 
     ghost invariant = { λ l. AreFieldsOf l.noted.faults l.first l.count
-        × IsFileOf W.contents l.noted.start (faults_text l.noted.faults) l.faults
-        × IsFileOf W.contents l.held.start (rejects_text l.noted.faults) l.rejects };
+        × IsFileFor W.contents (IsFaultLine l.fields) l.noted.faults l.noted.start l.faults
+        × IsFileFor W.contents (λ note. IsRecordLine note.own) l.noted.faults l.held.start
+        l.rejects };
 }
 
 impl<W: Write> FaultList<W> {
@@ -48,9 +49,11 @@ impl<W: Write> FaultList<W> {
     ghost use Rattle.zic_counted.specs.Counts.{Counts};
     ghost use Rattle.zic_io.specs.Faults.{fault_of, list_for, HasFailed, HasLines, HasRejects, IsSameList};
 
-    /// Returns a list without rows, with a file for faults and one for records.
-    pub fn new(faults: Option<W>, rejects: Option<W>) -> FaultList<W>
+    /// Returns a list without rows, with a file for faults and one for records, and these fields in the
+    /// lines of faults.
+    pub fn new(faults: Option<W>, rejects: Option<W>, fields: FaultFields) -> FaultList<W>
         ensures { result ≡ record {
+          fields = fields;
           noted = [];
           faults = list_for W.contents faults;
           rejects = list_for W.contents rejects;
@@ -59,6 +62,7 @@ impl<W: Write> FaultList<W> {
         let noted = Noted::new(&faults);
         let held = Noted::new(&rejects);
         FaultList {
+            fields,
             first: None,
             count: 0,
             holds_back: false,
@@ -89,6 +93,7 @@ impl<W: Write> FaultList<W> {
         ensures lines { IsTrue result → HasLines W.contents self.new }
         ensures failed { IsFalse result → HasFailed self.new.faults.file }
         ensures noted { self.new.noted ≡ self.old.noted }
+        ensures fields { self.new.fields ≡ self.old.fields }
         ensures faults { IsSameList self.old.faults self.new.faults }
         ensures rejects { self.new.rejects ≡ self.old.rejects }
     {
@@ -101,6 +106,7 @@ impl<W: Write> FaultList<W> {
         ensures rejected { IsTrue result → HasRejects W.contents self.new }
         ensures failed { IsFalse result → HasFailed self.new.rejects.file }
         ensures noted { self.new.noted ≡ self.old.noted }
+        ensures fields { self.new.fields ≡ self.old.fields }
         ensures rejects { IsSameList self.old.rejects self.new.rejects }
         ensures faults { self.new.faults ≡ self.old.faults }
     {
@@ -124,18 +130,20 @@ impl<W: Write> RowLog for FaultList<W> {
 
     fn begin(&mut self, header: &[u8])
         ensures keeps { Some self.new.noted ≡ Some self.old.noted }
+        ensures fields { self.new.fields ≡ self.old.fields }
         ensures faults { self.new.faults ≡ self.old.faults }
         ensures file { is_some self.new.rejects.file ≡ is_some self.old.rejects.file }
     {
         if self.first.is_some() || header.is_empty() {
             return;
         }
-        push_record(&mut self.rejects, header);
+        push_record(&mut self.rejects, header, LineEnd::Lf);
         self.held = Noted::new(&self.rejects);
     }
 
     fn note(&mut self, row: &FaultyRow)
         ensures adds { Some self.new.noted ≡ Some (self.old.noted ++ row.now ∷ []) }
+        ensures fields { self.new.fields ≡ self.old.fields }
         ensures faults { IsSameList self.old.faults self.new.faults }
         ensures rejects { IsSameList self.old.rejects self.new.rejects }
     {
@@ -143,12 +151,13 @@ impl<W: Write> RowLog for FaultList<W> {
         self.count = self.count.saturating_add(1);
         self.holds_back = true;
         self.noted = self.noted.and(row);
-        push_fault(&mut self.faults, row.fault);
-        push_record(&mut self.rejects, &row.own);
+        push_fault(&mut self.faults, self.fields, row);
+        push_record(&mut self.rejects, &row.own, row.line_end);
     }
 
     fn flush(&mut self)
         ensures keeps { Some self.new.noted ≡ Some self.old.noted }
+        ensures fields { self.new.fields ≡ self.old.fields }
         ensures faults { IsSameList self.old.faults self.new.faults }
         ensures rejects { IsSameList self.old.rejects self.new.rejects }
     {
@@ -158,26 +167,4 @@ impl<W: Write> RowLog for FaultList<W> {
             self.holds_back = false;
         }
     }
-}
-
-/// Adds the line of a fault.
-fn push_fault<W: Write>(list: &mut ListOutput<W>, fault: RowFault)
-    ensures grows { (start : Option (List ℕ)) (before : List ℕ) → IsFileOf W.contents start before list.old
-        → IsFileOf W.contents start (before ++ fault_line fault) list.new }
-    ensures file { is_some list.new.file ≡ is_some list.old.file }
-{
-    list.push(Buffer::new().format(fault.row).as_bytes());
-    list.push(b",");
-    list.push(fault.kind.name().as_bytes());
-    list.push(b"\n");
-}
-
-/// Adds the line of a record, by its own bytes.
-fn push_record<W: Write>(list: &mut ListOutput<W>, own: &[u8])
-    ensures grows { (start : Option (List ℕ)) (before : List ℕ) → IsFileOf W.contents start before list.old
-        → IsFileOf W.contents start (before ++ (own.now ++ 10 ∷ [])) list.new }
-    ensures file { is_some list.new.file ≡ is_some list.old.file }
-{
-    list.push(own);
-    list.push(b"\n");
 }

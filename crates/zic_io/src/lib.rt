@@ -4,6 +4,7 @@
 #![tactic(auto)]
 
 mod failure;
+mod fault_line;
 mod fault_list;
 mod input;
 mod link_kind;
@@ -17,6 +18,7 @@ mod tree;
 mod zone_folder;
 
 pub use failure::{Failure, run_failure, unknown_zone};
+pub use fault_line::FaultFields;
 pub use fault_list::FaultList;
 pub use input::{MAX_SOURCE, read_file_bytes, read_source_text};
 pub use link_kind::{LinkKind, LinkedFolder};

@@ -13,7 +13,7 @@ use std::thread::Threads;
 use std::time::{Clock, Duration};
 use zic_commands::*;
 use zic_counted::Counted;
-use zic_io::FaultList;
+use zic_io::{FaultFields, FaultList};
 use zic_pieces::Open;
 use zic_plan::{AtFault, Disambiguation, Header, Layout, TimeFrom, Unnoted, Written};
 
@@ -58,6 +58,12 @@ fn convert_tells_that_rows_are_not_written_and_flushes_also_without_rows(rt: Hos
     }
 }
 
+/// No fields of faults besides row and name.
+const NO_FIELDS: FaultFields = FaultFields {
+    line: false,
+    value: false,
+};
+
 /// A column with two faults.
 const FAULTY: &[u8] = b"Etc/UTC,0\nNo/Such,0\nEtc/UTC,x\n";
 
@@ -94,7 +100,7 @@ fn converted_to_a_failed_read<T: Threads + Wait + Sync + Abort>(
 fn rows_and_faults_before_a_failed_read_end_at_the_same_row(rt: HostRuntime) {
     let mut rows = Counted::new(Vec::new(rt.alloc()));
     let mut file = Vec::new(rt.alloc());
-    let mut list = FaultList::new(Some(&mut file), None);
+    let mut list = FaultList::new(Some(&mut file), None, NO_FIELDS);
     let answer = converted_to_a_failed_read(&rt, rt.alloc(), &mut rows, &mut list);
     expect_reported(&rt, rt.alloc(), answer, "cannot read column, status 3");
     expect(&rt, list.count() == 2 && list.finish_faults(), "two faults");

@@ -1,10 +1,10 @@
-use Rattle.std.proofs.Common.{◌+◌, ◌-◌, ◌^◌, ◌≡◌, ◌∙◌, ◌++◌, ◌∷◌, [], ℕ, List, Option, Some, length, min, slice_get, ap, subst, sym}
+use Rattle.std.proofs.Common.{◌+◌, ◌-◌, ◌^◌, ◌≡◌, ◌∙◌, ℕ, List, Option, Some, length, min, slice_get, ap, subst, sym}
 use Rattle.std.specs.Option.{option_or}
 use Rattle.zic_base.specs.declared.row_fault.RowFault.{RowFault}
 use Rattle.zic_plan.specs.Noted.{RowNote}
-use Rattle.zic_io.specs.Faults.{fault_line, fault_of, faults_text, rejects_text}
-use Rattle.zic_io.specs.code.FaultList.{IsFileOf}
-use Rattle.zic_io.proofs.FaultLemmas.{count_rises, faults_grow, first_stays, rejects_grow}
+use Rattle.zic_io.specs.Faults.{IsFaultLine, IsRecordLine, fault_of}
+use Rattle.zic_io.specs.code.FaultList.{Gets}
+use Rattle.zic_io.proofs.FaultLemmas.{count_rises, file_grows, first_stays}
 use Rattle.zic_io.proofs.fault_list.FaultListRowLog.note.Goals as goal
 
 pub invariant_of-self : goal.invariant_of-self
@@ -17,8 +17,10 @@ invariant_of-self g c =
     let own : c.row.inside.own.items ≡ row.own = ap (λ (r : RowNote). r.own) c.row.view_is in
     let more = c.and-self-inside.ensures.0 in
     let same = c.and-self-inside.ensures.1 in
-    let line = ap (λ (f : RowFault). faults_text noted ++ fault_line f) fault ∙ faults_grow noted row in
-    let reject = ap (λ (o : List ℕ). rejects_text noted ++ (o ++ 10 ∷ [])) (c.deref.ensures.value ∙ own) ∙ rejects_grow noted row in (
+    let reject = c.push_record.new.list in
+    let of_own = subst (λ (o : List ℕ). (line : List ℕ) × IsRecordLine o line × Gets contents line old.rejects reject) (c.deref.ensures.value ∙ own) c.push_record.ensures.grows in
+    let faults = file_grows contents (IsFaultLine old.fields) noted row old.noted.start old.faults c.push_fault.new.list c.self.invariant.1 c.push_fault.ensures.grows in
+    let rejects = file_grows contents (λ (n : RowNote). IsRecordLine n.own) noted row old.held.start old.rejects reject c.self.invariant.2 of_own in (
       record {
         is_first =
             c.or-self-inside.ensures ∙ ap (λ (f : Option RowFault). option_or f (Some c.row.inside.fault)) c.self.invariant.0.is_first
@@ -27,6 +29,6 @@ invariant_of-self g c =
             c.saturating_add-self-inside.ensures ∙ ap (λ (n : ℕ). min (n + 1) (2 ^ 64 - 1)) c.self.invariant.0.is_count ∙ count_rises noted row (2 ^ 64 - 1)
             ∙ ap (λ (l : List RowNote). min (length l) (2 ^ 64 - 1)) (sym more);
       },
-      rw same (rw more (subst (λ (t : List ℕ). IsFileOf contents old.noted.start t c.push_fault.new.list) line (c.push_fault.ensures.grows old.noted.start (faults_text noted) c.self.invariant.1))),
-      rw more (subst (λ (t : List ℕ). IsFileOf contents old.held.start t c.push_record.new.list) reject (c.push_record.ensures.grows old.held.start (rejects_text noted) c.self.invariant.2)),
+      rw (more, same) faults,
+      rw more rejects,
     )

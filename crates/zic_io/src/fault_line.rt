@@ -1,0 +1,117 @@
+//! The lines of lists of faults.
+
+ghost use Rattle.std.specs.Prelude.{◌≡◌, ◌∷◌, [], List, is_some, ℕ};
+ghost use Rattle.zic_io.specs.Faults.{IsFaultLine, IsRecordLine, field_if};
+ghost use Rattle.zic_io.specs.code.FaultList.{Gets};
+
+use crate::list_output::ListOutput;
+use itoa::Buffer;
+use std::io::Write;
+use zic_plan::{FaultyRow, LineEnd};
+
+/// Which fields the line of a fault has after the number of its row and the name of the fault.
+#[derive(Clone, Copy, Debug, PartialEq, Eq)]
+pub struct FaultFields {
+    /// The number of the line where the record begins.
+    pub line: bool,
+    /// The value at fault.
+    pub value: bool,
+}
+
+/// Adds the line of the fault of a row.
+pub(crate) fn push_fault<W: Write>(list: &mut ListOutput<W>, fields: FaultFields, row: &FaultyRow)
+    ensures grows { (line : List ℕ) × IsFaultLine fields row.now line
+        × Gets W.contents line list.old list.new }
+    ensures file { is_some list.new.file ≡ is_some list.old.file }
+{
+    list.push(Buffer::new().format(row.fault.row).as_bytes());
+    list.push(b",");
+    list.push(row.fault.kind.name().as_bytes());
+    push_line_number(list, fields, row);
+    push_value(list, fields, row);
+    list.push(b"\n");
+}
+
+/// Adds the number of the line where a record begins, as far as it is known, if it is requested.
+fn push_line_number<W: Write>(list: &mut ListOutput<W>, fields: FaultFields, row: &FaultyRow)
+    ensures grows { (line : List ℕ) × Gets W.contents (field_if fields.line line) list.old list.new }
+    ensures file { is_some list.new.file ≡ is_some list.old.file }
+{
+    if !fields.line {
+        return;
+    }
+    list.push(b",");
+    if let Some(detail) = &row.detail {
+        list.push(Buffer::new().format(detail.line).as_bytes());
+    }
+}
+
+/// Adds the value at fault, as far as it is known, as a field of CSV, if it is requested.
+fn push_value<W: Write>(list: &mut ListOutput<W>, fields: FaultFields, row: &FaultyRow)
+    ensures grows { (value : List ℕ)
+        × Gets W.contents (field_if fields.value value) list.old list.new }
+    ensures file { is_some list.new.file ≡ is_some list.old.file }
+{
+    if !fields.value {
+        return;
+    }
+    list.push(b",");
+    if let Some(detail) = &row.detail {
+        push_field(list, &detail.value);
+    }
+}
+
+/// Adds a field of CSV: between double quotes where it has a comma, a double quote or a line end. RFC
+/// 4180, 2.6.
+fn push_field<W: Write>(list: &mut ListOutput<W>, field: &[u8])
+    ensures grows { (text : List ℕ) × Gets W.contents text list.old list.new }
+    ensures file { is_some list.new.file ≡ is_some list.old.file }
+{
+    if field.iter().any(|byte| needs_quotes(*byte)) {
+        list.push(b"\"");
+        push_doubled(list, field);
+        list.push(b"\"");
+    } else {
+        list.push(field);
+    }
+}
+
+/// Returns whether a field with this byte stands between double quotes.
+fn needs_quotes(byte: u8) -> bool {
+    byte == b',' || byte == b'"' || byte == b'\n' || byte == b'\r'
+}
+
+/// Adds a field with each of its double quotes twice. RFC 4180, 2.7.
+fn push_doubled<W: Write>(list: &mut ListOutput<W>, field: &[u8])
+    ensures grows { (text : List ℕ) × Gets W.contents text list.old list.new }
+    ensures file { is_some list.new.file ≡ is_some list.old.file }
+{
+    for byte in field {
+        push_byte(list, *byte);
+    }
+}
+
+/// Adds a byte, or two double quotes for one.
+fn push_byte<W: Write>(list: &mut ListOutput<W>, byte: u8)
+    ensures grows { (text : List ℕ) × Gets W.contents text list.old list.new }
+    ensures file { is_some list.new.file ≡ is_some list.old.file }
+{
+    if byte == b'"' {
+        list.push(b"\"\"");
+    } else {
+        list.push(&[byte]);
+    }
+}
+
+/// Adds the line of a record, by its own bytes and the end of its line.
+pub(crate) fn push_record<W: Write>(list: &mut ListOutput<W>, own: &[u8], line_end: LineEnd)
+    ensures grows { (line : List ℕ) × IsRecordLine own.now line
+        × Gets W.contents line list.old list.new }
+    ensures file { is_some list.new.file ≡ is_some list.old.file }
+{
+    list.push(own);
+    match line_end {
+        LineEnd::Lf => list.push(b"\n"),
+        LineEnd::CrLf => list.push(b"\r\n"),
+    }
+}
