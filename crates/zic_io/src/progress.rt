@@ -69,9 +69,10 @@ impl RowEnds {
 /// another writer, if at all.
 ///
 /// The line has the number of rows that were written, and that of rows a second since the writer
-/// was made: `1048576 rows, 524288 rows a second`. What cannot be written of it is left out, and is no
-/// failure of the rows. A row ends with a line feed outside its quoted fields. A header before the
-/// rows is no row.
+/// was made: `1048576 rows, 524288 rows a second`. Where only some rows of a column are written, the
+/// last line has both numbers, `3 of 1048576 rows, 524288 rows a second`. What cannot be written of it
+/// is left out, and is no failure of the rows. A row ends with a line feed outside its quoted fields. A
+/// header before the rows is no row.
 #[derive(Drop)]
 pub struct Progress<'a, W, C, E> {
     inner: W,
@@ -121,13 +122,14 @@ impl<'a, W, C: Clock, E: Write> Progress<'a, W, C, E> {
         }
     }
 
-    /// Reports the rows for the last time, and ends the line. Where no write and no flush was
+    /// Reports the rows for the last time, and ends the line. Where only some of the rows of a column
+    /// are written, `all` is the number of those that were made. Where no write and no flush was
     /// requested, it reports nothing.
-    pub fn finish(&mut self)
+    pub fn finish(&mut self, all: Option<u64>)
         ensures { self.new ≡ self.old }
     {
         if let Some(rows) = self.rows {
-            self.tell(rows, self.elapsed());
+            self.tell(rows, all, self.elapsed());
             if let ProgressLine::Once(out) | ProgressLine::Anew(out) = &mut self.line {
                 let _ = out.write_all(b"\n");
             }
@@ -149,7 +151,7 @@ impl<'a, W, C: Clock, E: Write> Progress<'a, W, C, E> {
             let elapsed = self.elapsed();
             if self.next <= elapsed {
                 self.next = elapsed.saturating_add(Duration::from_millis(PERIOD));
-                self.tell(rows, elapsed);
+                self.tell(rows, None, elapsed);
             }
         }
     }
@@ -163,16 +165,25 @@ impl<'a, W, C: Clock, E: Write> Progress<'a, W, C, E> {
     }
 
     /// Writes the line, on a terminal in place of the one that it has.
-    fn tell(&mut self, rows: u64, elapsed: Duration)
+    fn tell(&mut self, rows: u64, all: Option<u64>, elapsed: Duration)
         ensures { self.new ≡ self.old }
     {
         let rows = rows.saturating_sub(self.header);
-        let rate = rows as u128 * 1000 / elapsed.as_millis().max(1);
-        let _ = match &mut self.line {
-            ProgressLine::Never => Ok(()),
-            ProgressLine::Once(out) => write!(out, "{rows} rows, {rate} rows a second"),
-            ProgressLine::Anew(out) => write!(out, "\r{rows} rows, {rate} rows a second\x1b[K"),
+        let made = all.unwrap_or(rows);
+        let rate = made as u128 * 1000 / elapsed.as_millis().max(1);
+        let (start, end) = match &self.line {
+            ProgressLine::Anew(_) => ("\r", "\x1b[K"),
+            ProgressLine::Once(_) | ProgressLine::Never => ("", ""),
         };
+        if let ProgressLine::Once(out) | ProgressLine::Anew(out) = &mut self.line {
+            let _ = match all {
+                None => write!(out, "{start}{rows} rows, {rate} rows a second{end}"),
+                Some(all) => write!(
+                    out,
+                    "{start}{rows} of {all} rows, {rate} rows a second{end}"
+                ),
+            };
+        }
     }
 }
 

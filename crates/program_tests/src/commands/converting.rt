@@ -215,7 +215,7 @@ fn are_taken<W: Write + Drop>(
     let clock = Quarters(Cell::new(1000));
     let mut progress = Progress::new(writer, &clock, line, has_header, Some(b','));
     let taken = write_each(&mut progress, rows);
-    progress.finish();
+    progress.finish(None);
     taken
 }
 
