@@ -9,6 +9,13 @@ PATH=$PATH:/usr/sbin
 # The system's release of the tz database.
 release=/usr/share/zoneinfo/tzdata.zi
 
+# changed: prints the release with other days of rules, an abbreviation of Irish time, local mean times by a second, a name
+# less and a name more.
+changed() {
+    sed -e 's/Su>=8/Su>=2/; s/^Z America\/Bogota /Z America\/Medellin /; s/ IST\/GMT/ IRS\/GMT/' \
+        -e 's/^\(Z E[^ ]* [^ ]*:[0-9]*:[0-9]\)[0-9] /\17 /' -e '/ America\/Bogota /d' "$release"
+}
+
 # build NAME WORD...: proves and builds a program once, by running it with these words and no input.
 build() {
     local name=$1

@@ -1,8 +1,8 @@
 #!/usr/bin/env bash
 # Converts columns of 100,000 rows over all zones of the release, and compares each row with zoneinfo and reader.py.
 # It converts by the source and by trees of its files, over the program's files and those of the system's zic, by each option for
-# other columns, and columns of lines with stray double quotes by Python's csv module. It compares what `show --local` prints near
-# changes with zoneinfo too, and rows of local times by each choice for gaps and folds, with zoneinfo and the kit's jiff.
+# other columns, also compared with another release, and columns of lines with stray double quotes by Python's csv module. It
+# compares what `show --local` prints near changes with zoneinfo too, and rows of local times by each choice for gaps and folds, with zoneinfo and the kit's jiff.
 # Needs: tzdata, zic
 set -euo pipefail
 cd "$(dirname "${BASH_SOURCE[0]}")/../.."
@@ -12,6 +12,8 @@ build zic_main check -
 build probe counts
 program=crates/zic_main/out/zic_main
 "$program" build "$work/ours" "$release"
+changed >"$work/old.zi"
+"$program" build "$work/old" "$work/old.zi"
 zic -b fat -d "$work/fat" "$release"
 zic -b slim -d "$work/slim" "$release"
 python3 tests/outside/columns.py "$program" "$release" "$work" | sed 's/^/columns: /'

@@ -15,9 +15,7 @@ summaries=$PWD/tests/outside/summaries.py
 pairs=$PWD/tests/outside/pairs.py
 cp "$release" "$work/old"
 cd "$work"
-# Days of rules, an abbreviation of Irish time, local mean times by a second, a name less and a name more.
-sed -e 's/Su>=8/Su>=2/; s/^Z America\/Bogota /Z America\/Medellin /; s/ IST\/GMT/ IRS\/GMT/' \
-    -e 's/^\(Z E[^ ]* [^ ]*:[0-9]*:[0-9]\)[0-9] /\17 /' -e '/ America\/Bogota /d' "$release" >new
+changed >new
 for source in old new; do
     "$program" build "$source.tree" "$source"
     "$program" diff "$source" "$source" >none

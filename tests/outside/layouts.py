@@ -4,10 +4,11 @@ and zoneinfo make of the same columns.
 
 usage: layouts.py PROGRAM SOURCE FOLDER
 
-FOLDER has the folder `ours` with our files of SOURCE. Each column has the same 100,000 random instants of a fixed seed over all zones and
+FOLDER has the folder `ours` with our files of SOURCE, and `old.zi`, another source, with its files in `old`. Each column has the same 100,000 random instants of a fixed seed over all zones and
 links, near transitions and elsewhere, counted in the unit of the column, and in one of a hundred records quotes round each field, with
 delimiters and line ends within the fields that aren't read. With --keep-going one of fifty records has a fault, the first and the last
-among them, and --faults lists them; with --max-faults the run ends after 700. With --from rfc3339 Python's datetime writes the instants, by
+among them, and --faults lists them, beside a second option with their lines and values; with --max-faults the run ends after 700. With
+--against the rows are those that zoneinfo shows differently by `old`. With --from rfc3339 Python's datetime writes the instants, by
 UT offsets at random, with a T or a space and without the zeros that end fractions. Each option is tried alone and with each other one, by 1
 and 4 workers. Prints a line for each, and the first differences; the status is 1 if there is one.
 """
@@ -26,12 +27,14 @@ import files
 from columns import FIRST, LAST, compare, file_of
 from rows import row
 
-# a column by some options, as text; its records, as they stand there (starts) and as names and instants; and the counts of instants
-Column = namedtuple("Column", "chosen delimiter digits text starts records counts")
+# a column by some options, as text; its records, as they stand there (starts) and as names and instants, the lines where they begin, and the
+# counts of instants
+Column = namedtuple("Column", "chosen delimiter digits text starts records lines counts")
 
 RECORDS = 100000
 MOST = 700                                                                              # faults after which a run goes on, in a second try
-NOWHERE = ["No,W\there", "No/Where", "Etc", "Etc/../Etc/UTC", "/Etc/UTC"]                # of no zone: some are paths of a tree
+# of no zone: some are paths of a tree, and one is that of a zone of `old`
+NOWHERE = ["No,W\there", "America/Medellin", "Etc", "Etc/../Etc/UTC", "/Etc/UTC"]
 FAULTY = [(NOWHERE, "0"), (["Etc/UTC"], '1,"5;\t'), None]                                # names and counts, or as they are
 UNITS = {"s": 0, "ms": 3, "us": 6, "ns": 9}
 OPTIONS = {
@@ -46,6 +49,7 @@ OPTIONS = {
     "header": ["--header"],
     "iso": ["--style", "iso"],
     "append": ["--append"],
+    "against": ["--against", "OLD"],
     "going": ["--keep-going", "--faults", "FILE"],
     "space": ["--delimiter", " "],
 }
@@ -76,11 +80,12 @@ def written(number, second, fraction, delimiter):
 
 
 def text_of(pairs, chosen, delimiter):
-    """the text of the column, and of each record as it stands there"""
-    text, records = io.StringIO(), []
+    """the text of the column, and of each record as it stands there, with the line where it begins"""
+    text, records, lines, line = io.StringIO(), [], [], 1
     if "header" in chosen:
         records.append('some' + delimiter + '"hea""der"')
         text.write(records[0] + "\n")
+        line += 1
     for number, (name, count) in enumerate(pairs):
         count, faulty = str(count), "going" in chosen and number % 50 in (0, 49)
         if faulty and FAULTY[number // 25 % 3]:
@@ -97,7 +102,9 @@ def text_of(pairs, chosen, delimiter):
             fields = ['"' + field.replace('"', '""') + '"' for field in fields]
         records.append(delimiter.join(fields))
         text.write(records[-1] + ("\r\n" if number % 7 == 0 else "\n"))
-    return text.getvalue(), records
+        lines.append(line)
+        line += records[-1].count("\n") + 1
+    return text.getvalue(), records, lines
 
 
 def records_of(text, chosen, delimiter):
@@ -121,10 +128,10 @@ def column_of(moments, chosen):
     instants = [str(count) for _, count in counts]
     if "rfc3339" in chosen:
         instants = [written(number, second, f"{nano:09}"[:digits], delimiter) for number, (_, second, nano) in enumerate(moments)]
-    text, starts = text_of([(name, instant) for (name, _), instant in zip(counts, instants)], chosen, delimiter)
+    text, starts, lines = text_of([(name, instant) for (name, _), instant in zip(counts, instants)], chosen, delimiter)
     values = {"0": 0} if "rfc3339" not in chosen else {}
     values |= dict(zip(instants, (count for _, count in counts)))
-    return Column(chosen, delimiter, digits, text, starts, list(records_of(text, chosen, delimiter)), values)
+    return Column(chosen, delimiter, digits, text, starts, list(records_of(text, chosen, delimiter)), lines, values)
 
 
 # ------------------------------------------------------------------ its rows
@@ -150,6 +157,19 @@ def fault_of(column, zones, name, instant):
     return "RowZone" if name not in zones else None if instant in column.counts else "RowInstant"
 
 
+def record_of(fields, delimiter=","):
+    """a record of these fields, as csv writes it"""
+    text = io.StringIO()
+    csv.writer(text, delimiter=delimiter).writerow(fields)
+    return text.getvalue().removesuffix("\r\n")
+
+
+def listed(column, number, fault, name, instant):
+    """a fault as --faults has it"""
+    value = {"RowZone": name, "RowInstant": instant, "RowFields": ""}[fault]
+    return record_of([number, fault, column.lines[number - 1], value] if has_details(column.chosen) else [number, fault])
+
+
 def faulty_row(column, name, count, start):
     """the row of a record with a fault"""
     if count is None:
@@ -157,9 +177,7 @@ def faulty_row(column, name, count, start):
     empty = 3 if "iso" in column.chosen else 4
     if "append" in column.chosen:
         return start + empty * column.delimiter
-    text = io.StringIO()
-    csv.writer(text, delimiter=column.delimiter).writerow([name, count, *empty * [""]])
-    return text.getvalue().removesuffix("\r\n")
+    return record_of([name, count, *empty * [""]], column.delimiter)
 
 
 def iso_offset(offset):
@@ -167,42 +185,67 @@ def iso_offset(offset):
     return offset[:-3] if offset.endswith(":00") else offset
 
 
-def row_by(column, zone, name, count, start):
-    """the row of a record without a fault"""
-    second, fraction = divmod(count, 10 ** column.digits)
-    local, *rest = rest_of(zone, second).split(",")
+def answer_by(column, zones, name, instant):
+    """what zones answer a record, each field after a delimiter; the fields are empty where they answer nothing"""
+    if instant not in column.counts or name not in zones:
+        return column.delimiter * (3 if "iso" in column.chosen else 4)
+    second, fraction = divmod(column.counts[instant], 10 ** column.digits)
+    local, *rest = rest_of(zones[name], second).split(",")
     if column.digits:
         local += f".{fraction:0{column.digits}}"
     if "iso" in column.chosen:
         local += iso_offset(rest.pop(0))
-    return column.delimiter.join([*([start] if "append" in column.chosen else [name, str(count)]), local, *rest])
+    return "".join(column.delimiter + field for field in [local, *rest])
 
 
-def rows_of(column, zones, most=None):
-    """the rows of a column by zoneinfo's zones, each with its line end, as one text, and the faults, each as --faults writes it; where the
-    run goes on after this many, both up to the next, which has no row"""
+def row_by(column, zones, name, instant, start):
+    """the row of a record without a fault"""
+    fields = [start] if "append" in column.chosen else [name, str(column.counts[instant])]
+    return column.delimiter.join(fields) + answer_by(column, zones, name, instant)
+
+
+def rows_of(column, zones, old, most=None):
+    """the rows of a column by zoneinfo's zones and old ones, each with its line end, as one text, and the faults, each as --faults writes
+    it; where the run goes on after this many, both up to the next, which has no row"""
     starts, names = iter(column.starts), ["zone", "instant", "local", "offset", "daylight", "abbreviation"]
     if "iso" in column.chosen:
         names.remove("offset")
+    if "against" in column.chosen:
+        names += [f"old_{name}" for name in names[2:]]
     rows, faults = [], []
     if "header" in column.chosen:
         header = next(starts)
         rows.append(column.delimiter.join([header, *names[2:]] if "append" in column.chosen else names))
     for number, ((name, count), start) in enumerate(zip(column.records, starts), 1):
         if fault := fault_of(column, zones, name, count):
-            faults.append(f"{number},{fault}")
+            faults.append(listed(column, number, fault, name, count))
             if most is not None and len(faults) > most:
                 break
-            rows.append(faulty_row(column, name, count, start))
-        else:
-            rows.append(row_by(column, zones[name], name, column.counts[count], start))
+        line = faulty_row(column, name, count, start) if fault else row_by(column, zones, name, count, start)
+        if "against" in column.chosen:
+            other = answer_by(column, old, name, count)
+            if other == answer_by(column, zones, name, count):
+                continue
+            line += other
+        rows.append(line)
     return "".join(f"{line}\n" for line in rows), faults
 
 
 # ------------------------------------------------------------------ the program
 
-def words_of(chosen, path):
-    words = [path if word == "FILE" else word for option in chosen for word in OPTIONS[option]]
+def has_details(chosen):
+    """whether the list of faults has their lines and values"""
+    return "going" in chosen and len(chosen) > 1
+
+
+def words_of(chosen, folder, is_tree):
+    """the words of options; beside a tree the other release is a tree too"""
+    meant = {"FILE": f"{folder}/faults", "OLD": f"{folder}/old.zi"}
+    if is_tree:
+        meant |= {"--against": "--against-tree", "OLD": f"{folder}/old"}
+    words = [meant.get(word, word) for option in chosen for word in OPTIONS[option]]
+    if has_details(chosen):
+        words += ["--faults-with", "line,value"]
     if "zone" in chosen and "fields" in chosen:
         words = [word for word in words if word not in ("--zone-field", "4")]
     return words
@@ -211,7 +254,12 @@ def words_of(chosen, path):
 def told_of(faults):
     """what is told of rows with faults"""
     count = "1 row with a fault" if len(faults) == 1 else f"{len(faults)} rows with faults"
-    return f"row {faults[0].replace(',', ': ')}\n{count}\n" if faults else ""
+    return f"{told_line(faults[0])}{count}\n" if faults else ""
+
+
+def told_line(fault):
+    """the line that tells of a fault"""
+    return "row {}: {}\n".format(*fault.split(",")[:2])
 
 
 def compare_texts(what, text, wanted):
@@ -219,16 +267,16 @@ def compare_texts(what, text, wanted):
         compare(what, text.split("\n"), wanted.split("\n"))
 
 
-def try_column(call, column, wanted, path, most=None):
+def try_column(call, column, wanted, folder, most=None):
     """has the program convert a column by 1 and 4 workers, and compares the rows and faults with those that are wanted. The call is the
-    program and the words that say where its zones are, and the path is one for a list of faults. Where the run goes on after a number of
+    program and the words that say where its zones are, and the folder is for a list of faults. Where the run goes on after a number of
     them, the last of those that are wanted ends it"""
     rows, faults = wanted
-    limit, end = [], ""
+    limit, end, path = [], "", f"{folder}/faults"
     if most is not None:
-        limit, end, faults = ["--max-faults", str(most)], f"row {faults[-1].replace(',', ': ')}\n", faults[:-1]
+        limit, end, faults = ["--max-faults", str(most)], told_line(faults[-1]), faults[:-1]
     for workers in "1", "4":
-        words = ["--workers", workers, *words_of(column.chosen, path), *limit, *call[1:]]
+        words = ["--workers", workers, *words_of(column.chosen, folder, "--tree" in call), *limit, *call[1:]]
         with open(path, "w", encoding="ascii"):
             """nothing is left of an earlier run"""
         done = subprocess.run([call[0], "convert", *words], input=column.text.encode(), capture_output=True)
@@ -245,12 +293,13 @@ def main(program, source, folder):
     random.seed(34)
     names = files.names_of(f"{folder}/ours")
     moments, zones = list(moments_of(folder, names)), zones_of(f"{folder}/ours", names)
+    old = zones_of(f"{folder}/old", files.names_of(f"{folder}/old"))
     pairs = [pair for pair in itertools.combinations(OPTIONS, 2) if pair not in TOGETHER]
     for chosen in [(option,) for option in OPTIONS] + pairs:
         column = column_of(moments, chosen)
-        try_column([program, source], column, rows_of(column, zones), f"{folder}/faults")
+        try_column([program, source], column, rows_of(column, zones, old), folder)
         if "going" in chosen:
-            try_column([program, source], column, rows_of(column, zones, MOST), f"{folder}/faults", MOST)
+            try_column([program, source], column, rows_of(column, zones, old, MOST), folder, MOST)
         files.report(f"{len(moments)} rows by {' and '.join(chosen)}, by 1 and 4 workers")
 
 

@@ -3,11 +3,11 @@
 
 usage: local_columns.py PROGRAM SOURCE FOLDER PROBE
 
-FOLDER has the folder `ours` with the program's files of the source. A column has, of each name, the local times round each change of the UT offset
+FOLDER has the folder `ours` with the program's files of the source, and `old.zi`, another source, with its files in `old`. A column has, of each name, the local times round each change of the UT offset
 from 1900 to 2100, as local_times.py takes them, and 1,000,000 local times at random, in an order by a fixed seed and with a T or a space. It is
 converted by each choice for gaps and folds, by the source with 1 thread and by the files with 4, and each row is compared with what zoneinfo has by
 its two folds: the instants of the local time, and in a gap the offsets before it and after it (PEP 495). The first 100,000 of these are converted by
-other forms too: with --append, with another delimiter, in other units, and with --style iso. What zoneinfo has is compared with the kit's jiff too, of
+other forms too: with --append, with another delimiter, in other units, with --style iso, and against the other source or its files. What zoneinfo has is compared with the kit's jiff too, of
 all local times that are not at random, by PROBE, the program of crates/probe. Prints a line for all of them, and the first differences; the status is
 1 if there is one.
 """
@@ -16,10 +16,9 @@ import random
 import subprocess
 import sys
 from datetime import datetime, timedelta
-from zoneinfo import ZoneInfo
 
 import files
-from layouts import iso_offset
+from layouts import iso_offset, zones_of
 from local_times import EPOCH, FIRST, LAST, locals_near, offset_at
 from rows import row
 
@@ -33,6 +32,8 @@ FORMS = [
     (["--delimiter", ";", "--unit", "ms"], ";", 3, False, False),
     (["--style", "iso"], ",", 0, False, True),
     (["--style", "iso", "--append", "--unit", "us"], ",", 6, True, True),
+    (["--against", "OLD"], ",", 0, False, False),
+    (["--style", "iso", "--append", "--unit", "us", "--against", "OLD"], ",", 6, True, True),
 ]
 
 
@@ -82,32 +83,40 @@ def column_of(times, delimiter, digits):
     return records, fractions
 
 
-def wanted(times, zones, form, records, fractions):
+def wanted(times, zones, old, form, records, fractions):
     """for each choice the rows and the faults of a column"""
-    _, delimiter, _, appends, _ = form
+    words, delimiter, _, appends, _ = form
     by_choice = {choice: ([], []) for choice in CHOICES}
     for number, ((name, local, instants, read), record, fraction) in enumerate(zip(times, records, fractions), 1):
         start = record if appends else delimiter.join([name, text_of(local, fraction)])
-        texts = {}
+        texts, others = {}, {}
+        other = meant(old[name], local) if "--against" in words and name in old else None
         for choice, (rows, faults) in by_choice.items():
             instant = chosen(choice, instants, read)
             if instant not in texts:
-                texts[instant] = row_text(zones[name], instant, fraction, form, start, record)
-            rows.append(texts[instant])
+                texts[instant] = answer_text(zones[name], instant, fraction, form)
+            line = (record if isinstance(instant, str) else start) + texts[instant]
             if isinstance(instant, str):
                 faults.append(f"{number},{instant}")
+            if "--against" in words:
+                before = chosen(choice, *other) if other else "RowZone"
+                if before not in others:
+                    others[before] = answer_text(old.get(name), before, fraction, form)
+                line = "" if others[before] == texts[instant] else line + others[before]
+            if line:
+                rows.append(line)
     return by_choice
 
 
-def row_text(zone, instant, fraction, form, start, record):
-    """the row of a record, or of a fault"""
+def answer_text(zone, instant, fraction, form):
+    """what stands in a row after its start, where there is an instant and no fault"""
     _, delimiter, digits, _, iso = form
     if isinstance(instant, str):
-        return record + 4 * delimiter
+        return 4 * delimiter
     shown, *rest = row("", zone, instant).split(",")[2:]
     if iso:
         rest[0] = shown + fraction + iso_offset(rest[0])
-    return delimiter.join([start, str(instant * 10 ** digits + int(fraction[1:] or 0)), *rest])
+    return "".join(delimiter + field for field in [str(instant * 10 ** digits + int(fraction[1:] or 0)), *rest])
 
 
 def compare(program, words, choice, records, rows, faults, list_path):
@@ -120,9 +129,9 @@ def compare(program, words, choice, records, rows, faults, list_path):
     what = " ".join(call[1:])
     if (done.returncode, len(got), listed) != (1 if faults else 0, len(rows), faults):
         files.differ(f"{what}: status {done.returncode}, {len(got)} rows, {len(listed)} faults, and not {len(rows)} and {len(faults)}")
-    for record, ours, theirs in zip(records, got, rows):
+    for ours, theirs in zip(got, rows):
         if ours != theirs:
-            files.differ(f"{what}: {record}: {ours}, and not {theirs}")
+            files.differ(f"{what}: {ours}, and not {theirs}")
 
 
 def by_jiff(probe, path, times):
@@ -136,14 +145,17 @@ def by_jiff(probe, path, times):
     return len(done.stdout.splitlines())
 
 
+def words_of(words, folder, is_tree):
+    """the words of a form; beside a tree the other release is a tree too"""
+    other = {"--against": "--against-tree", "OLD": f"{folder}/old"} if is_tree else {"OLD": f"{folder}/old.zi"}
+    return [other.get(word, word) for word in words]
+
+
 def main(program, source, folder, probe):
     random.seed(530)
     ours = f"{folder}/ours"
     names = files.names_of(ours)
-    zones = {}
-    for name in names:
-        with open(f"{ours}/{name}", "rb") as file:
-            zones[name] = ZoneInfo.from_file(file, name)
+    zones, old = zones_of(ours, names), zones_of(f"{folder}/old", files.names_of(f"{folder}/old"))
     times = [(name, local, *meant(zones[name], local)) for name, local in times_of(ours, names, zones)]
     near = sum(by_jiff(probe, f"{ours}/{name}", list(group)) for name, group in itertools.groupby(times[:-RANDOM], lambda time: time[0]))
     files.report(f"{near} local times by jiff")
@@ -153,9 +165,9 @@ def main(program, source, folder, probe):
         words, delimiter, digits, *_ = form
         some = times[:FEW] if words else times
         records, fractions = column_of(some, delimiter, digits)
-        for choice, (rows, faults) in wanted(some, zones, form, records, fractions).items():
+        for choice, (rows, faults) in wanted(some, zones, old, form, records, fractions).items():
             for by in [["--workers", "1", source], ["--workers", "4", "--row-piece", "97", "--tree", ours]]:
-                compare(program, [*words, *by], choice, records, rows, faults, f"{folder}/faults")
+                compare(program, [*words_of(words, folder, "--tree" in by), *by], choice, records, rows, faults, f"{folder}/faults")
                 count += len(rows)
     gaps = sum(not instants for _, _, instants, _ in times)
     folds = sum(len(instants) > 1 for _, _, instants, _ in times)

@@ -4,7 +4,8 @@ columns by the same files.
 
 usage: tree_columns.py PROGRAM SOURCE FOLDER
 
-FOLDER has the folders `ours`, `fat` and `slim`, with our files of SOURCE and those of `zic -b fat` and `zic -b slim`. The columns are those
+FOLDER has the folders `ours`, `fat` and `slim`, with our files of SOURCE and those of `zic -b fat` and `zic -b slim`, and `old.zi` and `old`,
+another source and its files. The columns are those
 of layouts.py: 100,000 random instants over all zones and links, without options and with some of them, by 1 and 4 workers, in many rounds.
 Names of files that reader.py refuses stand only in the column with --keep-going. What is written by our files is also what is written by
 SOURCE. Then columns by small trees: with faults in the first, a middle and the last piece of rounds, with links, with files that change
@@ -23,7 +24,7 @@ import reader
 from columns import compare
 from layouts import column_of, compare_texts, moments_of, rows_of, told_of, try_column, zones_of
 
-OPTIONS = [(), ("append",), ("header",), ("zone",), ("fields",), ("delimiter",), ("semicolon",), ("ms",), ("us",), ("ns",), ("going",)]
+OPTIONS = [(), ("append",), ("header",), ("zone",), ("fields",), ("delimiter",), ("semicolon",), ("ms",), ("us",), ("ns",), ("going",), ("against",)]
 PIECES = ["--row-piece", "64"]                                             # which make many rounds
 SECONDS = 20                                                               # in which the program does anything
 
@@ -51,16 +52,17 @@ def read_names(folder, names):
 
 def compare_trees(program, source, folder):
     names = files.names_of(f"{folder}/ours")
+    old = zones_of(f"{folder}/old", files.names_of(f"{folder}/old"))
     trees = {form: zones_of(f"{folder}/{form}", read_names(f"{folder}/{form}", names)) for form in ("ours", "fat", "slim")}
     refused = [name for name in names if not all(name in zones for zones in trees.values())]
     moments = list(moments_of(folder, [name for name in names if name not in refused]))
     for chosen in OPTIONS:
         column = column_of(moments + [(name, 0, 0) for name in refused] * 100 if "going" in chosen else moments, chosen)
         for form, zones in trees.items():
-            wanted = rows_of(column, zones)
-            try_column([program, *PIECES, "--tree", f"{folder}/{form}"], column, wanted, f"{folder}/faults")
+            wanted = rows_of(column, zones, old)
+            try_column([program, *PIECES, "--tree", f"{folder}/{form}"], column, wanted, folder)
             if form == "ours":
-                try_column([program, source], column, wanted, f"{folder}/faults")
+                try_column([program, source], column, wanted, folder)
         option = f", with the option {chosen[0]}" if chosen else ""
         files.report(f"{len(column.records)} rows by our files and zic's, fat and slim{option}, by 1 and 4 workers")
 

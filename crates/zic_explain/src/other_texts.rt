@@ -59,7 +59,7 @@ const GROUP_1: [Entry; 6] = [
   With `--keep-going` and `--records lines` the command goes on at the next
   line, and writes the first bytes of the record, four more than the option
   allows. Otherwise it ends the command. No more of such a record is held than
-  that and what one read gives.
+  that and what one read gives. Row 0 is the header, and ends it always.
 "#,
         expected: r#"  At most as many bytes as the option says. Without it a record may have any
   number of bytes.

@@ -83,10 +83,12 @@ fn order_by_header<R: Read + Drop>(
     let fields = read_header(alloc, &order, input, head)?;
     let Conversion {
         zones,
+        against,
         plan,
         layout,
         names,
         faults,
+        fault_fields,
         rejects,
         max_faults,
         progress,
@@ -95,10 +97,12 @@ fn order_by_header<R: Read + Drop>(
     let layout = names.layout_by(alloc, layout, &fields)?;
     Ok(Conversion {
         zones,
+        against,
         plan,
         layout,
         names,
         faults,
+        fault_fields,
         rejects,
         max_faults,
         progress,

@@ -5,6 +5,7 @@
 ghost use Rattle.std.specs.Prelude.{IfOk};
 ghost use Rattle.zic_compare.specs.Files.{HasInstants};
 
+mod converting;
 mod extras;
 mod failure;
 mod folder;
@@ -13,6 +14,7 @@ mod own_file;
 mod release;
 mod standard;
 
+use converting::convert_column;
 use extras::Extras;
 use failure::Refusal;
 use folder::names_below;
@@ -32,7 +34,7 @@ use std::time::Clock;
 use zic_base::RowFault;
 use zic_command_line::{Building, Conversion, Differences, Links, Request, Zones};
 use zic_commands::{
-    Disk, Durability, Failure, LinkKind, LinkedFolder, Progress, ProgressLine, TreeZones,
+    Disk, Durability, Failure, LinkKind, LinkedFolder, Progress, ProgressLine,
 };
 use zic_compare::{Compared, Comparison, Listed, Survey};
 use zic_counted::{Counted, flush, write_all};
@@ -43,7 +45,7 @@ use zic_files::{Files as ZoneFiles, TreeFiles};
 use zic_io::{FaultList, ListFile, ZoneFolder};
 use zic_local::LocalTime;
 use zic_pieces::Open;
-use zic_plan::{AtFault, Header, Plan, Records, RowLog};
+use zic_plan::{AtFault, Header, Plan, Records};
 use zic_rows::FIRST_INSTANT;
 
 /// The status where a standard stream is closed, and nothing can stand in for it.
@@ -485,20 +487,39 @@ fn convert<
     convert_noted(rt, order, noted, line)
 }
 
-/// Reads the source of a conversion, or refuses a path that isn't that of a folder. Prints the release of
-/// the zones, if requested.
+/// Reads the sources of a conversion, and refuses a path that isn't that of a folder. Prints the releases
+/// of the zones, if requested.
 fn ready_zones<R: Files + Input + AllocGlobal, E: Write>(
     rt: &R,
     order: &Conversion,
     errors: &mut E,
     noted: &mut Noted,
 ) -> Result<(), Failure> {
-    match &order.zones {
+    if let Some(old) = &order.against {
+        ready(rt, order, old, errors, &mut noted.texts)?;
+    }
+    ready(rt, order, &order.zones, errors, &mut noted.texts)
+}
+
+/// Adds the text of a source, or refuses a path that isn't that of a folder. Prints the release of the
+/// zones, if requested.
+fn ready<R: Files + Input + AllocGlobal, E: Write>(
+    rt: &R,
+    order: &Conversion,
+    zones: &Zones,
+    errors: &mut E,
+    texts: &mut Vec<Vec<u8>>,
+) -> Result<(), Failure> {
+    match zones {
         Zones::Source(source) => {
             let sources = [source.clone()?];
-            read(rt, &sources, &mut noted.texts)?;
+            let mut text = Vec::new(rt.alloc());
+            read(rt, &sources, &mut text)?;
             if order.shows_release {
-                show_of_sources(rt.alloc(), errors, &sources, &noted.texts)?;
+                show_of_sources(rt.alloc(), errors, &sources, &text)?;
+            }
+            for text in text {
+                texts.push(text)?;
             }
         }
         Zones::Tree(folder) => {
@@ -547,7 +568,7 @@ fn convert_noted<
 >(rt: &R, order: &Conversion, noted: &mut Noted, line: ProgressLine<E>) -> Result<(), Failure> {
     let faults = list_file(rt, &order.faults)?;
     let rejects = list_file(rt, &order.rejects)?;
-    let mut list = FaultList::new(faults, rejects);
+    let mut list = FaultList::new(faults, rejects, order.fault_fields);
     let converted = convert_rows(rt, order, &*noted, line, &mut list);
     noted.faults = faults_before(order.layout.at_fault, &converted, &list);
     if list.first().is_none() && is_before_rows(&converted) {
@@ -649,43 +670,25 @@ fn convert_rows<
     };
     let progress = Progress::new(io::writer(rt), rt, line, has_header, delimiter);
     let mut output = Counted::new(progress);
-    let converted = convert_column(rt, order, &noted.texts, &mut input, &mut output, faults);
-    output.into_inner().finish();
-    converted?;
-    faults_of(order.layout.at_fault, faults)
-}
-
-/// Converts a column by the files of the texts, or by those of a folder. Returns the number of rows.
-fn convert_column<
-    R: Files + RandomSource + AllocGlobal + Threads + Wait + Sync,
-    I: Read,
-    W: Write,
-    L: RowLog,
->(
-    rt: &R,
-    order: &Conversion,
-    texts: &[Vec<u8>],
-    input: &mut Counted<I>,
-    output: &mut Counted<W>,
-    faults: &mut L,
-) -> Result<u64, Failure> {
     let conversion = zic_commands::Conversion {
         rt,
         alloc: rt.alloc(),
         plan: &order.plan,
-        layout: &order.layout,
+        layout,
         gate: &Open,
         max_faults: order.max_faults,
     };
-    match &order.zones {
-        Zones::Source(_) => {
-            let key = random_number(rt);
-            zic_commands::convert_source(&conversion, texts, key, input, output, faults)
-        }
-        Zones::Tree(folder) => {
-            let folder = ZoneFolder::new(rt, folder.as_str());
-            let mut zones = TreeZones::new(rt.alloc(), random_number(rt), folder);
-            zic_commands::convert(&conversion, &mut zones, input, output, faults)
-        }
+    let texts = &noted.texts;
+    let converted = convert_column(order, &conversion, texts, &mut input, &mut output, faults);
+    output.into_inner().finish(rows_made(order, &converted));
+    converted?;
+    faults_of(order.layout.at_fault, faults)
+}
+
+/// Returns the number of rows that were made, where only some of them are written.
+fn rows_made(order: &Conversion, converted: &Result<u64, Failure>) -> Option<u64> {
+    match converted {
+        Ok(rows) if order.against.is_some() => Some(*rows),
+        _ => None,
     }
 }

@@ -17,7 +17,7 @@ const OUTPUT: &str = "/dev/stdout";
 const MAGIC: &[u8; 4] = b"TZif";
 
 /// Refuses a request whose file for faults or for records is one that the command reads or writes
-/// besides, under this or another name: standard input, standard output, the source, or the other of
+/// besides, under this or another name: standard input, standard output, a source, or the other of
 /// the two. Refuses a TZif file too, which may be one of the folder of zones.
 ///
 /// # Errors
@@ -81,8 +81,9 @@ fn other_use<R: Files>(rt: &R, order: &Conversion, path: &str) -> Option<&'stati
     if is_same(rt, &file, OUTPUT) {
         return Some("standard output, which has the rows");
     }
-    match &order.zones {
-        Zones::Source(source) if is_same(rt, &file, source.as_str()) => Some("the SOURCE"),
+    match (&order.zones, &order.against) {
+        (Zones::Source(source), _) if is_same(rt, &file, source.as_str()) => Some("the SOURCE"),
+        (_, Some(Zones::Source(old))) if is_same(rt, &file, old.as_str()) => Some("the OLD"),
         _ if file.is_file() && is_zone_file(rt, path) => Some("a TZif file"),
         _ => None,
     }
