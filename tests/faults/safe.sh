@@ -92,6 +92,8 @@ for path in /dev/stdin ../out utc.zi tree/Etc/UTC; do
     convert --keep-going --rejects "$path" utc.zi
     refused "pzic convert --rejects $path"
 done
+convert --keep-going --faults utc.zi --against utc.zi --tree tree
+refused 'pzic convert --faults utc.zi --against utc.zi'
 echo old >list
 ln -f list name
 for path in list name ./list; do

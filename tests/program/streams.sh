@@ -110,6 +110,13 @@ ask convert --progress --tree zones.tree
 expect_progress 'pzic convert --progress --tree zones.tree' 3 'row 4: RowInstant'
 : >../out
 told 'pzic convert --progress --tree zones.tree' 1 '' ''
+# Of rows that are compared with another release those that are written, and at the end all.
+printf 'Zone Etc/UTC 0 - UTC 1970 Jan 1 0:00:01\n1 - CET\n' >later
+printf 'zone,instant\nEtc/UTC,0\nEtc/UTC,1\nEtc/UTC,0\nNo/Where,0\nEtc/UTC,2\n' >column
+ask convert --header --keep-going --progress --against later plain
+expect_progress 'pzic convert --progress --against later plain' '2 of 5' $'row 4: RowZone\n1 row with a fault'
+ask convert --header --progress --against later plain
+expect_progress 'pzic convert --progress --against later plain, up to a fault' 1 'row 4: RowZone'
 input=/dev/null
 # On a terminal, to which the rows go too.
 status=0

@@ -27,6 +27,8 @@ pub struct Explainer {
     texts: Vec<Vec<u8>>,
     /// Whether each text is a source of its own.
     are_apart: bool,
+    /// The index of the text that has the zones of rows.
+    zones: usize,
     /// Where standard input begins in its file, if it is one.
     start: Option<u64>,
     /// The number of records before the rows of the column: 1 for a header, else 0.
@@ -49,7 +51,8 @@ impl Explainer {
         Ok(Explainer {
             words: words_of(rt.alloc(), request)?,
             texts: Vec::new(rt.alloc()),
-            are_apart: matches!(request, Request::Diff { .. }),
+            are_apart: matches!(request, Request::Diff { .. } | Request::Convert(_)),
+            zones: old_of(request).is_some() as usize,
             start: column_start(rt),
             before: records_before(request),
             records: records_of(request),
@@ -140,7 +143,9 @@ impl Explainer {
             Failure::Row { row, kind }
             | Failure::Rows { row, kind, .. }
             | Failure::Rejected { row, kind, .. } => { self.row_place(alloc, *kind, *row, record) }
-            Failure::UnknownZone(name) => nearest_zone(alloc, self.text(0), name.as_bytes()),
+            Failure::UnknownZone(name) => {
+                nearest_zone(alloc, self.text(self.zones), name.as_bytes())
+            }
             Failure::CannotRead(path) => unread(rt, path.as_str()),
             Failure::CannotWrite(path) => unwritten(rt, path.as_str()),
             _ => Ok(String::new(alloc)),
@@ -198,7 +203,7 @@ impl Explainer {
             place.push_str(quote_place(alloc, lines)?.as_str())?;
         }
         if kind == RowKind::RowZone {
-            let nearest = nearest_zone(alloc, self.text(0), &record.zone)?;
+            let nearest = nearest_zone(alloc, self.text(self.zones), &record.zone)?;
             place.push_str(nearest.as_str())?;
         }
         Ok(place)
@@ -295,13 +300,27 @@ fn folder_of(request: &Request) -> Result<Option<String>, AllocError> {
 /// Returns the words of a request that name sources or a file, as they are shown to people.
 fn words_of(alloc: Global, request: &Request) -> Result<Vec<String>, AllocError> {
     let mut words = Vec::new(alloc);
+    if let Some(old) = old_of(request) {
+        words.push(shown_word(alloc, old.as_str())?)?;
+    }
     for word in named_in(request) {
         words.push(shown_word(alloc, word.as_str())?)?;
     }
     Ok(words)
 }
 
-/// Returns the words of a request that name sources or a file.
+/// Returns the source that rows are compared with, if there is one.
+fn old_of(request: &Request) -> Option<&String> {
+    match request {
+        Request::Convert(order) => match &order.against {
+            Some(Zones::Source(old)) => Some(old),
+            Some(Zones::Tree(_)) | None => None,
+        },
+        _ => None,
+    }
+}
+
+/// Returns the words of a request that name sources or a file, but for that of [`old_of`].
 fn named_in(request: &Request) -> &[String] {
     match request {
         Request::Check { source, .. } => slice::from_ref(source),
