@@ -7,7 +7,7 @@ use std::random::RandomSource;
 use std::sync::Wait;
 use std::thread::Threads;
 use zic_command_line::{Conversion, Zones};
-use zic_commands::{Failure, TreeZones};
+use zic_commands::{Failure, KeyedTexts, TreeZones};
 use zic_counted::Counted;
 use zic_io::ZoneFolder;
 use zic_pieces::Open;
@@ -48,6 +48,7 @@ pub(crate) fn convert_column<
 }
 
 /// Zones that words name, with the texts of sources.
+#[derive(Clone, Copy)]
 struct Named<'a> {
     zones: &'a Zones,
     texts: &'a [Vec<u8>],
@@ -100,20 +101,20 @@ fn convert_against_source<
     output: &mut Counted<W>,
     log: &mut L,
 ) -> Result<u64, Failure> {
-    let are_two = named.texts.len() > 1;
-    let (first, rest) = named.texts.split_at(named.texts.len().min(1));
+    let count = named.texts.len();
+    let (first, rest) = named.texts.split_at(count.min(1));
     let named = Named {
         zones: named.zones,
         texts: rest,
     };
     let files = match zic_source_commands::files_of(by.rt, by.alloc, by.plan, first) {
         Ok(files) => files.with_key(by.alloc, random_number(by.rt))?,
-        Err(failure) => return Err(numbered(failure, are_two, 1)),
+        Err(failure) => return Err(numbered(failure, 1, count)),
     };
     let old = SourceZones::new(by.alloc, &files)?;
     match convert_against(by, &named, old, input, output, log) {
         Ok(rows) => Ok(rows),
-        Err(failure) => Err(numbered(failure, are_two, 2)),
+        Err(failure) => Err(numbered(failure, 2, count)),
     }
 }
 
@@ -134,9 +135,11 @@ fn convert_against<
 ) -> Result<u64, Failure> {
     match named.zones {
         Zones::Source(_) => {
-            let key = random_number(by.rt);
-            let texts = named.texts;
-            zic_commands::convert_source_against(by, old, texts, key, input, output, log)
+            let source = KeyedTexts {
+                texts: named.texts,
+                key: random_number(by.rt),
+            };
+            zic_commands::convert_source_against(by, source, old, input, output, log)
         }
         Zones::Tree(folder) => {
             let zones = tree_zones(by.rt, folder);
@@ -146,10 +149,11 @@ fn convert_against<
     }
 }
 
-/// Returns a failure, where it is a fault of a text as that of the one of this number, if there are two.
-fn numbered(failure: Failure, are_two: bool, text: u64) -> Failure {
+/// Returns a failure, where it is a fault of a text as that of the one of this number, if there are
+/// several.
+fn numbered(failure: Failure, text: u64, count: usize) -> Failure {
     match failure {
-        Failure::Line { line, kind } if are_two => Failure::TextLine { text, line, kind },
+        Failure::Line { line, kind } if count > 1 => Failure::TextLine { text, line, kind },
         other => other,
     }
 }
