@@ -225,10 +225,11 @@ for input in rows stopped; do
     done
     tell "convert by a tree, $input"
 done
-# Rows that another release answers otherwise.
+# A list of faults with lines and values, and rows that another release answers otherwise.
 echo 'Zone Etc/UTC 1 - CET' >other
 for input in rows stopped; do
+    every convert --workers 2 --row-piece 1 --keep-going --faults listed --faults-with line,value chain
     every convert --workers 2 --row-piece 1 --against-tree kept chain
     every convert --workers 2 --row-piece 1 --against other --tree zones.tree
 done
-tell 'convert against another release'
+tell 'convert with details, and against another release'
