@@ -15,11 +15,11 @@ use std::sync::Wait;
 use std::thread::Threads;
 use zic_convert::Conversion;
 use zic_counted::Counted;
+use zic_files::Files;
 use zic_io::Failure;
 use zic_pieces::Gate;
 use zic_plan::RowLog;
 use zic_source_commands::files_of;
-use zic_files::Files;
 use zic_zones::{Compared, SourceZones, Zones};
 
 /// The texts of a source, and the key that seeds the hash of names, so that names can't be chosen to
