@@ -50,6 +50,10 @@ IsFailureOfConvertSource texts plan limit layout run failure =
     (IsUntouched run × IsFailureOfTexts texts failure)
     ⊎ IsFailureAfterTexts texts plan limit layout run failure
 
+-- why there are no files of texts with a key: the texts have none, or they have some and memory ran out
+abbrev pub IsFailureOfKeyed : List (List ℕ) → Failure → Type 0
+IsFailureOfKeyed texts failure = IsFailureOfTexts texts failure ⊎ ((failure ≡ failures.Memory) × (files : List File) × AreFilesOfTexts texts files)
+
 -- what may be made by the files of a source, and by another release as far as it is known
 abbrev pub MayBeAgainst : {O : Type 0} → List File → (O → Releases → Type 0) → O → Releases → Type 0
 MayBeAgainst files may_be old releases = (other : Releases) × may_be old other × (releases ≡ compared (alone files) other)

@@ -2,10 +2,9 @@
 
 ghost use Rattle.std.specs.Prelude.{◌≤◌, ◌+◌, ◌≡◌, IfOk, IfErr};
 ghost use Rattle.zic_commands.specs.Converting.{ConvertsAgainst, ConvertsBySource, against};
-ghost use Rattle.zic_commands.specs.Converting.{IsFailureOfConvertAgainst, IsFailureOfConvertSource};
+ghost use Rattle.zic_commands.specs.Converting.{IsFailureOfConvertAgainst, IsFailureOfConvertSource, IsFailureOfKeyed};
 ghost use Rattle.zic_compile.specs.Build.{AreFilesOfTexts};
 ghost use Rattle.zic_files.specs.Sound.{AreSoundFiles};
-ghost use Rattle.zic_source_commands.specs.Failing.{IsFailureOfTexts};
 ghost use Rattle.zic_convert.specs.Run.{run_of};
 ghost use Rattle.zic_counted.specs.Counts.{HasFailedSince};
 ghost use Rattle.zic_source.specs.Texts.{texts_of};
@@ -41,7 +40,7 @@ fn keyed_files<T: Threads + Wait + Sync, G: Gate + Sync>(
 ) -> Result<Files, Failure>
     ensures ok { IfOk result (AreFilesOfTexts (texts_of source.entry.texts.now)) }
     ensures sound { IfOk result AreSoundFiles }
-    ensures err { IfErr result (IsFailureOfTexts (texts_of source.entry.texts.now)) }
+    ensures err { IfErr result (IsFailureOfKeyed (texts_of source.entry.texts.now)) }
 {
     let files = files_of(
         conversion.rt,
@@ -99,7 +98,7 @@ pub fn convert_source<T: Threads + Wait + Sync, G: Gate + Sync, R: Read, W: Writ
 pub fn convert_source_against<
     T: Threads + Wait + Sync,
     G: Gate + Sync,
-    O: Zones,
+    O: Zones + Drop,
     R: Read,
     W: Write,
     L: RowLog,

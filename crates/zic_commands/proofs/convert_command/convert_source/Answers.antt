@@ -8,7 +8,10 @@ use Rattle.zic_commands.proofs.convert_command.convert_source.Goals as goal
 pub returns-in_err-files-clause-err : goal.returns-in_err-files-clause-err
 returns-in_err-files-clause-err g c =
     let p = err_from_is_err_and c.from_residual.result c.from_residual.ensures.1 in
-    rw (p.1, p.2) (inl (record { unread = refl; unwritten = refl; unnoted = refl }, c.in_err-files.ensures.err))
+    rw (p.1, p.2) (elim c.in_err-files.ensures.err [
+      | inl none ↦ inl (record { unread = refl; unwritten = refl; unnoted = refl }, none)
+      | inr (memory, files, of) ↦ inr (record { files = files; are_files = of; by_files = inl (record { unread = refl; unwritten = refl; unnoted = refl }, inl memory) })
+    ])
 
 pub returns-in_err-zones-clause-err : goal.returns-in_err-zones-clause-err
 returns-in_err-zones-clause-err g c =

@@ -1,0 +1,35 @@
+use Rattle.std.proofs.Common.{inl, inr, refl}
+use Rattle.std.proofs.lemmas.Result.{err_from_is_err_and}
+use Rattle.zic_convert.specs.Run.{run_of}
+use Rattle.zic_source.specs.Texts.{texts_of}
+use Rattle.zic_convert.proofs.Joining.{on_err}
+use Rattle.zic_commands.proofs.AgainstLemmas.{all_against, fails_against}
+use Rattle.zic_commands.proofs.convert_command.convert_source_against.Goals as goal
+
+pub returns-in_err-files-clause-err : goal.returns-in_err-files-clause-err
+returns-in_err-files-clause-err g c =
+    let p = err_from_is_err_and c.from_residual.result c.from_residual.ensures.1 in
+    rw (p.1, p.2) (elim c.in_err-files.ensures.err [
+      | inl none ↦ inl (record { unread = refl; unwritten = refl; unnoted = refl }, inr none)
+      | inr memory ↦ inl (record { unread = refl; unwritten = refl; unnoted = refl }, inl memory.0)
+    ])
+
+pub returns-in_err-zones-clause-err : goal.returns-in_err-zones-clause-err
+returns-in_err-zones-clause-err g c =
+    let p = err_from_is_err_and c.from_residual-in_err-zones.result c.from_residual-in_err-zones.ensures.1 in
+    rw (p.1, p.2) (inl (record { unread = refl; unwritten = refl; unnoted = refl }, inl refl))
+
+pub returns-clause-ok : goal.returns-clause-ok
+returns-clause-ok g c =
+    let run = run_of g.R.Read.remaining g.W.Write.contents g.L.RowLog.noted c.args.reader.now c.convert.new.reader c.args.writer.now c.convert.new.writer c.args.log.now c.convert.new.log in
+    all_against (λ b. b.zones) (λ b. b.old) g.O.Zones.grown g.O.Zones.broken g.O.Zones.requests g.O.Zones.may_be c.in_ok-files.files c.in_ok-files.ensures.sound
+    c.args.conversion.now.plan.now c.args.conversion.now.max_faults c.args.conversion.now.layout.now run (record { zones = c.in_ok-zones.zones; old = c.args.old }) c.convert.new.zones c.in_ok-zones.ensures
+    (texts_of c.args.source.texts.now) c.in_ok-files.ensures.ok c.convert.result c.convert.ensures.grown c.convert.ensures.ok
+
+pub returns-clause-err : goal.returns-clause-err
+returns-clause-err g c =
+    let run = run_of g.R.Read.remaining g.W.Write.contents g.L.RowLog.noted c.args.reader.now c.convert.new.reader c.args.writer.now c.convert.new.writer c.args.log.now c.convert.new.log in
+    on_err c.convert.result _ _ (λ e after. inr after)
+    (fails_against (λ b. b.zones) (λ b. b.old) g.O.Zones.grown g.O.Zones.broken g.O.Zones.requests g.O.Zones.may_be c.in_ok-files.files c.in_ok-files.ensures.sound
+    c.args.conversion.now.plan.now c.args.conversion.now.max_faults c.args.conversion.now.layout.now run (record { zones = c.in_ok-zones.zones; old = c.args.old }) c.convert.new.zones c.in_ok-zones.ensures
+    (texts_of c.args.source.texts.now) c.in_ok-files.ensures.ok c.convert.result c.convert.ensures.err)
