@@ -1,19 +1,17 @@
 -- A conversion by the zones of the files of a source, compared with those of another release.
-use Rattle.std.proofs.Common.{◌≡◌, ◌∙◌, ◌⊎◌, ℕ, List, Option, Result, Ok, Err, inl, inr, refl, sym, subst, ap}
+use Rattle.std.proofs.Common.{◌≡◌, ◌∙◌, ◌⊎◌, ℕ, List, Option, Result, Ok, Err, inl, inr, sym, subst, ap}
 use Rattle.std.specs.Prelude.{IfOk, IfErr}
 use Rattle.zic_base.specs.declared.run_stop.RunStop.{RunStop}
-use Rattle.zic_base.specs.declared.run_stop.RunStop.TheVariants as stop
 use Rattle.zic_compile.specs.Build.{AreFilesOfTexts}
 use Rattle.zic_convert.specs.Run.{EndsByZones, Run}
 use Rattle.zic_files.specs.File.{File}
 use Rattle.zic_files.specs.Sound.{AreSoundFiles}
 use Rattle.zic_io.specs.declared.failure.Failure.{Failure}
-use Rattle.zic_io.specs.declared.failure.Failure.TheVariants as failures
 use Rattle.zic_plan.specs.Plan.{Limits}
 use Rattle.zic_plan.specs.declared.layout.Layout.{Layout}
 use Rattle.zic_plan.specs.declared.layout.ZoneFrom.{ZoneFrom}
 use Rattle.zic_plan.specs.declared.layout.ZoneFrom.TheVariants as zone
-use Rattle.zic_zones.specs.Compared.{MayCompare, compared}
+use Rattle.zic_zones.specs.Compared.{MayCompare}
 use Rattle.zic_zones.specs.Zones.{alone}
 use Rattle.zic_zones.specs.declared.releases.Releases.{Releases}
 use Rattle.zic_commands.specs.Converting.{ConvertsAgainst, IsFailureAgainst, MayBeAgainst, against}
