@@ -328,7 +328,7 @@ static CONVERT: [Word; 30] = [
     },
     Word {
         name: "max-record",
-        help: "Most bytes of a record, up to 4294967296",
+        help: "The most bytes of a record, up to 4294967296",
         form: Form::Bytes,
     },
     Word {
@@ -343,7 +343,7 @@ static CONVERT: [Word; 30] = [
     },
     Word {
         name: "zone",
-        help: "Zone of all rows, in place of a field",
+        help: "The zone of all rows, in place of a field",
         form: Form::Zone,
     },
     Word {
@@ -378,7 +378,7 @@ static CONVERT: [Word; 30] = [
     },
     Word {
         name: "style",
-        help: "Local time: fields or iso",
+        help: "Form of local time: fields or iso",
         form: Form::Style,
     },
     Word {
@@ -413,7 +413,7 @@ static CONVERT: [Word; 30] = [
     },
     Word {
         name: "max-faults",
-        help: "Most of these rows after which the run goes on",
+        help: "The most of these rows after which the run goes on",
         form: Form::Rows,
     },
     Word {
