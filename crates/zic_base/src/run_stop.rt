@@ -11,7 +11,7 @@ use std::alloc::AllocError;
 pub enum RunStop {
     /// The first fault of a source or of its zones.
     Source(Fault),
-    /// The row that ends the run, by its number from 1, and its fault.
+    /// The row that ends the run, by its number from 1, or 0 for the header, and its fault.
     Row { row: u64, kind: RowKind },
     /// The reader failed.
     ReadFailed,

@@ -49,32 +49,32 @@ impl From<io::Error> for Unread {
 
 /// Why no record was passed over.
 #[derive(Debug, Drop)]
-pub enum Unpassed {
+pub enum PassStop {
     /// The column cannot be read on.
     Unread,
     /// The record has more bytes of its own than it may have.
     TooLong,
 }
 
-impl From<Unread> for Unpassed {
+impl From<Unread> for PassStop {
     ghost use Rattle.std.specs.Prelude.{◌≡◌};
-    ghost use Rattle.zic_columns.specs.declared.columns.Unpassed.TheVariants as unpassed;
+    ghost use Rattle.zic_columns.specs.declared.columns.PassStop.TheVariants as stops;
 
-    ghost from_gives = { λ _ e. e ≡ unpassed.Unread };
+    ghost from_gives = { λ _ e. e ≡ stops.Unread };
 
-    fn from(_e: Unread) -> Unpassed {
-        Unpassed::Unread
+    fn from(_e: Unread) -> PassStop {
+        PassStop::Unread
     }
 }
 
-impl From<AllocError> for Unpassed {
+impl From<AllocError> for PassStop {
     ghost use Rattle.std.specs.Prelude.{◌≡◌};
-    ghost use Rattle.zic_columns.specs.declared.columns.Unpassed.TheVariants as unpassed;
+    ghost use Rattle.zic_columns.specs.declared.columns.PassStop.TheVariants as stops;
 
-    ghost from_gives = { λ _ e. e ≡ unpassed.Unread };
+    ghost from_gives = { λ _ e. e ≡ stops.Unread };
 
-    fn from(_e: AllocError) -> Unpassed {
-        Unpassed::Unread
+    fn from(_e: AllocError) -> PassStop {
+        PassStop::Unread
     }
 }
 
@@ -266,14 +266,14 @@ impl<R: Read> Column<R> {
         alloc: Global,
         wanted: usize,
         longest: Option<u64>,
-    ) -> Result<Vec<u8>, Unpassed>
+    ) -> Result<Vec<u8>, PassStop>
         ensures by { self.new.by ≡ self.old.by }
         ensures passes { IfOk result (λ _. PassesRecord R.remaining self.old self.new) }
         ensures own { IfOk result (λ own. IfSome (unread R.remaining self.old)
             (λ bytes. own.items ≡ first_text (texts_by self.old.by bytes))) }
         ensures none { IfOk result (λ _. self.new.round ≡ []) }
         ensures short { IfOk result (λ own. may_have longest (length own.items) ≡ true) }
-        ensures long { IfErr result (λ why. why ≡ Unpassed.TooLong
+        ensures long { IfErr result (λ why. why ≡ PassStop.TooLong
             → IsNextTooLong longest self.old.by (unread R.remaining self.old)) }
         ensures limit { StaysWithin R.remaining self.old self.new }
     {
@@ -281,7 +281,7 @@ impl<R: Read> Column<R> {
         if may_have(longest, own.len()) {
             return Ok(own);
         }
-        Err(Unpassed::TooLong)
+        Err(PassStop::TooLong)
     }
 
     /// Returns the round that was taken last.
@@ -346,13 +346,13 @@ impl<R: Read> Column<R> {
         alloc: Global,
         wanted: usize,
         longest: Option<u64>,
-    ) -> Result<Vec<u8>, Unpassed>
+    ) -> Result<Vec<u8>, PassStop>
         ensures by { self.new.by ≡ self.old.by }
         ensures passes { IfOk result (λ _. PassesRecord R.remaining self.old self.new) }
         ensures own { IfOk result (λ own. IfSome (unread R.remaining self.old)
             (λ bytes. own.items ≡ first_text (texts_by self.old.by bytes))) }
         ensures none { IfOk result (λ _. self.new.round ≡ []) }
-        ensures long { IfErr result (λ why. why ≡ Unpassed.TooLong
+        ensures long { IfErr result (λ why. why ≡ PassStop.TooLong
             → IsNextTooLong longest self.old.by (unread R.remaining self.old)) }
         ensures limit { StaysWithin R.remaining self.old self.new }
     {
@@ -363,7 +363,7 @@ impl<R: Read> Column<R> {
                 self.pass(line.len, Vec::new(alloc));
                 Ok(own)
             }
-            AtHand::TooLong => Err(Unpassed::TooLong),
+            AtHand::TooLong => Err(PassStop::TooLong),
         }
     }
 

@@ -36,7 +36,7 @@ mod splits;
 mod truncate;
 mod walk;
 
-pub use columns::{Column, Taken, TakenLine, Unpassed, Unread};
+pub use columns::{Column, PassStop, Taken, TakenLine, Unread};
 pub use delimiter::{Exchanged, exchange};
 pub use fields::{Field, Record, Span, Wanted, push_field};
 pub use lines::{line_end_at, line_feeds};

@@ -25,7 +25,7 @@ use Rattle.zic_zones.specs.declared.releases.Releases.{Releases}
 use Rattle.zic_base.specs.declared.row_fault.RowKind.{RowKind}
 use Rattle.zic_convert.specs.Column.{read_by}
 use Rattle.zic_convert.specs.Laws.{AreSoundReleases, ColumnsConvertOnce}
-use Rattle.zic_layout_rows.specs.LayoutRows.{RecordsConvertBy, IsAnswerAt, IsAnswerBy, IsMovedRow, IsRowAt, IsTextBy, IsWrittenAt, old_files, with_fields, ends_by, fault_by, instant_by, rest_by, start_text}
+use Rattle.zic_layout_rows.specs.LayoutRows.{RecordsConvertBy, IsAnswerAt, IsAnswerBy, IsMovedRow, IsRowAt, IsTextBy, IsWrittenAt, old_files, with_answer, ends_by, fault_by, instant_by, rest_by, start_text}
 use Rattle.zic_layout_rows.specs.Rows.{RecordsConvertTo, IsTextOf, fault_of}
 
 same_count : (a b : ℤ) → ◌≡◌ {A = Result ℤ RowKind} (Ok a) (Ok b) → a ≡ b
@@ -125,7 +125,7 @@ module _ (answers : FilesAnswerOnce) (releases : Releases) (sound : AreSoundRele
             a.same same ∙ sym (b.same (sym answer ∙ same ∙ other))
         | inr unlike ↦
             let differ : (a.answer ≡ a.other → ⊥) = λ e. (let yes = (bytes_decides a.answer a.other).1 e in cc (sym yes ∙ unlike)) in
-            a.moved differ ∙ ap₂ with_fields row other ∙ sym (b.moved (λ e. differ (answer ∙ e ∙ sym other)))
+            a.moved differ ∙ ap₂ with_answer row other ∙ sym (b.moved (λ e. differ (answer ∙ e ∙ sym other)))
       ]
 
   one_written : (layout : Layout) (by : Written) (number : ℕ) (row_record : CsvRecord) (t u : List ℕ) → IsWrittenAt by layout releases most number row_record t

@@ -25,7 +25,7 @@ use Rattle.zic_layout_rows.proofs.Coming.{no_rows, rows_followed, too_many_ends}
 use Rattle.zic_layout_rows.proofs.MoreRows.{end_added, row_added}
 use Rattle.zic_convert.proofs.Logs.{notes_none}
 use Rattle.zic_layout_rows.specs.code.Row.{IsNextBy}
-use Rattle.zic_convert.specs.code.Row.{unless_moved}
+use Rattle.zic_convert.specs.code.Row.{unless_compared}
 use Rattle.zic_convert.proofs.TooMany.{none_few, one_noted}
 
 module _ (layout : Layout) (releases : Releases) (most number : ℕ) (given : CsvRecord) (kind : RowKind)
@@ -45,7 +45,7 @@ module _ (layout : Layout) (releases : Releases) (most number : ℕ) (given : Cs
       (subst (λ (end : Option RowKind). IsNextBy layout releases most (number + 0) given empty_rows rows end) (sym ended) refl) refl []
 
   -- what is written of a record whose row has a fault by any files
-  faulty_written : (by : Written) → IsWrittenAt by layout releases most (number + 0) given (unless_moved by (faulty_text layout kind given))
+  faulty_written : (by : Written) → IsWrittenAt by layout releases most (number + 0) given (unless_compared by (faulty_text layout kind given))
   faulty_written written.All = subst (λ (o : Option RowKind). IsRowAt layout releases.zones o given (faulty_text layout kind given)) (sym (here releases.zones)) refl
   faulty_written written.Moved = record {
     row = faulty_text layout kind given;
@@ -60,7 +60,7 @@ module _ (layout : Layout) (releases : Releases) (most number : ℕ) (given : Cs
 
   -- a record whose row has a fault
   pub one_faulty : ending layout.at_fault layout.records (Some kind) ≡ None
-      → AreRowsOf layout releases most number (given ∷ []) (record { text = unless_moved layout.written (faulty_text layout kind given); count = 1; fault = None; faults = record { fault = record { row = number; kind = kind }; own = if_aside layout.at_fault given.own } ∷ [] })
+      → AreRowsOf layout releases most number (given ∷ []) (record { text = unless_compared layout.written (faulty_text layout kind given); count = 1; fault = None; faults = record { fault = record { row = number; kind = kind }; own = if_aside layout.at_fault given.own } ∷ [] })
   one_faulty goes =
       let goes_on : ends_by layout releases.zones most (number + 0) given ≡ None = ap (ending layout.at_fault layout.records) (here releases.zones) ∙ goes in
       let noted_here : noted layout.at_fault (number + 0) given.own (fault_by layout releases.zones most (number + 0) given) ≡ noted layout.at_fault (number + 0) given.own (Some kind) =
@@ -69,10 +69,10 @@ module _ (layout : Layout) (releases : Releases) (most number : ℕ) (given : Cs
       ap (λ (n : ℕ). made n) (sym at) ∙ ap (λ (l : List RowNote). record (made number) { faults = l }) (sym noted_here) in
       row_added layout releases most number [] given empty_rows (made number) (no_rows layout releases most number) refl
       (subst (λ (end : Option RowKind). IsNextBy layout releases most (number + 0) given empty_rows (made number) end) (sym goes_on)
-      (unless_moved layout.written (faulty_text layout kind given), faulty_written layout.written, made_here)) refl
+      (unless_compared layout.written (faulty_text layout kind given), faulty_written layout.written, made_here)) refl
     where
       made : ℕ → RowsOf
-      made n = record { text = unless_moved layout.written (faulty_text layout kind given); count = 1; fault = None; faults = record { fault = record { row = n; kind = kind }; own = if_aside layout.at_fault given.own } ∷ [] }
+      made n = record { text = unless_compared layout.written (faulty_text layout kind given); count = 1; fault = None; faults = record { fault = record { row = n; kind = kind }; own = if_aside layout.at_fault given.own } ∷ [] }
 
 -- one row
 abbrev pub made_of : List ℕ → Option RowKind → List RowNote → RowsOf

@@ -20,7 +20,7 @@ use Rattle.zic_base.specs.declared.row_fault.RowKind.{RowKind}
 use Rattle.zic_base.specs.declared.row_fault.RowKind.TheVariants as kind
 use Rattle.zic_zones.specs.Zones.{is_named, number_of, zone_in}
 use Rattle.zic_layout_rows.specs.Rows.{is_closed, is_row_instant}
-use Rattle.zic_layout_rows.specs.LayoutRows.{RecordsConvertBy, IsAnswer, IsAnswerAt, IsRowAt, IsRowBy, IsTextBy, IsWrittenAt, empty_fields, old_files, with_fields, count_in, ends_by, fault_by, faulty_text, instant_by, rest_by, start_text, time_by, time_in, ok_count, err_fault}
+use Rattle.zic_layout_rows.specs.LayoutRows.{RecordsConvertBy, IsAnswer, IsAnswerAt, IsRowAt, IsRowBy, IsTextBy, IsWrittenAt, empty_fields, old_files, with_answer, count_in, ends_by, fault_by, faulty_text, instant_by, rest_by, start_text, time_by, time_in, ok_count, err_fault}
 use Rattle.zic_layout_rows.specs.PieceRows.{AreRowsOf, RowsOf}
 use Rattle.zic_layout_rows.proofs.Coming.{come_after, come_more}
 use Rattle.zic_layout_rows.proofs.PutBack.{among}
@@ -133,7 +133,7 @@ module _ (layout : Layout) (releases : Releases) (most : ℕ) (known : All IsKno
             ([], record { row = row; by = is_row; answer = answer; answers = answers; other = other; others = others; same = λ _. refl; moved = λ differ. absurd (differ same) })
         | inr unlike ↦
             let differ : (answer ≡ other → ⊥) = λ e. (let yes = (bytes_decides answer other).1 e in cc (sym yes ∙ unlike)) in
-            (with_fields row other, record { row = row; by = is_row; answer = answer; answers = answers; other = other; others = others; same = λ e. absurd (differ e); moved = λ _. refl })
+            (with_answer row other, record { row = row; by = is_row; answer = answer; answers = answers; other = other; others = others; same = λ e. absurd (differ e); moved = λ _. refl })
       ]
 
   row_first : (number : ℕ) (row_record : CsvRecord) (row_records : List CsvRecord) (fault : Option RowKind) → ends_by layout releases.zones most number row_record ≡ fault

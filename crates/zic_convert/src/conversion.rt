@@ -39,7 +39,7 @@ use zic_base::{RowKind, RunStop};
 use zic_columns::laws::{
     column_records_are_read, records_by_are_exchanged, texts_by_are_exchanged,
 };
-use zic_columns::{Column, Exchanged, Round, Taken, Truncated, Unpassed};
+use zic_columns::{Column, Exchanged, Round, Taken, Truncated, PassStop};
 use zic_counted::Counted;
 use zic_files::Files;
 use zic_layout_rows::aside;
@@ -259,8 +259,8 @@ fn pass_header<R: Read>(
 {
     match column.pass_record(alloc, round_len(plan), layout.max_record) {
         Ok(own) => Ok(own),
-        Err(Unpassed::Unread) => Err(Halt::Unread),
-        Err(Unpassed::TooLong) => Err(Halt::Stop(RunStop::Row {
+        Err(PassStop::Unread) => Err(Halt::Unread),
+        Err(PassStop::TooLong) => Err(Halt::Stop(RunStop::Row {
             row: 0,
             kind: RowKind::RowTooLong,
         })),

@@ -6,7 +6,7 @@ ghost use Rattle.zic_columns.specs.Lines.{exchanged_record, open_record};
 ghost use Rattle.zic_files.specs.File.{File};
 ghost use Rattle.zic_plan.specs.declared.plan.TheConstants.{MAX_ROWS};
 ghost use Rattle.zic_zones.specs.declared.releases.Releases.{Releases};
-ghost use Rattle.zic_convert.specs.code.Row.{unless_moved};
+ghost use Rattle.zic_convert.specs.code.Row.{unless_compared};
 ghost use Rattle.zic_layout_rows.specs.LayoutRows.{fault_by, if_aside, unless_aside};
 ghost use Rattle.zic_layout_rows.specs.PieceRows.{AreRowsOf};
 ghost use Rattle.zic_convert.specs.code.Written.{EndsInRecords, WritesRecords};
@@ -43,7 +43,7 @@ fn open_kind(layout: &Layout, most: u64, number: u64, line: &[u8]) -> RowKind
 /// rows are written that another release answers differently. The line has the delimiter and the comma
 /// in each other's place.
 fn open_text(alloc: Global, layout: &Layout, line: &[u8]) -> Result<Vec<u8>, AllocError>
-    ensures { IfOk result (λ text. text.items ≡ unless_moved layout.now.written
+    ensures { IfOk result (λ text. text.items ≡ unless_compared layout.now.written
         (unless_aside layout.now.at_fault (exchanged layout.now.delimiter line.now ++ 10 ∷ []))) }
 {
     let mut text = Vec::new(alloc);

@@ -6,7 +6,7 @@ use Rattle.zic_columns.specs.declared.fields.Record.{Record}
 use Rattle.zic_files.specs.File.{File}
 use Rattle.zic_plan.specs.declared.layout.Written.{Written}
 use Rattle.zic_plan.specs.declared.layout.Written.TheVariants as written
-use Rattle.zic_layout_rows.specs.LayoutRows.{IsAnswer, IsWrittenAt, ends_by, old_files, with_fields}
+use Rattle.zic_layout_rows.specs.LayoutRows.{IsAnswer, IsWrittenAt, ends_by, old_files, with_answer}
 use Rattle.zic_layout_rows.specs.PieceRows.{RowsOf}
 use Rattle.zic_layout_rows.specs.code.Batch.{record_of}
 use Rattle.zic_layout_rows.specs.code.Moved.{IsOneMore, by_both, made_of}
@@ -29,7 +29,7 @@ module _ (piece : Piece) (old : Option (List File)) (given : Record) (before the
       (answers : IsAnswer piece.layout.now piece.zones.now piece.most (piece.first + before.rows.count) (record_of piece given) answer)
       (others : IsAnswer piece.layout.now (old_files old) piece.most (piece.first + before.rows.count) (record_of piece given) other) where
     -- what is written of a record that doesn't
-    pub moved_more : (row text : List ℕ) → (answer ≡ other → row ≡ []) → ((answer ≡ other → ⊥) → row ≡ with_fields then.rows.text other) → text ≡ then.text ++ row
+    pub moved_more : (row text : List ℕ) → (answer ≡ other → row ≡ []) → ((answer ≡ other → ⊥) → row ≡ with_answer then.rows.text other) → text ≡ then.text ++ row
         → AreNextBy piece.layout.now (by_both piece old) piece.most (piece.first + before.rows.count) (record_of piece given) (made_of before) (record then.rows { text = text })
     moved_more row text same differ is_text = by_end (ends_by piece.layout.now piece.zones.now piece.most (piece.first + before.rows.count) (record_of piece given)) more.next where
       by_end : (end : Option RowKind) → IsNextAt piece.layout.now piece.zones.now piece.most (piece.first + before.rows.count) (record_of piece given) (record before.rows { text = [] }) then.rows end
@@ -44,7 +44,7 @@ module _ (piece : Piece) (old : Option (List File)) (given : Record) (before the
           other = other;
           others = others;
           same = same;
-          moved = λ unlike. differ unlike ∙ ap (λ (r : RowsOf). with_fields r.text other) is.2;
+          moved = λ unlike. differ unlike ∙ ap (λ (r : RowsOf). with_answer r.text other) is.2;
         }),
         ap₂ (λ (r : RowsOf) (t : List ℕ). record r { text = t }) is.2 (is_text ∙ ap (λ (l : List ℕ). l ++ row) more.text),
       )

@@ -244,9 +244,9 @@ abbrev pub IsAnswer : Layout → List File → ℕ → ℕ → CsvRecord → Lis
 IsAnswer layout files most number row_record answer = IsAnswerAt layout files (fault_by layout files most number row_record) row_record answer
 
 -- a row, and after its last field those of another answer; a record that is put aside has no row
-abbrev pub with_fields : List ℕ → List ℕ → List ℕ
-with_fields [] answer = []
-with_fields (byte ∷ row) answer = take (length row) (byte ∷ row) ++ answer
+abbrev pub with_answer : List ℕ → List ℕ → List ℕ
+with_answer [] answer = []
+with_answer (byte ∷ row) answer = take (length row) (byte ∷ row) ++ answer
 
 -- The row of a record that is written only if other files answer the record differently. It is the row by the first files, and at its end
 -- stands what the others answer.
@@ -258,7 +258,7 @@ pub record IsMovedRow (layout : Layout) (files old : List File) (most number : �
   pub other : List ℕ
   pub others : IsAnswer layout old most number row_record other
   pub same : answer ≡ other → text ≡ []
-  pub moved : (answer ≡ other → ⊥) → text ≡ with_fields row other
+  pub moved : (answer ≡ other → ⊥) → text ≡ with_answer row other
 
 -- the files of another release, if there is one
 abbrev pub old_files : Option (List File) → List File

@@ -6,7 +6,7 @@ ghost use Rattle.zic_columns.specs.Own.{CsvRecord};
 ghost use Rattle.zic_columns.specs.Record.{IsSplit, record_at};
 ghost use Rattle.zic_columns.specs.declared.splits.TheConstants.{BATCH};
 ghost use Rattle.zic_plan.specs.declared.layout.Written.TheVariants as written;
-ghost use Rattle.zic_layout_rows.specs.LayoutRows.{with_fields};
+ghost use Rattle.zic_layout_rows.specs.LayoutRows.{with_answer};
 ghost use Rattle.zic_layout_rows.specs.PieceRows.{AreRowsOf, csv_records_in};
 ghost use Rattle.zic_layout_rows.specs.code.Batch.{IsPen, records_of, wanted_by};
 ghost use Rattle.zic_layout_rows.specs.code.Moved.{ArePens, IsNoMoved, IsOneMore, by_both, made_of};
@@ -38,7 +38,7 @@ struct Moved {
 /// Appends a row, and the fields of another answer after its last. Appends nothing to a row without a
 /// byte.
 fn push_with(text: &mut RowText, row: &[u8], answer: &[u8]) -> Result<(), AllocError>
-    ensures { OnOk result (text.new ≡ text.old ++ with_fields row.now answer.now) }
+    ensures { OnOk result (text.new ≡ text.old ++ with_answer row.now answer.now) }
 {
     if row.is_empty() {
         return Ok(());

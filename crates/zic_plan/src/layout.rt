@@ -103,6 +103,7 @@ pub enum Written {
     /// Each.
     All,
     /// Those that another release answers differently. What it answers follows in fields of its own.
+    /// Without another release each row without a fault is written, with empty fields.
     Moved,
 }
 

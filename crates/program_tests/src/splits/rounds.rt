@@ -8,7 +8,7 @@ use std::alloc::Global;
 use std::io::ErrorKind;
 use std::process::Abort;
 use zic_columns::{
-    BATCH, Column, Field, Record, Round, Span, Splitter, Taken, Unpassed, Wanted, line_end_at,
+    BATCH, Column, Field, Record, Round, Span, Splitter, Taken, PassStop, Wanted, line_end_at,
     line_feeds, push_field,
 };
 use zic_plan::{LineEnd, Notes, Records};
@@ -317,8 +317,8 @@ fn a_long_first_record_is_not_passed_over(rt: HostRuntime) {
             let mut column = must(&rt, begun);
             let passed = match column.pass_record(alloc, 1000, Some(longest)) {
                 Ok(_) => passes,
-                Err(Unpassed::TooLong) => !passes,
-                Err(Unpassed::Unread) => false,
+                Err(PassStop::TooLong) => !passes,
+                Err(PassStop::Unread) => false,
             };
             expect(&rt, passed, "a first record of 12 bytes");
         }

@@ -31,6 +31,6 @@ abbrev pub fields_of_all : List CsvRecord → List (List (List ℕ))
 fields_of_all row_records = map (λ (w : CsvRecord). w.fields) row_records
 
 -- the text of a row that each release answers alike: nothing where only others are written
-abbrev pub unless_moved : Written → List ℕ → List ℕ
-unless_moved written.All text = text
-unless_moved written.Moved text = []
+abbrev pub unless_compared : Written → List ℕ → List ℕ
+unless_compared written.All text = text
+unless_compared written.Moved text = []

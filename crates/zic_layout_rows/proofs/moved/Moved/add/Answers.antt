@@ -2,7 +2,7 @@ use Rattle.std.proofs.Common.{◌≡◌, ◌++◌, ◌+◌, ◌∙◌, [], List,
 use Rattle.std.specs.Prelude.{IsSome, bytes_eq, false, true}
 use Rattle.std.specs.Cmp.Lexicographic.{bytes_decides}
 use Rattle.std.proofs.lemmas.List.{append-nil}
-use Rattle.zic_layout_rows.specs.LayoutRows.{IsAnswer, old_files, with_fields}
+use Rattle.zic_layout_rows.specs.LayoutRows.{IsAnswer, old_files, with_answer}
 use Rattle.zic_layout_rows.specs.PieceRows.{RowsOf}
 use Rattle.zic_layout_rows.specs.code.Batch.{record_of}
 use Rattle.zic_layout_rows.specs.code.Moved.{by_both, made_of}
@@ -34,12 +34,12 @@ returns-clause-next c =
     let no : bytes_eq answer other ≡ false = sym (rw (c.deref.ensures.value, c.deref-2.ensures.value) at c.if-are_same.ensures) in
     let differ : (answer ≡ other → ⊥) = λ e. (let yes = (bytes_decides answer other).1 e in cc (sym yes ∙ no)) in
     let shown : c.bytes.result.now ≡ then.rows.text = c.bytes.ensures ∙ ap (λ (m : Moved). m.rows.text) c.self-2.view_is in
-    let text : c.push_with.new.text ≡ then.text ++ with_fields then.rows.text other =
-    c.in_ok-push_with.ensures ∙ ap₂ (λ (a r : List ℕ). a ++ with_fields r c.deref-3.result.now) (ap (λ (m : Moved). m.text) c.self-2.view_is) shown
-    ∙ ap (λ (l : List ℕ). then.text ++ with_fields then.rows.text l) c.deref-3.ensures.value in
+    let text : c.push_with.new.text ≡ then.text ++ with_answer then.rows.text other =
+    c.in_ok-push_with.ensures ∙ ap₂ (λ (a r : List ℕ). a ++ with_answer r c.deref-3.result.now) (ap (λ (m : Moved). m.text) c.self-2.view_is) shown
+    ∙ ap (λ (l : List ℕ). then.text ++ with_answer then.rows.text l) c.deref-3.ensures.value in
     subst (λ (rows : RowsOf). AreNextBy piece.layout.now (by_both piece old) piece.most (piece.first + before.rows.count) (record_of piece given) (made_of before) (record rows { text = c.push_with.new.text }))
     (ap (λ (m : Moved). m.rows) (sym c.self-2.view_is))
-    (moved_more piece old given before then c.requires.goes_on c.in_ok-add_row.ensures goes_on c.requires.written answer other answers others (with_fields then.rows.text other) c.push_with.new.text
+    (moved_more piece old given before then c.requires.goes_on c.in_ok-add_row.ensures goes_on c.requires.written answer other answers others (with_answer then.rows.text other) c.push_with.new.text
     (λ same. absurd (differ same)) (λ unlike. refl) text)
 
 pub returns-then-are_same-clause-next : goal.returns-then-are_same-clause-next
