@@ -88,9 +88,9 @@ pub fn convert_source<T: Threads + Wait + Sync, G: Gate + Sync, R: Read, W: Writ
     zic_file_commands::convert(conversion, &mut zones, reader, writer, log)
 }
 
-/// Compiles the texts, and converts a column by a layout and their files, compared with the zones of
-/// another release: where the layout has only rows written that the other release answers differently,
-/// these. Returns the number of rows, without the header, with those that aren't written.
+/// Compiles the texts, and converts a column by a layout and their files, and compares each row with what
+/// another release answers. Where the layout says so, only the rows are written whose answers differ.
+/// Returns the number of all rows, written or not, without the header.
 ///
 /// # Errors
 ///

@@ -39,7 +39,7 @@ use zic_base::{RowKind, RunStop};
 use zic_columns::laws::{
     column_records_are_read, records_by_are_exchanged, texts_by_are_exchanged,
 };
-use zic_columns::{Column, Exchanged, Round, Taken, Truncated, PassStop};
+use zic_columns::{Column, Exchanged, PassStop, Round, Taken, Truncated};
 use zic_counted::Counted;
 use zic_files::Files;
 use zic_layout_rows::aside;
@@ -424,17 +424,17 @@ fn ended<R>(
 }
 
 /// Converts a column by a layout and by zones, and writes its header and its rows. Returns the number
-/// of rows, with those whose records are put aside, and without the header.
+/// of rows, with those that aren't written, and without the header.
 ///
 /// The layout says which bytes stand between fields, of records and of rows; whether a record is one of
 /// CSV or each line is one; whether the first record is a header, which makes no row and isn't counted,
 /// and whether one is written; where a row's zone and its instant come from, and how many fields a
 /// record has, and how many bytes; how an instant is written, and what it counts; and whether a row has
-/// local time and offset in two fields or in one. An instant is an optional `-` and 1 to 18 digits, and as many more as
-/// a fraction of a second has; or, by the layout's `from`, a date and a time of day with a UT offset.
-/// A row shows local time of its whole second, rounded down, and with that fraction. Or a record has,
-/// by `from`, a local time, a date and a time of day without an offset: its row has that local time and
-/// the count of the instant that is meant by it.
+/// local time and offset in two fields or in one. An instant is an optional `-` and 1 to 18 digits, and
+/// as many more as a fraction of a second has; or, by the layout's `from`, a date and a time of day with
+/// a UT offset. A row shows local time of its whole second, rounded down, and with that fraction. Or a
+/// record has, by `from`, a local time, a date and a time of day without an offset: its row has that
+/// local time and the count of the instant that is meant by it.
 ///
 /// A row begins with the name and the instant, or the local time, or with the record's own bytes as
 /// they stand in the column, as the layout's `start` says. Where it begins with the name and a header
@@ -452,14 +452,15 @@ fn ended<R>(
 /// or is a line whose double quotes are open at its end, the row is only the record's own bytes. The log
 /// takes note of the fault, and of the record's own bytes where it is put aside, with how its line ends
 /// in the column; where the layout's `notes` are details, also of the line where the record begins, from
-/// 1, with the header and lines without a byte, and of the field at fault. A header that is such a line is
-/// one as any other. Where the layout's `written` says so, only the rows are written that another release
-/// answers differently, with what it answers in fields of their own at the end, whose names begin with
-/// `old_`; it answers empty fields where the row has a fault by it. Faults are those by the first release
-/// alone. Where each line is a record and the run goes on at faults, no more than four
-/// bytes of a line are read beyond the most that the layout allows, and the others are dropped: they
-/// are in no row and no note. Where the run goes on at faults and `max_faults` is a number, it goes on after
+/// 1, with the header and lines without a byte, and of the field at fault. A line whose double quotes are
+/// open may be the header. Where each line is a record and the run goes on at faults, no more than four
+/// bytes of a line are read beyond the most that the layout allows, and the others are dropped: they are
+/// in no row and no note. Where the run goes on at faults and `max_faults` is a number, it goes on after
 /// this many rows with a fault. The next ends the conversion, and is neither written nor noted.
+///
+/// Where the layout's `written` says so, only the rows are written that another release answers
+/// differently. What it answers stands at the end of the row, in fields whose names begin with `old_`,
+/// which are empty where the row has a fault by that release. Faults are those by the first release.
 ///
 /// The column is read in rounds. Before a round is converted, its zones are made ready. The plan's
 /// workers convert the pieces of a round, which have the number of records that the plan says, and
@@ -472,9 +473,10 @@ fn ended<R>(
 ///
 /// - `Row` at the first row that ends the conversion, with its number, from 1, and the first of its
 ///   kinds: a row more than the plan allows, a record of more bytes than the layout allows, a line whose
-///   double quotes are open at its end, where each line is a record, a record of another number of fields than the layout's, a name that no file has,
-///   no instant or local time, a local time that no instant or more than one has, or a whole second out
-///   of range. All rows before it were written and flushed, and no failure of the writer was counted.
+///   double quotes are open at its end, where each line is a record, a record of another number of fields
+///   than the layout's, a name that no file has, no instant or local time, a local time that no instant or
+///   more than one has, or a whole second out of range. All rows before it were written and flushed, and
+///   no failure of the writer was counted.
 ///   Where rows with faults are written or their records put aside, `Row` is only `TooManyRows`,
 ///   `RowTooLong` of a record of CSV, and the fault after `max_faults` others. Row 0 is the header: `Row`
 ///   with `RowTooLong` where it has more bytes than the layout allows, also where rows with faults are

@@ -1,6 +1,7 @@
 -- The rows of a column's records, by a layout: own choice. A record has an instant or a local time, and perhaps a zone's name. Its row has the
--- text of what the file of that name answers at the instant, or a fault. A row with a fault ends the run, has no more than its record, or is
--- empty, and its record is put aside.
+-- text of what the file of that name answers at the instant, or a fault. A row with a fault ends the run, or is written without an answer, or
+-- isn't written, and its record is put aside. Where rows are compared with another release, only those are written that it answers
+-- differently, with its answer at the end.
 use Rattle.std.specs.Prelude.{◌≡◌, ℕ, ◌+◌, nat_le, ℤ, pos, ◌+ℤ◌, ◌*ℤ◌, List, [], ◌∷◌, ◌++◌, length, replicate, take, Option, Some, None, Result, Ok, Err, option_map, is_some, IsSome, Contains, slice_get, if◌then◌else◌}
 use Rattle.std.specs.Fmt.{signed_decimal}
 use Rattle.csv.specs.Writing.{default_writer, row_text, with_delimiter}
@@ -220,8 +221,8 @@ IsRowAt layout files (Some kind) row_record text = text ≡ faulty_text layout k
 abbrev pub IsRowBy : Layout → List File → ℕ → ℕ → CsvRecord → List ℕ → Type 0
 IsRowBy layout files most number row_record text = IsRowAt layout files (fault_by layout files most number row_record) row_record text
 
--- What files answer a record: the end of its row, in which stands the state that the file of the zone's name answers at the whole second of the
--- instant's count.
+-- What files answer a record: all that its row has after its beginning. It shows the state that the file of the zone's name answers at the
+-- whole second of the instant's count.
 pub record IsAnswerBy (layout : Layout) (files : List File) (row_record : CsvRecord) (answer : List ℕ) : Type 0 where
   pub file : File
   pub among : Contains files file
@@ -243,7 +244,7 @@ IsAnswerAt layout files (Some kind) row_record answer = answer ≡ empty_fields 
 abbrev pub IsAnswer : Layout → List File → ℕ → ℕ → CsvRecord → List ℕ → Type 0
 IsAnswer layout files most number row_record answer = IsAnswerAt layout files (fault_by layout files most number row_record) row_record answer
 
--- a row, and after its last field those of another answer; a record that is put aside has no row
+-- a row without its last byte, the line feed, and then an answer; no row stays no row
 abbrev pub with_answer : List ℕ → List ℕ → List ℕ
 with_answer [] answer = []
 with_answer (byte ∷ row) answer = take (length row) (byte ∷ row) ++ answer

@@ -33,9 +33,7 @@ use std::thread::Threads;
 use std::time::Clock;
 use zic_base::RowFault;
 use zic_command_line::{Building, Conversion, Differences, Links, Request, Zones};
-use zic_commands::{
-    Disk, Durability, Failure, LinkKind, LinkedFolder, Progress, ProgressLine,
-};
+use zic_commands::{Disk, Durability, Failure, LinkKind, LinkedFolder, Progress, ProgressLine};
 use zic_compare::{Compared, Comparison, Listed, Survey};
 use zic_counted::{Counted, flush, write_all};
 use zic_diff::Sides;
@@ -612,11 +610,12 @@ fn is_synced<R: Files>(file: Option<BufWriter<ListFile<'_, R>>>) -> bool {
 }
 
 /// Returns whether a run without faults of rows ended for a reason that leaves an earlier list of
-/// faults as it is: a fault of the source, an unknown zone, or lack of memory or threads.
+/// faults as it is: a fault of the source, an unknown zone, a header that is too long, or lack of memory
+/// or threads.
 fn is_before_rows(converted: &Result<(), Failure>) -> bool {
     match converted {
         Err(Failure::Line { .. } | Failure::TextLine { .. } | Failure::UnknownZone(_)) => true,
-        Err(Failure::Memory | Failure::NoThread) => true,
+        Err(Failure::Memory | Failure::NoThread | Failure::Row { row: 0, .. }) => true,
         _ => false,
     }
 }

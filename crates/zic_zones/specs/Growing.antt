@@ -1,11 +1,12 @@
--- The laws of the zones of a tree: what was learnt grows.
+-- The laws of the zones of a tree, where what was learnt grows, and of the zones of two releases.
 use Rattle.std.proofs.Common.{subst, sym, ap, append_assoc, ◌∙◌}
 use Rattle.std.proofs.lemmas.List.{append-nil}
-use Rattle.std.specs.Prelude.{List, [], ◌++◌, Option, None, Some}
+use Rattle.std.specs.Prelude.{ℕ, List, [], ◌++◌, Option, None, Some}
 use Rattle.zic_files.specs.File.{File}
 use Rattle.zic_files.specs.Tree.{Gains, IsKnown, IsLearntFrom, Learnt, Reply}
 use Rattle.zic_zones.specs.Tree.{Grows, MayHave, TreeOf}
-use Rattle.zic_zones.specs.Zones.{OldAgree, ReleasesAgree, alone}
+use Rattle.zic_zones.specs.Compared.{MayCompare, compared}
+use Rattle.zic_zones.specs.Zones.{Agree, OldAgree, ReleasesAgree, alone}
 use Rattle.zic_zones.specs.declared.releases.Releases.{Releases}
 
 gains_none : (replied : Option (List Reply)) → Gains replied replied []
@@ -59,3 +60,33 @@ grows_agrees learnt releases are = record {
   zones = are.agree;
   old = subst (λ (old : Option (List File)). OldAgree (IsKnown learnt) None old) (sym are.alone) tt;
 }
+
+-- If each of two releases may have fewer files, so may both together.
+pub compared_narrows : (MayBe OldMayBe MayBe' OldMayBe' : Releases → Type 0) (releases : Releases)
+    → ((r : Releases) → MayBe' r → MayBe r) → ((r : Releases) → OldMayBe' r → OldMayBe r)
+    → MayCompare MayBe' OldMayBe' releases → MayCompare MayBe OldMayBe releases
+compared_narrows MayBe OldMayBe MayBe' OldMayBe' releases narrows old_narrows may = record {
+  new = may.new;
+  old = may.old;
+  may_be = narrows may.new may.may_be;
+  old_may_be = old_narrows may.old may.old_may_be;
+  are = may.are;
+}
+
+-- They agree with what is known, and a name is settled once it is settled in both.
+pub compared_agrees : (Settled OldSettled : List ℕ → Type 0) (MayBe OldMayBe : Releases → Type 0) (known old_known releases : Releases)
+    → ((r : Releases) → MayBe r → ReleasesAgree Settled known r) → ((r : Releases) → OldMayBe r → ReleasesAgree OldSettled old_known r)
+    → MayCompare MayBe OldMayBe releases → ReleasesAgree (λ name. Settled name × OldSettled name) (compared known old_known) releases
+compared_agrees Settled OldSettled MayBe OldMayBe known old_known releases agree old_agree may =
+    rw may.are (record { zones = fewer.0; old = fewer.1 }) where
+      ours : Agree Settled known.zones may.new.zones
+      ours = (agree may.new may.may_be).zones
+
+      others : Agree OldSettled old_known.zones may.old.zones
+      others = (old_agree may.old may.old_may_be).zones
+
+      fewer : Agree (λ name. Settled name × OldSettled name) known.zones may.new.zones × Agree (λ name. Settled name × OldSettled name) old_known.zones may.old.zones
+      fewer = (
+        record { sound = ours.sound; still = ours.still; only = λ file has settled. ours.only file has settled.0 },
+        record { sound = others.sound; still = others.still; only = λ file has settled. others.only file has settled.1 },
+      )

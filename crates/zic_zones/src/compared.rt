@@ -16,7 +16,7 @@ pub struct Compared<Z: Zones, O: Zones> {
 impl<Z: Zones, O: Zones> Zones for Compared<Z, O> {
     ghost use Rattle.std.specs.Prelude.{◌≡◌, ◌⊎◌};
     ghost use Rattle.zic_zones.specs.Compared.{MayCompare, compared};
-    ghost use Rattle.zic_zones.specs.Compared.{compared_agrees, compared_narrows};
+    ghost use Rattle.zic_zones.specs.Growing.{compared_agrees, compared_narrows};
 
     ghost known = { λ z. compared (Z.known z.zones) (O.known z.old) };
 

@@ -15,7 +15,7 @@ pub trait Zones {
     // the files that are known, of a release or of two
     ghost known: { Self → Releases };
 
-    // No other file of this name will be known, of no release.
+    // No other file of this name will be known, in either release.
     ghost settled: { Self → List ℕ → Type 0 };
 
     // Rows may be made by these files, as far as is known.
