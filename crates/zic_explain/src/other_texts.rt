@@ -59,7 +59,8 @@ const GROUP_1: [Entry; 6] = [
   With `--keep-going` and `--records lines` the command goes on at the next
   line, and writes the first bytes of the record, four more than the option
   allows. Otherwise it ends the command. No more of such a record is held than
-  that and what one read gives. Row 0 is the header, and ends it always.
+  that and what one read gives. A header that is too long is row 0, and ends
+  the command always.
 "#,
         expected: r#"  At most as many bytes as the option says. Without it a record may have any
   number of bytes.
@@ -543,9 +544,7 @@ const GROUP_6: [Entry; 5] = [
     Entry {
         name: "out of memory",
         meaning: "The system refused memory.",
-        says: r#"  The system refused memory. Status 4. A header of more bytes than
-  `--max-record` allows ends `convert` in the same way.
-"#,
+        says: "  The system refused memory. Status 4.\n",
         expected: r#"  A few MB for a release of the tz database, some 60 MB for a column with 4
   threads, and up to 2.3 times the longest record of it.
 "#,
