@@ -181,7 +181,7 @@ def records(program):
     short = [program, "convert", "--max-record", "1000000", source]
     run(f"a stray quote before {size} MiB, of records of a megabyte", short, column, bounded, (1, "row 1: RowTooLong"))
     header = [program, "convert", "--skip-header", "--max-record", "1000000", source]
-    run(f"a header of {size} MiB, of records of a megabyte", header, column, bounded, (4, "out of memory"))
+    run(f"a header of {size} MiB, of records of a megabyte", header, column, bounded, (1, "row 0: RowTooLong"))
     column = written("column", [bytes(size * MIB)])
     run(f"{size} MiB of zeros", [program, "convert", source], column, plain, (1, "row 1: RowFields"))
     run(f"{size} MiB of zeros, of records of a megabyte", short, column, bounded, (1, "row 1: RowTooLong"))

@@ -1,7 +1,7 @@
 #!/usr/bin/env bash
-# Compares what `diff` lists for two sources with the spans at which Python's zoneinfo over the trees of
-# these answers differently, both ways: the system's release of the tz database, and the same with other
-# rules, abbreviations, local mean times and names; and small random sources. No source differs from itself. Compares
+# Compares what `diff` lists for two sources with the spans at which zoneinfo over their trees differs, both
+# ways: the release, and the same with other rules, abbreviations and names; and small random sources. No
+# source differs from itself. Compares
 # what `diff --summary` lists with such spans up to 500 years after the last transitions.
 # Needs: tzdata
 set -euo pipefail
