@@ -117,7 +117,8 @@ fn rows_and_faults_before_a_failed_read_end_at_the_same_row(rt: HostRuntime) {
 
 /// A source, and one of another release, which has another offset of a zone and lacks a zone.
 const NEW: &[u8] = b"Zone Etc/UTC 0 - UTC\nZone Area/Moved 2:00 - BBB\nZone Area/New 0 - CCC\n";
-const OLD: &[u8] = b"Zone Etc/UTC 0 - UTC\nZone Area/Moved 1:00 - AAA\n";
+
+const OLD: &str = "Zone Etc/UTC 0 - UTC\nZone Area/Moved 1:00 - AAA\n";
 
 /// How the fields of times are written, a column, and the lines that `convert` writes of it where it
 /// compares the two.
@@ -165,8 +166,7 @@ fn compared<T: Threads + Wait + Sync + Abort>(
         key: 7,
     };
     let mut column = Counted::new(column);
-    let answer =
-        convert_source_against(&conversion, texts, old, &mut column, rows, &mut Unnoted);
+    let answer = convert_source_against(&conversion, texts, old, &mut column, rows, &mut Unnoted);
     expect(rt, answer.is_ok(), "the rows");
 }
 

@@ -8,7 +8,7 @@ use std::alloc::Global;
 use std::io::ErrorKind;
 use std::process::Abort;
 use zic_columns::{
-    BATCH, Column, Field, Record, Round, Span, Splitter, Taken, PassStop, Wanted, line_end_at,
+    BATCH, Column, Field, PassStop, Record, Round, Span, Splitter, Taken, Wanted, line_end_at,
     line_feeds, push_field,
 };
 use zic_plan::{LineEnd, Notes, Records};
