@@ -286,7 +286,7 @@ static CONVERT: [Word; 30] = [
     },
     Word {
         name: "against",
-        help: "Writes only rows that OLD, a source, has otherwise",
+        help: "Writes only rows that OLD answers differently",
         form: Form::Old,
     },
     Word {
