@@ -26,14 +26,14 @@ pub(crate) fn entry_of(
     alloc: Global,
     awaited: bool,
     line: &[u8],
-) -> Result<Option<Entry>, AllocError> {
+) -> Result<Option<Box<Entry>>, AllocError> {
     let mut fields = Fields::new(alloc);
     let _ = has_fields(alloc, &mut fields, line)?;
     if fields.len() == 0 {
         return Ok(None);
     }
     match line_entry(alloc, awaited, NOWHERE, &fields) {
-        Ok(entry) => Ok(Some(entry)),
+        Ok(entry) => Ok(Some(Box::new(alloc, entry)?)),
         Err(Stop::Fault(_)) => Ok(None),
         Err(Stop::Memory) => Err(AllocError),
     }

@@ -56,7 +56,7 @@ fn rules_in(alloc: Global, texts: &[Vec<u8>], at: TextLine) -> Result<String, Al
     let Some(entry) = entry_at(alloc, texts, at)? else {
         return Ok(String::new(alloc));
     };
-    let rules = match &entry {
+    let rules = match &*entry {
         Entry::Zone(_, line) | Entry::Continuation(line) => &line.rules,
         Entry::Rule(_) | Entry::Link(_) => return Ok(String::new(alloc)),
     };

@@ -48,7 +48,7 @@ pub(crate) fn entry_at(
     alloc: Global,
     texts: &[Vec<u8>],
     at: TextLine,
-) -> Result<Option<Entry>, AllocError> {
+) -> Result<Option<Box<Entry>>, AllocError> {
     let Some(text) = texts.get(at.text) else {
         return Ok(None);
     };
@@ -207,7 +207,7 @@ fn bad_of_text(
             continue;
         };
         awaited = goes_on(&entry);
-        if let Entry::Rule(rule) = &entry {
+        if let Entry::Rule(rule) = &*entry {
             if rule.name.octets() == set.octets() {
                 let bad = bad_text(alloc, before, rule.letter.octets(), after)?;
                 if bad.is_some() {
