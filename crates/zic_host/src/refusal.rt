@@ -1,12 +1,12 @@
 //! Why the program gives up, and the status that it then ends with.
 
 ghost use Rattle.std.specs.Prelude.{◌≡◌};
-ghost use Rattle.zic_main.specs.Status.{refusal_of, refusal_status};
-ghost use Rattle.zic_main.specs.declared.failure.Refusal.TheVariants.{Command};
+ghost use Rattle.zic_host.specs.Status.{refusal_of, refusal_status};
+ghost use Rattle.zic_host.specs.declared.refusal.Refusal.TheVariants.{Command};
 
 use thiserror::Error;
 use zic_command_line::NoRequest;
-use zic_commands::Failure;
+use zic_io::Failure;
 
 /// Why the program gives up. Its text goes to standard error.
 #[derive(Debug, Drop, Error)]

@@ -4,8 +4,8 @@ use Rattle.zic_command_line.specs.declared.no_request.NoRequest.{NoRequest}
 use Rattle.zic_command_line.specs.declared.no_request.NoRequest.TheVariants as reasons
 use Rattle.zic_io.specs.declared.failure.Failure.TheVariants.{Memory}
 use Rattle.zic_io.specs.Words.{status_of}
-use Rattle.zic_main.specs.declared.failure.Refusal.{Refusal}
-use Rattle.zic_main.specs.declared.failure.Refusal.TheVariants as refusals
+use Rattle.zic_host.specs.declared.refusal.Refusal.{Refusal}
+use Rattle.zic_host.specs.declared.refusal.Refusal.TheVariants as refusals
 
 -- where its words ask for nothing: the text of usage, or that memory ran out
 abbrev pub refusal_of : NoRequest → Refusal
