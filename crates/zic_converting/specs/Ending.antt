@@ -1,14 +1,17 @@
 -- How a conversion ends, and what is told of it: by what ended the rows, by the faults of rows after which the run went on, and by which of
 -- its two lists, that of faults and that of their records, were written whole.
-use Rattle.std.specs.Prelude.{◌≡◌, ◌⊎◌, ◌==◌, ℕ, List, Bool, true, false, Option, None, Some, Result, Ok, Err, IsErrAnd}
+use Rattle.std.specs.Prelude.{◌≡◌, ◌⊎◌, ◌==◌, ◌-◌, ◌^◌, ℕ, List, Bool, true, false, Option, None, Some, Result, Ok, Err, IsErrAnd, IsTrue, string_bytes, length, min, option_map, slice_get}
 use Rattle.zic_base.specs.declared.row_fault.RowFault.{RowFault}
+use Rattle.zic_command_line.specs.declared.command_line.Conversion.{Conversion}
 use Rattle.zic_command_line.specs.declared.command_line.Zones.{Zones}
 use Rattle.zic_converting.specs.declared.ending.Unwritten.{Unwritten}
 use Rattle.zic_converting.specs.declared.ending.Unwritten.TheVariants as lists
 use Rattle.zic_converting.specs.declared.faults.Faults.{Faults}
 use Rattle.zic_io.specs.Failing.{IsCannotWrite}
+use Rattle.zic_io.specs.Faults.{fault_of}
 use Rattle.zic_io.specs.declared.failure.Failure.{Failure}
 use Rattle.zic_io.specs.declared.failure.Failure.TheVariants as failures
+use Rattle.zic_plan.specs.Noted.{RowNote}
 use Rattle.zic_plan.specs.declared.layout.AtFault.{AtFault}
 use Rattle.zic_plan.specs.declared.layout.AtFault.TheVariants as rules
 
@@ -22,6 +25,14 @@ failure_from rules.GoOn first count = failures.Rows first.row first.kind count
 abbrev pub failure_by : AtFault → Option RowFault → ℕ → Option Failure
 failure_by at_fault None count = None
 failure_by at_fault (Some first) count = Some (failure_from at_fault first count)
+
+-- the faults that a list has noted, which are no more than a `u64` can count
+abbrev pub faults_in : AtFault → List RowNote → Faults
+faults_in at_fault noted = record {
+  at_fault = at_fault;
+  first = fault_of (slice_get noted 0);
+  count = min (length noted) (2 ^ 64 - 1);
+}
 
 -- the failure that the faults of rows are after which a run went on, if there are any
 abbrev pub failure_of : Faults → Option Failure
@@ -81,6 +92,19 @@ IsReport (Ok done) (Some path) reported = IsUnwrittenAt path reported
 IsReport (Err (failures.Rows row kind count)) (Some path) reported = IsUnwrittenAt path reported
 IsReport (Err (failures.Rejected row kind count)) (Some path) reported = IsUnwrittenAt path reported
 IsReport (Err failure) (Some path) reported = reported ≡ Err failure
+
+-- the path of a list, if there is one
+abbrev pub path_of : Conversion → Option Unwritten → Option (List ℕ)
+path_of order None = None
+path_of order (Some lists.Faults) = option_map string_bytes order.faults
+path_of order (Some lists.Rejects) = option_map string_bytes order.rejects
+
+-- What a run reports that ended so after these faults: a list may not be written whole, but where those of an earlier run stay as they are
+-- nothing is written to either.
+abbrev pub IsReportOf : Conversion → Faults → Result (Unit {0}) Failure → Result (Unit {0}) Failure → Type 0
+IsReportOf order faults ended reported =
+    (unwritten : Option Unwritten) × (IsTrue (keeps_lists faults ended) → unwritten ≡ None)
+    × IsReport ended (path_of order unwritten) reported
 
 -- the number of rows that were made, where some are left out: those of a run by two releases that ended well
 abbrev pub rows_made : Option Zones → Result ℕ Failure → Option ℕ

@@ -1,5 +1,9 @@
 //! `convert`, from the texts of its sources to the report of its end.
 
+ghost use Rattle.std.specs.Option.{option_copied};
+ghost use Rattle.std.specs.Prelude.{◌≡◌, option_map, string_bytes};
+ghost use Rattle.zic_converting.specs.Ending.{ended, faults_in, path_of, told_beside, IsReportOf};
+
 use crate::ending::{Unwritten, ended, keeps_lists, report};
 use crate::header::Head;
 use crate::lists::Lists;
@@ -93,7 +97,7 @@ fn convert_listed<
     E: Write + Drop,
 >(rt: &R, order: &Conversion, noted: &mut Noted, line: ProgressLine<E>) -> Result<(), Failure> {
     let mut lists = Lists::open(rt, order)?;
-    let converted = convert_rows(rt, order, noted, line, &mut lists.noted);
+    let converted = convert_rows(rt, order, noted, line, &mut lists.list);
     end(order, noted, lists, converted)
 }
 
@@ -103,7 +107,12 @@ fn end<R: Files>(
     noted: &mut Noted,
     lists: Lists<'_, R>,
     converted: Result<u64, Failure>,
-) -> Result<(), Failure> {
+) -> Result<(), Failure>
+    ensures told { let faults = faults_in order.now.layout.at_fault lists.entry.list.noted in
+        noted.new.faults ≡ told_beside faults (ended faults converted) }
+    ensures reported { let faults = faults_in order.now.layout.at_fault lists.entry.list.noted in
+        IsReportOf order.now faults (ended faults converted) result }
+{
     let faults = lists.faults(order);
     let ended = ended(converted, &faults);
     drop(mem::replace(&mut noted.faults, faults.told_beside(&ended)));
@@ -117,7 +126,9 @@ fn end<R: Files>(
 }
 
 /// Returns the path of a list.
-fn path_of(order: &Conversion, unwritten: Option<Unwritten>) -> Option<&String> {
+fn path_of(order: &Conversion, unwritten: Option<Unwritten>) -> Option<&String>
+    ensures { option_map string_bytes (option_copied result) ≡ path_of order.now unwritten }
+{
     match unwritten? {
         Unwritten::Faults => order.faults.as_ref(),
         Unwritten::Rejects => order.rejects.as_ref(),

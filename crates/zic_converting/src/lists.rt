@@ -1,5 +1,8 @@
 //! The lists of a conversion: the files for the faults of rows and for their records.
 
+ghost use Rattle.std.specs.Prelude.{◌≡◌};
+ghost use Rattle.zic_converting.specs.Ending.{faults_in};
+
 use crate::ending::{Unwritten, first_unwritten};
 use crate::faults::Faults;
 use std::fs::Files;
@@ -11,7 +14,7 @@ use zic_io::{Failure, FaultList, ListFile};
 /// round of rows of which one has a fault, or by [`Lists::finish`].
 #[derive(Drop)]
 pub(crate) struct Lists<'a, R: Files> {
-    pub(crate) noted: FaultList<BufWriter<ListFile<'a, R>>>,
+    pub(crate) list: FaultList<BufWriter<ListFile<'a, R>>>,
 }
 
 impl<'a, R: Files + AllocGlobal> Lists<'a, R> {
@@ -24,7 +27,7 @@ impl<'a, R: Files + AllocGlobal> Lists<'a, R> {
         let faults = list_file(rt, &order.faults)?;
         match list_file(rt, &order.rejects) {
             Ok(rejects) => Ok(Lists {
-                noted: FaultList::new(faults, rejects, order.fault_fields),
+                list: FaultList::new(faults, rejects, order.fault_fields),
             }),
             Err(failure) => {
                 drop(faults);
@@ -36,21 +39,23 @@ impl<'a, R: Files + AllocGlobal> Lists<'a, R> {
 
 impl<R: Files> Lists<'_, R> {
     /// Returns the faults that were noted.
-    pub(crate) fn faults(&self, order: &Conversion) -> Faults {
+    pub(crate) fn faults(&self, order: &Conversion) -> Faults
+        ensures { result ≡ faults_in order.now.layout.at_fault self.now.list.noted }
+    {
         Faults {
             at_fault: order.layout.at_fault,
-            first: self.noted.first(),
-            count: self.noted.count(),
+            first: self.list.first(),
+            count: self.list.count(),
         }
     }
 
     /// Has the files pass on what they hold back, and the system write it. Returns the first that was not
     /// written whole, if there is one.
     pub(crate) fn finish(self) -> Option<Unwritten> {
-        let mut noted = self.noted;
-        let has_faults = noted.finish_faults();
-        let has_rejects = noted.finish_rejects();
-        let (faults, rejects) = noted.into_files();
+        let mut list = self.list;
+        let has_faults = list.finish_faults();
+        let has_rejects = list.finish_rejects();
+        let (faults, rejects) = list.into_files();
         first_unwritten(
             has_faults && is_synced(faults),
             has_rejects && is_synced(rejects),

@@ -2,6 +2,8 @@
 
 ghost use Rattle.std.specs.Prelude.{IfOk};
 ghost use Rattle.zic_compare.specs.Files.{HasInstants};
+ghost use Rattle.zic_compile.specs.Build.{AreFilesOfTexts};
+ghost use Rattle.zic_source.specs.Texts.{texts_of};
 
 use std::fs::Files;
 use std::io::{Input, Write};
@@ -134,7 +136,9 @@ fn text_files<R: AllocGlobal + Threads + Wait + Sync>(
     plan: &Plan,
     texts: &[Vec<u8>],
     text: u64,
-) -> Result<ZoneFiles, Failure> {
+) -> Result<ZoneFiles, Failure>
+    ensures { IfOk result (AreFilesOfTexts (texts_of texts.now)) }
+{
     match files_of(rt, rt.alloc(), plan, texts) {
         Ok(files) => Ok(files),
         Err(failure) => Err(fault_in(text, failure)),
