@@ -3,9 +3,10 @@
 
 usage: make-index.py [--check]
 
-Prints a page in Markdown, with links as from docs/. With --check, prints in its place each public function that has neither an edit (or a
-test) nor a line of docs/index-exceptions.txt, each line there that no function needs, each line of docs/promises.txt
-that names no clause, each definition that a clause cites and docs/DEFINITIONS.md doesn't name, and each public function
+Prints a page in Markdown, with links as from docs/. With --check, prints in its place each public function that has neither an edit,
+in must-fail/ or plants/, nor a test nor a line of docs/index-exceptions.txt, each line there that no function needs, each line of docs/promises.txt
+that names no clause, each line of docs/wrong-bodies.txt that names no edit in must-fail/ and no test, each edit whose text its file hasn't just
+once, each definition that a clause cites and docs/DEFINITIONS.md doesn't name, and each public function
 that docs/PROOF.md doesn't name; the status is 1 if there is any.
 
 An edit belongs to the function whose text it changes, or to those that use the constant that it changes. Where that one is
@@ -24,8 +25,8 @@ from names import CRATES, Tree
 HEAD = """# Index
 
 First the promises, each with the clauses and laws that make it. Then each public function, with the names of its clauses,
-the definitions that they cite, an edit of its code that the prover refuses, and a test that calls it, and each law, with
-the definition that states it. [PROOF.md](PROOF.md) explains the promises, crate by crate.
+the definitions that they cite, the edits of its code that the prover refuses, and a test that calls it, and each law,
+with the definition that states it. [PROOF.md](PROOF.md) explains the promises, crate by crate.
 
 - What is read and written is promised for readers and writers whose bytes are known, and what is placed in a tree, or
   read of one, for trees that tell it ([PROOF.md](PROOF.md#what-isnt-proved)). A failure is one that was counted; the
@@ -33,10 +34,11 @@ the definition that states it. [PROOF.md](PROOF.md) explains the promises, crate
 - `ensures` is a clause without a name.
 - A trait's method stands with each type that has it, and its clauses are also the ghost items, as `from_gives`.
 - A definition of std, as that of `length`, isn't named. A cell is empty where clauses cite none of this repository.
-- A function in which no edit stands has one of a private function that it calls, and that function is named.
+- Edits stand in `must-fail/` or in `plants/` ([TESTING.md](TESTING.md#wrong-bodies)). A function in which none stands
+  has one of a private function that it calls, and that function is named.
 - A function may have more tests: the one that calls the fewest other functions is named. Those of `tests/worked` are
   files of rows ([TESTING.md](TESTING.md#tables-of-calls)).
-- A function without an edit or a test stands in [index-exceptions.txt](index-exceptions.txt) with the reason.
+- A function with neither an edit nor a test stands in [index-exceptions.txt](index-exceptions.txt) with the reason.
 
 `docs/make-index.py` prints this page. It looks names up in the sources."""
 
@@ -54,7 +56,7 @@ class Index:
     def __init__(self):
         self.tree, self.edits, self.tests = Tree(), defaultdict(dict), defaultdict(list)
         self.public = [f for f in self.tree.functions if f.is_public and (f.is_export or f.module.crate.startswith('zic_'))]
-        for path in sorted(CRATES.glob('*/must-fail/*.edit')):
+        for path in edits():
             for f, within in self.changed(path):
                 self.edits[f].setdefault(path, within)
         tests = [(test, self.reached(f)) for f in self.tree.functions for test in tests_of(f)]
@@ -103,24 +105,36 @@ class Index:
             rest += [g for g in near if not g.is_public]
 
     def lacks(self):
-        """Yields what has no edit or no test, and is no exception, and exceptions that nothing needs."""
+        """Yields what has neither an edit nor a test, and is no exception, and exceptions that nothing needs."""
         lines = (CRATES.parent / 'docs/index-exceptions.txt').read_text().splitlines()
-        words = [line.partition(': ')[0].split() for line in lines if not line.startswith(';')]
-        unused = {tuple(pair) for pair in words if pair}
+        unused = {line.partition(': ')[0] for line in lines if line and not line.startswith(';')}
         exceptions = sorted(unused)
-        for f in [f for f in self.public if not f.is_law]:
-            for kind, found in (('edit', self.edits[f]), ('test', self.tests[f])):
-                fits = {e for e in exceptions if e[0] == kind and fnmatchcase(f.key, e[1])}
-                unused -= set() if found else fits
-                if not found and not fits:
-                    yield f'{f.key} has no {kind}'
-        yield from (f"no clause makes the promise '{promise}'" for promise, lines in promises() if not lines)
-        for words in (words for _, lines in promises() for words in lines):
+        for f in [f for f in self.public if not f.is_law and not self.edits[f] and not self.tests[f]]:
+            fits = {name for name in exceptions if fnmatchcase(f.key, name)}
+            unused -= fits
+            if not fits:
+                yield f'{f.key} has neither an edit nor a test'
+        yield from (f"no function needs the exception '{name}'" for name in sorted(unused))
+        yield from (f"no clause makes the promise '{promise}'" for promise, lines in listed('promises') if not lines)
+        for words in (words for _, lines in listed('promises') for words in lines):
             f, clauses = self.found(words)
             if not f or len(clauses) != max(len(words) - 1, 1) or f.is_law and len(words) > 1:
                 yield f"'{' '.join(words)}' of docs/promises.txt isn't a law, or a function with these clauses"
-        yield from (f"no function needs the exception '{kind} {name}'" for kind, name in sorted(unused))
+        yield from self.unrefused()
         yield from self.unlisted()
+
+    def unrefused(self):
+        """Yields the lines of docs/wrong-bodies.txt that name no edit in must-fail/ and no test, and the edits that don't fit."""
+        tests = {f'{f.module.crate}::{f.module.path.stem}::{f.name}' for f in self.tree.functions if f.is_test}
+        for body, lines in listed('wrong-bodies'):
+            if not lines:
+                yield f"nothing refuses the wrong body '{body}'"
+            for words in lines:
+                crate, _, name = words[0].partition('/')
+                path = CRATES.parent / words[0] if '.' in name else CRATES / crate / f'must-fail/{name}.edit'
+                if len(words) > 1 or not path.exists() and words[0] not in tests:
+                    yield f"'{' '.join(words)}' of docs/wrong-bodies.txt is no edit in must-fail/ and no test"
+        yield from (f'{path.relative_to(CRATES)} {why}' for path in edits() for why in misfits(path))
 
     def unlisted(self):
         """Yields the definitions that clauses cite and docs/DEFINITIONS.md doesn't name."""
@@ -146,7 +160,7 @@ class Index:
     def page(self):
         yield HEAD
         yield '\n## Promises\n\n| Promise | Clauses | Definitions | Edit | Test |\n|---|---|---|---|---|'
-        for promise, clauses in promises():
+        for promise, clauses in listed('promises'):
             yield from self.promised(promise, clauses)
         for crate in sorted({f.module.crate for f in self.public}):
             yield f'\n## {crate}'
@@ -217,10 +231,31 @@ def definitions(f, clauses=None):
     return ', '.join(dict.fromkeys(link(*found) for _, clause in clauses for found in f.module.cited(clause)))
 
 
-def promises():
-    """Returns the promises, each with the words of the lines below it."""
+def edits():
+    """Returns the files of all edits: first those that the gate tries for each change."""
+    return [path for folder in ('must-fail', 'plants') for path in sorted(CRATES.glob(f'*/{folder}/*.edit'))]
+
+
+def misfits(path):
+    """Yields why an edit can't be applied: each text that it takes away stands once in its file, as the changes before left it."""
+    texts, file, old = {}, None, ''
+    for line in path.read_text().splitlines():
+        kind, _, rest = line.partition(':')
+        if kind == 'file':
+            file = path.parent.parent / rest.strip()
+            texts.setdefault(file, file.read_text() if file.exists() else '')
+        elif kind == 'old':
+            old = rest.removeprefix(' ')
+        elif kind == 'new' and texts[file].count(old) != 1:
+            yield f"changes '{old.strip()}', which stands {texts[file].count(old)} times in {file.name}"
+        elif kind == 'new':
+            texts[file] = texts[file].replace(old, rest.removeprefix(' '))
+
+
+def listed(name):
+    """Returns the sentences of a list of docs/, as promises.txt, each with the words of the lines below it."""
     found = []
-    for line in (CRATES.parent / 'docs/promises.txt').read_text().splitlines():
+    for line in (CRATES.parent / f'docs/{name}.txt').read_text().splitlines():
         if line.startswith('- '):
             found[-1][1].append(line[2:].split())
         elif line and not line.startswith(';'):
