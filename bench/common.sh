@@ -13,19 +13,10 @@ input=/dev/null
 # Debian's own Python may have numpy.
 python=python3
 [ ! -x /usr/bin/python3 ] || python=/usr/bin/python3
-# A folder with a file for each program that is built.
-export BUILT="${BUILT:-$work}"
 
-# build CRATE WORD...: proves and builds a program once, by running it with these words.
+# build CRATE...: proves and builds crates, where that isn't done yet.
 build() {
-    crate=$1
-    shift
-    [ ! -e "$BUILT/$crate" ] || return 0
-    (cd "crates/$crate" && rt run -- "$@") <"$input" >"$work/build.log" 2>&1 || {
-        cat "$work/build.log" >&2
-        exit 1
-    }
-    : >"$BUILT/$crate"
+    tools/prove "$@" || exit
 }
 
 # has FILE PACKAGE: tells whether a file of a Debian package is there. Installs the package first if

@@ -48,7 +48,7 @@ options | others | stream)
 esac
 runs=${RUNS:-7}
 program=${PZIC:-crates/zic_main/out/zic_main}
-[ "${PZIC:-}" ] || build zic_main check -
+[ "${PZIC:-}" ] || build zic_main
 has /usr/bin/time time
 plain column
 "$program" build "$work/tree" "$release"

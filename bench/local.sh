@@ -18,7 +18,7 @@ rows=${1:-2000000}
 few=$((rows / 20))
 runs=${RUNS:-5}
 program=${PZIC:-crates/zic_main/out/zic_main}
-[ "${PZIC:-}" ] || build zic_main check -
+[ "${PZIC:-}" ] || build zic_main
 plain column
 "$program" build "$work/tree" "$release"
 (cd "$work/tree" && find . -type f) | sed 's,^\./,,' | grep -v '^Factory$' | LC_ALL=C sort >"$work/names"

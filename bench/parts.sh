@@ -5,7 +5,7 @@
 # Needs `rt`, a C compiler and the release.
 set -euo pipefail
 . "$(dirname "${BASH_SOURCE[0]}")/common.sh"
-build probe counts
+build probe pzic_c
 ./make-library "$work/built"
 cc -O2 -Wall -I include bench/parts.c "$work/built/lib/libpzic.a" -o "$work/parts"
 

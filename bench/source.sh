@@ -5,7 +5,7 @@
 # them, which only splits the lines and counts names. Needs `rt` and `rustc` on the PATH.
 set -eu
 . "$(dirname "$0")/common.sh"
-build probe counts
+build probe
 plain fields
 
 awk 'BEGIN { for (i = 0; i < 10000; i++) printf "Rule set%d 2000 max - Mar Sun>=8 2:00 1:00 D\n", i }' >"$work/rules"

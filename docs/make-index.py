@@ -10,9 +10,10 @@ once, each definition that a clause cites and docs/DEFINITIONS.md doesn't name, 
 that docs/PROOF.md doesn't name; the status is 1 if there is any.
 
 An edit belongs to the function whose text it changes, or to those that use the constant that it changes. Where that one is
-private, it belongs to the public functions that call it through private ones. A test calls a function itself, or through
-the other functions of the tests. A file of tests/worked is the test of what a module of crates/probe/src/rows calls: tests/worked
-sees to it that each call of the module stands in the file. The functions that C calls are tested by those of tests/library/library.c.
+private, it belongs to the public functions that call it through private ones. What C calls has the edits of the function
+that it calls. A test calls a function itself, or through the other functions of the tests. A file of
+tests/worked is the test of what a module of crates/probe/src/rows calls: tests/worked sees to it that each call of the
+module stands in the file. The functions that C calls are tested by those of tests/library/library.c.
 """
 import re
 import sys
@@ -36,6 +37,7 @@ with the definition that states it. [PROOF.md](PROOF.md) explains the promises, 
 - A definition of std, as that of `length`, isn't named. A cell is empty where clauses cite none of this repository.
 - Edits stand in `must-fail/` or in `plants/` ([TESTING.md](TESTING.md#wrong-bodies)). A function in which none stands
   has one of a private function that it calls, and that function is named.
+- What C calls has the edits of the function that it calls.
 - A function may have more tests: the one that calls the fewest other functions is named. Those of `tests/worked` are
   files of rows ([TESTING.md](TESTING.md#tables-of-calls)).
 - A function with neither an edit nor a test stands in [index-exceptions.txt](index-exceptions.txt) with the reason.
@@ -59,6 +61,9 @@ class Index:
         for path in edits():
             for f, within in self.changed(path):
                 self.edits[f].setdefault(path, within)
+        for f in (f for f in self.public if f.is_export):
+            for called in self.tree.called(f.module, f.body, f):
+                self.edits[f] |= self.edits[called]
         tests = [(test, self.reached(f)) for f in self.tree.functions for test in tests_of(f)]
         for test, reached in sorted(tests, key=lambda pair: len(pair[1])):
             for f in reached:

@@ -1,7 +1,7 @@
 # Sourced by the tests and by the scripts that need built programs, from the top of the repository.
 work=$(mktemp -d)
 trap 'rm -rf "$work"' EXIT
-# A folder with a file for each program that is built. All tests of one run share it.
+# A folder with a file for each crate that is proved and built. All tests of one run share it.
 export BUILT=${BUILT:-$work}
 # The tests import what is in tests/outside, and tables.py.
 export PYTHONPATH=$PWD/tests:$PWD/tests/outside PYTHONDONTWRITEBYTECODE=1
@@ -16,16 +16,13 @@ changed() {
         -e 's/^\(Z E[^ ]* [^ ]*:[0-9]*:[0-9]\)[0-9] /\17 /' -e '/ America\/Bogota /d' "$release"
 }
 
-# build NAME WORD...: proves and builds a program once, by running it with these words and no input.
+# build CRATE...: proves and builds crates, where that isn't done yet. tests/run reads these lines of all
+# tests that it runs, and has their crates built before the first.
 build() {
-    local name=$1
-    shift
-    [ ! -e "$BUILT/$name" ] || return 0
-    if ! (cd "crates/$name" && rt run -- "$@") </dev/null >"$work/log" 2>&1; then
-        cat "$work/log" >&2
-        exit 1
-    fi
-    : >"$BUILT/$name"
+    local crate lacks=()
+    for crate in "$@"; do [ -e "$BUILT/$crate" ] || lacks+=("$crate"); done
+    [ "${#lacks[@]}" = 0 ] || tools/prove "${lacks[@]}" || exit
+    for crate in "${lacks[@]}"; do : >"$BUILT/$crate"; done
 }
 
 # has WHAT COMMAND...: returns whether all these commands are there. If not, says that this part of the
@@ -40,10 +37,9 @@ has() {
 
 # ------------------------------------------------------------------ calls of the program
 
-# enter: makes the program ready, and goes into an empty folder. Calls read from `input`. What they print
-# goes to ../out and ../err.
+# enter: goes into an empty folder, and makes ready for calls of the program, which is built. They read
+# from `input`, and what they print goes to ../out and ../err.
 enter() {
-    build zic_main check -
     program=$PWD/crates/zic_main/out/zic_main
     calls=0 differences=0 input=/dev/null
     mkdir "$work/asked"

@@ -257,9 +257,9 @@ def named_texts(paths):
 
 # ------------------------------------------------------------------ who answers
 
-def built(name, *words):
+def built(name):
     """Returns a program, which is proved and built first if it isn't."""
-    subprocess.run(['bash', '-euc', '. tests/common.sh; build "$@"', 'bash', name, *words], cwd=ROOT, check=True)
+    subprocess.run(['bash', '-euc', '. tests/common.sh; build "$1"', 'bash', name], cwd=ROOT, check=True)
     return str(ROOT / 'crates' / name / 'out' / name)
 
 
@@ -267,7 +267,7 @@ def library(table, blocks, named):
     """Yields for each row the answer of the library, which crates/probe calls. The table has the name of a module there."""
     rows = [row for block in blocks for row in block.rows]
     calls = [(row, call_of(table, *call)) for row in rows for call in row.calls(named)]
-    run = subprocess.run([built('probe', 'counts'), 'rows'], input='\n'.join(call for _, call in calls) + '\n', stdout=subprocess.PIPE, encoding='latin-1')
+    run = subprocess.run([built('probe'), 'rows'], input='\n'.join(call for _, call in calls) + '\n', stdout=subprocess.PIPE, encoding='latin-1')
     answers = re.split(r'^\.\n', run.stdout, flags=re.M)[:-1]
     for (row, _), answer in itertools.zip_longest(calls, answers):
         yield row, row.wanted(named), Answer(out=[line.encode('latin-1') for line in answer.splitlines()] if answer else [b'no answer'])
@@ -317,7 +317,7 @@ class Folder:
     """A folder in which the program runs."""
 
     def __init__(self, folder):
-        self.program, self.path = built('zic_main', 'check', '-'), Path(folder)
+        self.program, self.path = built('zic_main'), Path(folder)
 
     def write(self, files):
         shutil.rmtree(self.path / 'tree', ignore_errors=True)

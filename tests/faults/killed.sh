@@ -5,6 +5,7 @@
 set -euo pipefail
 cd "$(dirname "${BASH_SOURCE[0]}")/../.."
 . tests/common.sh
+build zic_main
 enter
 echo 'Zone Etc/UTC 0 - UTC' >plain
 awk 'BEGIN { for (i = 0; i < 2000; i++) printf "Zone Z/%d %d:%02d - %%z\n", i, i / 60 % 24, i % 60 }' >many

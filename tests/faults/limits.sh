@@ -8,7 +8,6 @@
 set -euo pipefail
 cd "$(dirname "${BASH_SOURCE[0]}")/../.."
 . tests/common.sh
-
-build zic_main check -
+build zic_main
 mkdir "$work/limits"
 python3 tests/faults/limits.py crates/zic_main/out/zic_main "$work/limits" | sed 's/^/limits: /'

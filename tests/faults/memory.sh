@@ -6,8 +6,7 @@
 set -euo pipefail
 cd "$(dirname "${BASH_SOURCE[0]}")/../.."
 . tests/common.sh
-build probe counts
-build zic_main check -
+build zic_main probe
 # A rule every eight hours, with standard time and saved time in turn.
 awk 'BEGIN {
     split("Jan Feb Mar Apr May Jun Jul Aug Sep Oct Nov Dec", months)

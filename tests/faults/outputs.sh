@@ -5,6 +5,7 @@
 set -euo pipefail
 cd "$(dirname "${BASH_SOURCE[0]}")/../.."
 . tests/common.sh
+build zic_main
 enter
 echo 'Zone Etc/UTC 0 - UTC' >plain
 "$program" build tree plain

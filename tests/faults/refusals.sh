@@ -11,6 +11,7 @@
 set -euo pipefail
 cd "$(dirname "${BASH_SOURCE[0]}")/../.."
 . tests/common.sh
+build zic_main probe program_tests
 cc -O2 -shared -fPIC -ftls-model=initial-exec -o "$work/refuse.so" tests/faults/refuse.c
 
 # ------------------------------------------------------------------ tests
@@ -18,11 +19,6 @@ cc -O2 -shared -fPIC -ftls-model=initial-exec -o "$work/refuse.so" tests/faults/
 # pass CRATE TEST: runs a test, which must pass, with each growth and each start refused in turn.
 pass() {
     local kind n
-    if [ ! -e "$BUILT/$1_tests" ] && ! (cd "crates/$1" && rt test) >"$work/log" 2>&1; then
-        cat "$work/log" >&2
-        exit 1
-    fi
-    : >"$BUILT/$1_tests"
     for kind in GROWTH START; do
         for ((n = 1; ; n++)); do
             if ! timeout 60 env "REFUSE_$kind=$n" "LD_PRELOAD=$work/refuse.so" \
@@ -43,7 +39,6 @@ pass program_tests claims::a_pass_sees_the_report_of_another
 
 # ------------------------------------------------------------------ calls of the library
 
-build probe counts
 # But for the calls that change or cut a source in every place, and those that grow nothing.
 python3 tests/tables.py --calls tests/worked/*.txt |
     grep -vE '^(calendar|sources changed|sources fronts|strings spans) ' >"$work/calls"
@@ -72,7 +67,6 @@ echo "$(wc -l <"$work/calls") calls of the library: $((n - 1)) growths refused i
 
 # ------------------------------------------------------------------ commands
 
-build zic_main check -
 program=$PWD/crates/zic_main/out/zic_main
 cd "$work"
 

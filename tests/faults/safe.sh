@@ -8,7 +8,7 @@
 set -euo pipefail
 cd "$(dirname "${BASH_SOURCE[0]}")/../.."
 . tests/common.sh
-
+build zic_main
 enter
 
 # holds FILE TEXT: compares a file with what it has to hold.

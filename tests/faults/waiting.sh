@@ -6,8 +6,7 @@
 set -euo pipefail
 cd "$(dirname "${BASH_SOURCE[0]}")/../.."
 . tests/common.sh
-
-build zic_main check -
+build zic_main
 program=crates/zic_main/out/zic_main
 echo 'Zone Z 0 - UTC' >"$work/source"
 "$program" build "$work/tree" "$work/source"

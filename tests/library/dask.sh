@@ -8,8 +8,8 @@
 set -euo pipefail
 cd "$(dirname "${BASH_SOURCE[0]}")/../.."
 . tests/common.sh
+build zic_main pzic_c
 ./make-library "$work/library"
-build zic_main check -
 python=python3
 if [ -x /usr/bin/python3 ]; then
     python=/usr/bin/python3

@@ -8,9 +8,9 @@
 set -euo pipefail
 cd "$(dirname "${BASH_SOURCE[0]}")/../.."
 . tests/common.sh
+build zic_main pzic_c
 built=$work/library tree=$work/zones
 ./make-library "$built"
-build zic_main check -
 crates/zic_main/out/zic_main build "$tree" "$release"
 
 # The headers, as each standard has them, and the version.

@@ -7,8 +7,7 @@
 set -euo pipefail
 cd "$(dirname "${BASH_SOURCE[0]}")/../.."
 . tests/common.sh
-
-build zic_main check -
+build zic_main
 program=$PWD/crates/zic_main/out/zic_main
 witness=$PWD/tests/outside/differences.py
 summaries=$PWD/tests/outside/summaries.py

@@ -5,8 +5,7 @@
 set -euo pipefail
 cd "$(dirname "${BASH_SOURCE[0]}")/../.."
 . tests/common.sh
-
-build zic_main check -
+build zic_main
 program=$PWD/crates/zic_main/out/zic_main
 cd "$work"
 "$program" build "$work/tree" "$release"

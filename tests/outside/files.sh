@@ -4,8 +4,7 @@
 set -euo pipefail
 cd "$(dirname "${BASH_SOURCE[0]}")/../.."
 . tests/common.sh
-
-build zic_main check -
+build zic_main pzic_c
 ./make-library "$work/library"
 crates/zic_main/out/zic_main build "$work/ours" "$release"
 zic -b fat -d "$work/fat" "$release"

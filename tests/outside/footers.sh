@@ -6,7 +6,6 @@
 set -euo pipefail
 cd "$(dirname "${BASH_SOURCE[0]}")/../.."
 . tests/common.sh
-
-build probe counts
+build probe
 zic -b fat -d "$work/files" "$release"
 python3 tests/outside/readers.py crates/probe/out/probe tests/outside/footers.txt "$work/files" | sed 's/^/footers: /'

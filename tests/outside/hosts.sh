@@ -8,6 +8,7 @@
 set -euo pipefail
 cd "$(dirname "${BASH_SOURCE[0]}")/../.."
 . tests/common.sh
+build zic_main
 enter
 mkdir bin hosts days
 cat >bin/ssh <<'END'

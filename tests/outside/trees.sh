@@ -6,9 +6,7 @@
 set -euo pipefail
 cd "$(dirname "${BASH_SOURCE[0]}")/../.."
 . tests/common.sh
-
-build zic_main check -
-build probe counts
+build zic_main probe
 program=crates/zic_main/out/zic_main
 
 same() {

@@ -5,13 +5,12 @@
 set -euo pipefail
 cd "$(dirname "${BASH_SOURCE[0]}")/../.."
 . tests/common.sh
-
+build probe
 fail() {
     echo "tzdata.zi: got '$1', and not '$2'" >&2
     exit 1
 }
 
-build probe counts
 got=$(crates/probe/out/probe counts <"$release")
 # In such a release each keyword is cut to one letter. Lines that begin with none are continuations.
 want=$(awk '/^R /{r++} /^Z /{z++} /^L /{l++} !/^[RZL#]/ && NF {c++}

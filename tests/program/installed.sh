@@ -8,7 +8,7 @@
 set -euo pipefail
 cd "$(dirname "${BASH_SOURCE[0]}")/../.."
 . tests/common.sh
-build zic_main check -
+build zic_main pzic_c
 work=${work:?} release=${release:?}
 root=$work/root
 differences=0

@@ -15,7 +15,7 @@
 set -euo pipefail
 cd "$(dirname "${BASH_SOURCE[0]}")/../.."
 . tests/common.sh
-build zic_main check -
+build zic_main pzic_c
 repository=$PWD
 work=${work:?}
 log=$work/differences

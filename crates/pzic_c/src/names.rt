@@ -1,31 +1,11 @@
-//! The names of faults and reasons, as the program prints them.
+//! The calls that give names, and the version.
 
-ghost use Rattle.std.specs.Prelude.{◌≡◌, MatchOption};
+ghost use Rattle.std.specs.Prelude.{◌≡◌};
 ghost use Rattle.zic_base.specs.FaultName.{IsFaultName};
 ghost use Rattle.zic_tzif.specs.Reason.{IsReasonName};
-ghost use Rattle.pzic_c.specs.declared.status.TheConstants.{NO_SUCH};
-ghost use Rattle.pzic_c.specs.Names.{IsNameCopied};
-ghost use Rattle.pzic_c.specs.Text.{IsTextCopied};
+ghost use Rattle.pzic_files.specs.Names.{IsNameCopied};
 
-use crate::copying::copy;
-use crate::status::{NO_SUCH, OK};
-use zic_base::name_of_fault;
-use zic_tzif::name_of_reason;
-
-/// Copies a name, if there is one, as much as there is room for.
-fn tell(name: Option<&str>, room: &mut [u8], count: &mut usize) -> i32
-    ensures { MatchOption name.entry
-        ((result ≡ NO_SUCH) × (room.new ≡ room.old) × (count.new ≡ count.old))
-        (λ text. IsTextCopied text.now result room.old room.new count.new) }
-{
-    match name {
-        Some(name) => {
-            copy(name.as_bytes(), room, count);
-            OK
-        }
-        None => NO_SUCH,
-    }
-}
+use pzic_files::VERSION;
 
 /// Copies the name of a fault's kind, as much as there is room for.
 #[unsafe(no_mangle)]
@@ -33,7 +13,7 @@ pub extern "C" fn pzic_raw_name_of_fault(kind: u32, room: &mut [u8], count: &mut
     ensures { IsNameCopied (IsFaultName kind) result
         room.old room.new count.old count.new }
 {
-    tell(name_of_fault(kind), room, count)
+    pzic_files::name_of_fault(kind, room, count)
 }
 
 /// Copies the name of a reason, as much as there is room for.
@@ -42,5 +22,13 @@ pub extern "C" fn pzic_raw_name_of_reason(reason: u32, room: &mut [u8], count: &
     ensures { IsNameCopied (IsReasonName reason) result
         room.old room.new count.old count.new }
 {
-    tell(name_of_reason(reason), room, count)
+    pzic_files::name_of_reason(reason, room, count)
+}
+
+/// Returns the version.
+#[unsafe(no_mangle)]
+pub extern "C" fn pzic_version() -> u32
+    ensures { result ≡ VERSION }
+{
+    pzic_files::version()
 }

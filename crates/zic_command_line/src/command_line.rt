@@ -68,7 +68,7 @@ pub struct Building {
 }
 
 /// What the words ask for.
-#[derive(Debug, Drop)]
+#[derive(Drop)]
 pub struct CommandLine {
     pub request: Request,
     /// Whether a failure is explained.
@@ -191,21 +191,29 @@ pub fn requested<R: Env + AllocGlobal>(rt: &R) -> Result<CommandLine, NoRequest>
 ///
 /// The text of usage or of help, or memory ran out.
 pub fn parse(alloc: Global, words: &[String]) -> Result<CommandLine, NoRequest> {
-    let matches = match commands(alloc)?.try_get_matches_from(words) {
-        Ok(matches) => matches,
-        Err(e) => return Ok(CommandLine {
-            request: unmatched(alloc, words, &e)?,
-            explain: false,
-        }),
-    };
+    match commands(alloc)?.try_get_matches_from(words) {
+        Ok(matches) => {
+            let line = matched(alloc, &matches);
+            drop(matches);
+            line
+        }
+        Err(e) => {
+            let line = unmatched(alloc, words, &e);
+            drop(e);
+            line
+        }
+    }
+}
+
+/// Returns what words that are a command ask for.
+fn matched(alloc: Global, matches: &ArgMatches<'_>) -> Result<CommandLine, NoRequest> {
     let (name, explain) = match matches.subcommand() {
         Some((name, m)) => (name, m.get_flag("explain")),
         None => ("", false),
     };
-    match command(alloc, &matches) {
+    match command(alloc, matches) {
         Ok(request) => Ok(CommandLine { request, explain }),
-        Err(NoRequest::Usage(text)) => Err(NoRequest::Usage(with_help(alloc, text, name)?)),
-        Err(NoRequest::Memory) => Err(NoRequest::Memory),
+        Err(refusal) => Err(hinted(alloc, refusal, name)),
     }
 }
 
@@ -227,13 +235,25 @@ fn command_name(words: &[String]) -> &'static str {
     ""
 }
 
+/// Returns a refusal whose text ends with a hint at the help of the command of this name, in place of one at
+/// the help.
+pub(crate) fn hinted(alloc: Global, refusal: NoRequest, name: &str) -> NoRequest {
+    match refusal {
+        NoRequest::Usage(text) => match with_help(alloc, text, name) {
+            Ok(text) => NoRequest::Usage(text),
+            Err(_) => NoRequest::Memory,
+        },
+        NoRequest::Memory => NoRequest::Memory,
+    }
+}
+
 /// Returns a text of usage that ends with a hint at the help of the command of this name, in place of one
 /// at the help.
-pub(crate) fn with_help(alloc: Global, text: String, name: &str) -> Result<String, AllocError> {
+fn with_help(alloc: Global, text: String, name: &str) -> Result<String, AllocError> {
     let space = if name.is_empty() { "" } else { " " };
     for hint in &["try '--help'.\n", "try 'pzic --help'.\n"] {
         if let Some(start) = text.as_str().strip_suffix(*hint) {
-            return format!(in alloc; "{start}try 'pzic {name}{space}--help'.\n");
+            return [start, "try 'pzic ", name, space, "--help'.\n"].concat(alloc);
         }
     }
     Ok(text)
@@ -255,26 +275,51 @@ fn command(alloc: Global, matches: &ArgMatches<'_>) -> Result<Request, NoRequest
 }
 
 /// Returns what words that are no command ask for: the version, if anything.
-fn unmatched(alloc: Global, words: &[String], e: &Error) -> Result<Request, NoRequest> {
+fn unmatched(alloc: Global, words: &[String], e: &Error) -> Result<CommandLine, NoRequest> {
     match e.kind() {
         ErrorKind::OutOfMemory => Err(NoRequest::Memory),
-        ErrorKind::DisplayVersion => Ok(Request::Version {
-            text: e.to_string(alloc)?,
-        }),
+        ErrorKind::DisplayVersion => {
+            let text = e.to_string(alloc)?;
+            Ok(CommandLine {
+                request: Request::Version { text },
+                explain: false,
+            })
+        }
         _ => Err(misused(alloc, words)?),
     }
 }
 
 /// Returns the refusal of words that are no command. Its text shows them without control characters.
 fn misused(alloc: Global, words: &[String]) -> Result<NoRequest, AllocError> {
-    let name = command_name(words);
-    let words = shown_words(alloc, words)?;
-    let Err(e) = commands(alloc)?.try_get_matches_from(&words) else {
-        return Ok(usage(alloc, "a word has control characters"));
-    };
+    let shown = shown_words(alloc, words)?;
+    let refusal = refused(alloc, &shown, command_name(words));
+    drop(shown);
+    refusal
+}
+
+/// Returns the refusal of these words, with a hint at the help of the command of this name.
+fn refused(alloc: Global, words: &[String], name: &str) -> Result<NoRequest, AllocError> {
+    match commands(alloc)?.try_get_matches_from(words) {
+        Ok(matches) => {
+            drop(matches);
+            Ok(usage(alloc, "a word has control characters"))
+        }
+        Err(e) => {
+            let refusal = refusal_of(alloc, &e, name);
+            drop(e);
+            refusal
+        }
+    }
+}
+
+/// Returns the refusal that has the text of an error, with a hint at the help of the command of this name.
+fn refusal_of(alloc: Global, e: &Error, name: &str) -> Result<NoRequest, AllocError> {
     match e.kind() {
         ErrorKind::OutOfMemory => Ok(NoRequest::Memory),
-        _ => Ok(NoRequest::Usage(with_help(alloc, e.to_string(alloc)?, name)?)),
+        _ => {
+            let refusal = NoRequest::Usage(e.to_string(alloc)?);
+            Ok(hinted(alloc, refusal, name))
+        }
     }
 }
 
@@ -288,24 +333,26 @@ fn shown_words(alloc: Global, words: &[String]) -> Result<Vec<String>, AllocErro
 }
 
 fn check(alloc: Global, matches: &ArgMatches<'_>) -> Result<Request, NoRequest> {
-    let source = word(alloc, matches, "SOURCE")?;
     let plan = plan(alloc, matches)?;
+    let source = word(alloc, matches, "SOURCE")?;
     Ok(Request::Check { source, plan })
 }
 
 fn build(alloc: Global, matches: &ArgMatches<'_>) -> Result<Request, NoRequest> {
-    let folder = word(alloc, matches, "DIR")?;
-    let sources = sources(alloc, matches)?;
     let plan = plan(alloc, matches)?;
     let links = links_of(alloc, matches)?;
+    let sources = sources(alloc, matches)?;
+    let folder = word(alloc, matches, "DIR")?;
+    let tables = optional(alloc, matches, "tables")?;
+    let release = release_of(alloc, matches)?;
     Ok(Request::Build(Building {
         folder,
         sources,
         plan,
         links,
         sync: matches.get_flag("sync"),
-        release: release_of(alloc, matches)?,
-        tables: optional(alloc, matches, "tables")?,
+        release,
+        tables,
     }))
 }
 
@@ -325,31 +372,46 @@ fn release_of(alloc: Global, matches: &ArgMatches<'_>) -> Result<Option<Release>
 }
 
 fn verify(alloc: Global, matches: &ArgMatches<'_>) -> Result<Request, NoRequest> {
+    let plan = plan(alloc, matches)?;
+    let sources = sources(alloc, matches)?;
+    let folder = word(alloc, matches, "DIR")?;
     Ok(Request::Verify {
-        folder: word(alloc, matches, "DIR")?,
-        sources: sources(alloc, matches)?,
-        plan: plan(alloc, matches)?,
+        folder,
+        sources,
+        plan,
         strict: matches.get_flag("strict"),
     })
 }
 
 fn diff(alloc: Global, matches: &ArgMatches<'_>) -> Result<Request, NoRequest> {
-    let (old, new) = (word(alloc, matches, "OLD")?, word(alloc, matches, "NEW")?);
     let trees = matches.get_flag("trees");
-    if !trees && old.as_str() == STANDARD_INPUT && new.as_str() == STANDARD_INPUT {
-        return Err(usage(alloc, "-, standard input, can be only one of OLD and NEW"));
-    }
-    let mut sources = Vec::new(alloc);
-    sources.push(old)?;
-    sources.push(new)?;
+    let sources = old_and_new(alloc, matches, trees)?;
+    let plan = plan(alloc, matches)?;
+    let differences = differences_of(alloc, matches)?;
+    let compared = compared(alloc, matches)?;
     Ok(Request::Diff {
         sources,
         trees,
-        plan: plan(alloc, matches)?,
-        differences: differences_of(alloc, matches)?,
-        compared: compared(alloc, matches)?,
+        plan,
+        differences,
+        compared,
         shows_release: matches.get_flag("show-release"),
     })
+}
+
+/// Returns the words for the old source and the new one, or for their folders. Only one may be standard
+/// input.
+fn old_and_new(
+    alloc: Global,
+    matches: &ArgMatches<'_>,
+    trees: bool,
+) -> Result<Vec<String>, NoRequest> {
+    let old = given(alloc, matches, "OLD")?;
+    let new = given(alloc, matches, "NEW")?;
+    if !trees && old == STANDARD_INPUT && new == STANDARD_INPUT {
+        return Err(usage(alloc, "-, standard input, can be only one of OLD and NEW"));
+    }
+    Ok(texts(alloc, &[old, new])?)
 }
 
 /// Returns what is listed of two sources, or of two folders.
@@ -407,11 +469,16 @@ fn sources(alloc: Global, matches: &ArgMatches<'_>) -> Result<Vec<String>, NoReq
     if inputs > 1 {
         return Err(usage(alloc, "-, standard input, can be only one SOURCE"));
     }
-    let mut sources = Vec::new(alloc);
+    Ok(texts(alloc, words)?)
+}
+
+/// Returns words as texts of their own.
+fn texts(alloc: Global, words: &[&str]) -> Result<Vec<String>, AllocError> {
+    let mut texts = Vec::new(alloc);
     for word in words {
-        sources.push(String::from_str(alloc, word)?)?;
+        texts.push(String::from_str(alloc, word)?)?;
     }
-    Ok(sources)
+    Ok(texts)
 }
 
 /// Returns what the names of Link lines are made as.
@@ -425,24 +492,68 @@ fn links_of(alloc: Global, matches: &ArgMatches<'_>) -> Result<Links, NoRequest>
 }
 
 fn convert(alloc: Global, matches: &ArgMatches<'_>) -> Result<Request, NoRequest> {
-    let zones = zones_of(alloc, matches)?;
-    let against = against(alloc, matches)?;
     let plan = column_plan(alloc, matches)?;
-    let fields = FieldWords::of(alloc, matches)?;
-    let layout = layout(alloc, matches, &fields)?;
+    let (zones, against) = both_zones(alloc, matches)?;
+    let (layout, names) = reading(alloc, matches)?;
+    let FaultLists {
+        faults,
+        fault_fields,
+        rejects,
+        max_faults,
+    } = fault_lists(alloc, matches)?;
     Ok(Request::Convert(Conversion {
         zones,
         against,
         plan,
         layout,
-        names: fields.names(),
-        faults: optional(alloc, matches, "faults")?,
-        fault_fields: fault_fields(alloc, matches)?,
-        rejects: optional(alloc, matches, "rejects")?,
-        max_faults: max_faults(alloc, matches)?,
+        names,
+        faults,
+        fault_fields,
+        rejects,
+        max_faults,
         progress: matches.get_flag("progress"),
         shows_release: matches.get_flag("show-release"),
     }))
+}
+
+/// Returns where the zones of a column come from, and those that rows are compared with.
+fn both_zones(
+    alloc: Global,
+    matches: &ArgMatches<'_>,
+) -> Result<(Zones, Option<Zones>), NoRequest> {
+    let zones = zones_of(alloc, matches)?;
+    let against = against(alloc, matches)?;
+    Ok((zones, against))
+}
+
+/// Returns how a column is read, and the names of the fields that are read.
+fn reading(alloc: Global, matches: &ArgMatches<'_>) -> Result<(Layout, FieldNames), NoRequest> {
+    let fields = FieldWords::of(alloc, matches)?;
+    let layout = layout(alloc, matches, &fields)?;
+    Ok((layout, fields.names()))
+}
+
+/// What is kept of the rows with faults.
+#[derive(Drop)]
+struct FaultLists {
+    faults: Option<String>,
+    fault_fields: FaultFields,
+    rejects: Option<String>,
+    max_faults: Option<u64>,
+}
+
+/// Returns what is kept of the rows with faults.
+fn fault_lists(alloc: Global, matches: &ArgMatches<'_>) -> Result<FaultLists, NoRequest> {
+    let fault_fields = fault_fields(alloc, matches)?;
+    let max_faults = max_faults(alloc, matches)?;
+    let faults = optional(alloc, matches, "faults")?;
+    let rejects = optional(alloc, matches, "rejects")?;
+    Ok(FaultLists {
+        faults,
+        fault_fields,
+        rejects,
+        max_faults,
+    })
 }
 
 /// Returns where the zones of a column come from.
@@ -478,32 +589,30 @@ fn against(alloc: Global, matches: &ArgMatches<'_>) -> Result<Option<Zones>, NoR
 }
 
 fn show(alloc: Global, matches: &ArgMatches<'_>) -> Result<Request, NoRequest> {
-    let file = word(alloc, matches, "FILE")?;
-    let Some(word) = matches.get_str("INSTANT") else {
-        return Err(usage(alloc, "no INSTANT"));
-    };
+    let instant = given(alloc, matches, "INSTANT")?;
     if matches.get_flag("local") {
-        let Some(local) = parse_local_word(word) else {
-            return Err(bad_value(
-                alloc,
-                word,
-                "<INSTANT>",
-                "not a local time as 2007-03-11T01:59:59",
-            ));
-        };
-        return Ok(Request::ShowLocal { file, local });
+        return show_local(alloc, matches, instant);
     }
-    match parse_instant_word(word) {
-        Some(instant) => Ok(Request::Show { file, instant }),
-        None => Err(no_seconds(alloc, word, "<INSTANT>")),
-    }
+    let Some(instant) = parse_instant_word(instant) else {
+        return Err(no_seconds(alloc, instant, "<INSTANT>"));
+    };
+    let file = word(alloc, matches, "FILE")?;
+    Ok(Request::Show { file, instant })
+}
+
+fn show_local(alloc: Global, matches: &ArgMatches<'_>, local: &str) -> Result<Request, NoRequest> {
+    let Some(local) = parse_local_word(local) else {
+        let why = "not a local time as 2007-03-11T01:59:59";
+        return Err(bad_value(alloc, local, "<INSTANT>", why));
+    };
+    let file = word(alloc, matches, "FILE")?;
+    Ok(Request::ShowLocal { file, local })
 }
 
 fn dump(alloc: Global, matches: &ArgMatches<'_>) -> Result<Request, NoRequest> {
-    Ok(Request::Dump {
-        file: word(alloc, matches, "FILE")?,
-        years: years(alloc, matches)?,
-    })
+    let years = years(alloc, matches)?;
+    let file = word(alloc, matches, "FILE")?;
+    Ok(Request::Dump { file, years })
 }
 
 /// Returns the years of two options.
@@ -561,11 +670,17 @@ fn number(alloc: Global, matches: &ArgMatches<'_>, id: &str) -> Result<u64, NoRe
 }
 
 /// Returns the word for what is required.
-fn word(alloc: Global, matches: &ArgMatches<'_>, id: &str) -> Result<String, NoRequest> {
+fn given<'a>(alloc: Global, matches: &'a ArgMatches<'_>, id: &str) -> Result<&'a str, NoRequest> {
     match matches.get_str(id) {
-        Some(word) => Ok(String::from_str(alloc, word)?),
+        Some(word) => Ok(word),
         None => Err(usage(alloc, "a word is missing")),
     }
+}
+
+/// Returns the same as a text of its own.
+fn word(alloc: Global, matches: &ArgMatches<'_>, id: &str) -> Result<String, NoRequest> {
+    let word = given(alloc, matches, id)?;
+    Ok(String::from_str(alloc, word)?)
 }
 
 /// Returns the word of an option, if it is given.
@@ -582,7 +697,8 @@ fn optional(
 
 /// Returns the refusal of words that can't be what they are, with a text that says why.
 pub(crate) fn usage(alloc: Global, text: &str) -> NoRequest {
-    match format!(in alloc; "error: {text}\n\nFor more information, try 'pzic --help'.\n") {
+    let end = "\n\nFor more information, try 'pzic --help'.\n";
+    match ["error: ", text, end].concat(alloc) {
         Ok(text) => NoRequest::Usage(text),
         Err(_) => NoRequest::Memory,
     }
@@ -591,22 +707,13 @@ pub(crate) fn usage(alloc: Global, text: &str) -> NoRequest {
 /// Returns the refusal of words of the command of this name, with a text that says why and a hint at the
 /// command's help.
 pub fn usage_of(alloc: Global, name: &str, text: &str) -> NoRequest {
-    match usage(alloc, text) {
-        NoRequest::Usage(text) => match with_help(alloc, text, name) {
-            Ok(text) => NoRequest::Usage(text),
-            Err(_) => NoRequest::Memory,
-        },
-        NoRequest::Memory => NoRequest::Memory,
-    }
+    hinted(alloc, usage(alloc, text), name)
 }
 
 /// Returns the refusal of a word that is no number of seconds, at the place for one.
 fn no_seconds(alloc: Global, word: &str, place: &str) -> NoRequest {
-    let (first, last) = (i64::MIN, i64::MAX);
-    match format!(in alloc; "not a whole number of seconds from {first} to {last}") {
-        Ok(why) => bad_value(alloc, word, place, why.as_str()),
-        Err(_) => NoRequest::Memory,
-    }
+    let why = "not a whole number of seconds from -9223372036854775808 to 9223372036854775807";
+    bad_value(alloc, word, place, why)
 }
 
 /// Returns the refusal of a word that can't stand at its place.
@@ -614,7 +721,15 @@ pub(crate) fn bad_value(alloc: Global, word: &str, place: &str, why: &str) -> No
     let Ok(word) = shown_word(alloc, word) else {
         return NoRequest::Memory;
     };
-    match format!(in alloc; "invalid value '{word}' for '{place}': {why}") {
+    let parts = [
+        "invalid value '",
+        word.as_str(),
+        "' for '",
+        place,
+        "': ",
+        why,
+    ];
+    match parts.concat(alloc) {
         Ok(text) => usage(alloc, text.as_str()),
         Err(_) => NoRequest::Memory,
     }
@@ -627,9 +742,13 @@ fn no_error(alloc: Global, name: &str, nearest: Option<&str>) -> NoRequest {
     };
     let text = match nearest {
         Some(nearest) => {
-            format!(in alloc; "no error has the name '{name}'; the nearest is '{nearest}'")
+            let end = "'; the nearest is '";
+            ["no error has the name '", name.as_str(), end, nearest, "'"].concat(alloc)
         }
-        None => format!(in alloc; "no error has the name '{name}'; 'pzic explain' lists all"),
+        None => {
+            let end = "'; 'pzic explain' lists all";
+            ["no error has the name '", name.as_str(), end].concat(alloc)
+        }
     };
     match text {
         Ok(text) => usage(alloc, text.as_str()),

@@ -1,8 +1,9 @@
 //! The commands with their words and options, as help lists them.
 
-use clap::builder::ValueParser;
-use clap::{Arg, ArgAction, Command, value_parser};
+use clap::builder::{ValueParser, ValueRange};
+use clap::{Arg, Command};
 use std::alloc::{AllocError, Global};
+use std::slice;
 use zic_dump::{FIRST_YEAR, LAST_YEAR};
 use zic_plan::{MAX_BYTES, MAX_OF_PIECE, MAX_ROWS, MAX_WORKERS};
 
@@ -92,8 +93,8 @@ enum Form {
 struct Number {
     label: &'static str,
     default: &'static str,
-    least: i64,
-    most: i64,
+    least: u64,
+    most: u64,
 }
 
 /// A word or an option of a command.
@@ -123,7 +124,7 @@ const WORKERS: Word = Word {
         label: "N",
         default: "4",
         least: 1,
-        most: MAX_WORKERS as i64,
+        most: MAX_WORKERS,
     }),
 };
 
@@ -134,7 +135,7 @@ const ZONE_PIECE: Word = Word {
         label: "N",
         default: "16",
         least: 1,
-        most: MAX_OF_PIECE as i64,
+        most: MAX_OF_PIECE,
     }),
 };
 
@@ -234,8 +235,8 @@ static DIFF: [Word; 12] = [
         form: Form::Number(Number {
             label: "YEAR",
             default: "1900",
-            least: FIRST_YEAR as i64,
-            most: LAST_YEAR as i64,
+            least: FIRST_YEAR,
+            most: LAST_YEAR,
         }),
     },
     Word {
@@ -244,8 +245,8 @@ static DIFF: [Word; 12] = [
         form: Form::Number(Number {
             label: "YEAR",
             default: "2500",
-            least: FIRST_YEAR as i64,
-            most: LAST_YEAR as i64,
+            least: FIRST_YEAR,
+            most: LAST_YEAR,
         }),
     },
     Word {
@@ -303,7 +304,7 @@ static CONVERT: [Word; 30] = [
             label: "N",
             default: "1024",
             least: 1,
-            most: MAX_OF_PIECE as i64,
+            most: MAX_OF_PIECE,
         }),
     },
     Word {
@@ -313,7 +314,7 @@ static CONVERT: [Word; 30] = [
             label: "N",
             default: "100000000",
             least: 0,
-            most: MAX_ROWS as i64,
+            most: MAX_ROWS,
         }),
     },
     Word {
@@ -323,7 +324,7 @@ static CONVERT: [Word; 30] = [
             label: "N",
             default: "4294967296",
             least: 0,
-            most: MAX_BYTES as i64,
+            most: MAX_BYTES,
         }),
     },
     Word {
@@ -452,8 +453,8 @@ static DUMP: [Word; 4] = [
         form: Form::Number(Number {
             label: "YEAR",
             default: "2",
-            least: FIRST_YEAR as i64,
-            most: LAST_YEAR as i64,
+            least: FIRST_YEAR,
+            most: LAST_YEAR,
         }),
     },
     Word {
@@ -462,8 +463,8 @@ static DUMP: [Word; 4] = [
         form: Form::Number(Number {
             label: "YEAR",
             default: "2500",
-            least: FIRST_YEAR as i64,
-            most: LAST_YEAR as i64,
+            least: FIRST_YEAR,
+            most: LAST_YEAR,
         }),
     },
     EXPLAIN,
@@ -582,54 +583,131 @@ fn command<'a>(
 
 /// Returns a word or an option.
 fn argument<'a>(alloc: Global, word: &'a Word) -> Arg<'a> {
-    let argument = Arg::new(alloc, word.name).help(word.help);
-    match &word.form {
-        Form::Required => argument.required(true),
-        Form::Several => argument.required(true).num_args(1..),
-        Form::Optional => argument,
-        _ => option(argument.long(word.name), &word.form),
-    }
-}
-
-/// Returns an option of this form.
-fn option<'a>(argument: Arg<'a>, form: &'a Form) -> Arg<'a> {
+    let form = &word.form;
+    let argument = Arg::new(alloc, word.name)
+        .help(word.help)
+        .required(form.is_required())
+        .num_args(form.count());
     match form {
-        Form::Number(number) => numbered(argument, number),
-        Form::Links => choice(argument.value_name("KIND"), &LINK_WORDS).default_value("copy"),
-        Form::Unit => choice(argument.value_name("UNIT"), &UNIT_WORDS).default_value("s"),
-        Form::Time => choice(argument.value_name("FORM"), &TIME_WORDS).default_value("count"),
-        Form::Choice => choice(argument.value_name("C"), &CHOICE_WORDS),
-        Form::Style => choice(argument.value_name("STYLE"), &STYLE_WORDS).default_value("fields"),
-        Form::Records => choice(argument.value_name("KIND"), &RECORD_WORDS).default_value("csv"),
-        Form::Ignore => choice(argument.value_name("WHAT"), &IGNORE_WORDS),
-        Form::Instant => argument.value_name("SECONDS").allow_negative_numbers(true),
-        Form::Zone => argument.value_name("NAME"),
-        Form::Path => argument.value_name("FILE"),
-        Form::Folder => argument.value_name("DIR"),
-        Form::Old => argument.value_name("OLD"),
-        Form::Details => choice(argument.value_name("WHAT"), &DETAIL_WORDS),
-        Form::Release => argument.value_name("NAME"),
-        Form::Delimiter => argument.value_name("C").default_value(","),
-        Form::Field => argument.value_name("F"),
-        Form::Bytes => argument
-            .value_name("N")
-            .value_parser(value_parser!(u64).range(1..=MAX_BYTES as i64)),
-        Form::Rows => argument.value_name("N").value_parser(value_parser!(u64)),
-        _ => argument.action(ArgAction::SetTrue),
+        Form::Required | Form::Several | Form::Optional => argument,
+        _ => option(argument, word.name, form.value()),
     }
 }
 
-/// Returns an option that is one of these words.
-fn choice<'a>(argument: Arg<'a>, words: &'a [&'a str]) -> Arg<'a> {
+/// Returns an option of this name that takes this.
+fn option<'a>(argument: Arg<'a>, name: &'a str, value: Value<'a>) -> Arg<'a> {
     argument
-        .value_parser(ValueParser::Names(words))
+        .long(name)
+        .value_names(value.label)
+        .value_parser(value.parser)
+        .default_values(value.default)
         .hide_possible_values(true)
+        .allow_negative_numbers(value.may_be_negative)
 }
 
-/// Returns an option with the range of its number, and its default.
-fn numbered<'a>(argument: Arg<'a>, number: &'a Number) -> Arg<'a> {
-    argument
-        .value_name(number.label)
-        .value_parser(value_parser!(u64).range(number.least..=number.most))
-        .default_value(number.default)
+/// What an option takes.
+#[derive(Clone, Copy)]
+struct Value<'a> {
+    /// What help calls it; a flag takes none.
+    label: &'a [&'a str],
+    /// What stands for it where the option isn't given, if anything does.
+    default: &'a [&'a str],
+    /// What it has to be.
+    parser: ValueParser<'a>,
+    /// Whether it may be a number below zero, which begins as an option does.
+    may_be_negative: bool,
+}
+
+impl Form {
+    /// Returns whether it must be given.
+    fn is_required(&self) -> bool {
+        matches!(self, Form::Required | Form::Several)
+    }
+
+    /// Returns how many words it takes.
+    fn count(&self) -> ValueRange {
+        match self {
+            Form::Several => ValueRange::new(1..),
+            Form::Flag => ValueRange::EMPTY,
+            _ => ValueRange::SINGLE,
+        }
+    }
+
+    /// Returns what an option of this form takes.
+    fn value<'a>(&'a self) -> Value<'a> {
+        match self {
+            Form::Number(number) => numbered(number),
+            Form::Links => choice(&["KIND"], &LINK_WORDS, &["copy"]),
+            Form::Unit => choice(&["UNIT"], &UNIT_WORDS, &["s"]),
+            Form::Time => choice(&["FORM"], &TIME_WORDS, &["count"]),
+            Form::Choice => choice(&["C"], &CHOICE_WORDS, &[]),
+            Form::Style => choice(&["STYLE"], &STYLE_WORDS, &["fields"]),
+            Form::Records => choice(&["KIND"], &RECORD_WORDS, &["csv"]),
+            Form::Ignore => choice(&["WHAT"], &IGNORE_WORDS, &[]),
+            Form::Details => choice(&["WHAT"], &DETAIL_WORDS, &[]),
+            Form::Bytes => whole(&["N"], 1, MAX_BYTES),
+            Form::Rows => whole(&["N"], 0, u64::MAX),
+            Form::Instant => instant(),
+            Form::Delimiter => text(&["C"], &[","]),
+            Form::Zone | Form::Release => text(&["NAME"], &[]),
+            Form::Path => text(&["FILE"], &[]),
+            Form::Folder => text(&["DIR"], &[]),
+            Form::Old => text(&["OLD"], &[]),
+            Form::Field => text(&["F"], &[]),
+            Form::Flag | Form::Required | Form::Several | Form::Optional => nothing(),
+        }
+    }
+}
+
+/// Returns the value that is one of these words.
+fn choice<'a>(label: &'a [&'a str], words: &'a [&'a str], default: &'a [&'a str]) -> Value<'a> {
+    Value {
+        parser: ValueParser::Names(words),
+        ..text(label, default)
+    }
+}
+
+/// Returns the value that is any text.
+fn text<'a>(label: &'a [&'a str], default: &'a [&'a str]) -> Value<'a> {
+    Value {
+        label,
+        default,
+        parser: ValueParser::String,
+        may_be_negative: false,
+    }
+}
+
+/// Returns the value that is a whole number in a range.
+fn whole<'a>(label: &'a [&'a str], least: u64, most: u64) -> Value<'a> {
+    Value {
+        parser: ValueParser::Unsigned(least, most),
+        ..text(label, &[])
+    }
+}
+
+/// Returns the value that is this number.
+fn numbered<'a>(number: &'a Number) -> Value<'a> {
+    Value {
+        parser: ValueParser::Unsigned(number.least, number.most),
+        ..text(
+            slice::from_ref(&number.label),
+            slice::from_ref(&number.default),
+        )
+    }
+}
+
+/// Returns the value that is an instant, which is read later on.
+fn instant<'a>() -> Value<'a> {
+    Value {
+        may_be_negative: true,
+        ..text(&["SECONDS"], &[])
+    }
+}
+
+/// Returns what a flag takes: whether it is given.
+fn nothing<'a>() -> Value<'a> {
+    Value {
+        parser: ValueParser::Bool,
+        ..text(&[], &[])
+    }
 }

@@ -1,7 +1,7 @@
 //! Fields by their numbers, or by their names in the header.
 
-use crate::command_line::{bad_value, usage, with_help};
-use crate::layout::with_fields;
+use crate::command_line::{bad_value, hinted, usage};
+use crate::layout::read_by;
 use crate::no_request::NoRequest;
 use clap::ArgMatches;
 use std::alloc::{AllocError, Global};
@@ -18,7 +18,7 @@ const LONGEST_SHOWN: usize = 64;
 const MOST_SHOWN: usize = 64;
 
 /// Which field an option means.
-#[derive(Debug, Drop)]
+#[derive(Drop)]
 pub(crate) enum FieldWord {
     /// The field of this number, from 1.
     Number(u64),
@@ -27,7 +27,7 @@ pub(crate) enum FieldWord {
 }
 
 /// The fields that options mean.
-#[derive(Debug, Drop)]
+#[derive(Drop)]
 pub(crate) struct FieldWords {
     pub(crate) zone: Option<FieldWord>,
     pub(crate) time: Option<FieldWord>,
@@ -102,30 +102,28 @@ impl FieldNames {
         layout: Layout,
         header: &[Vec<u8>],
     ) -> Result<Layout, NoRequest> {
-        match self.named_layout(alloc, layout, header) {
-            Err(NoRequest::Usage(text)) => {
-                Err(NoRequest::Usage(with_help(alloc, text, "convert")?))
-            }
-            layout => layout,
+        let mut layout = layout;
+        match self.name_fields(alloc, &mut layout, header) {
+            Ok(()) => Ok(layout),
+            Err(refusal) => Err(hinted(alloc, refusal, "convert")),
         }
     }
 
-    /// Returns the same, with a hint at the help of the program where that is the text of usage.
-    fn named_layout(
+    /// Changes a layout to the fields with these names.
+    fn name_fields(
         &self,
         alloc: Global,
-        layout: Layout,
+        layout: &mut Layout,
         header: &[Vec<u8>],
-    ) -> Result<Layout, NoRequest> {
+    ) -> Result<(), NoRequest> {
         let zone = match &layout.zone {
             ZoneFrom::Field(index) => {
-                let index = index_of(alloc, "--zone-field", &self.zone, header, *index)?;
-                ZoneFrom::Field(index)
+                Some(index_of(alloc, "--zone-field", &self.zone, header, *index)?)
             }
-            ZoneFrom::Name(name) => ZoneFrom::Name(name.clone()?),
+            ZoneFrom::Name(_) => None,
         };
         let time = index_of(alloc, "--time-field", &self.time, header, layout.time)?;
-        with_fields(alloc, layout, zone, time)
+        read_by(alloc, layout, zone, time)
     }
 }
 
@@ -138,21 +136,27 @@ fn field_word(
     let Some(word) = matches.get_str(id) else {
         return Ok(None);
     };
-    let digits = word.strip_prefix("+").unwrap_or(word);
-    let is_number = !digits.is_empty()
-        && digits.as_bytes().iter().all(|byte| byte.is_ascii_digit());
-    if !is_number {
+    if !is_number(word) {
         return Ok(Some(FieldWord::Name(String::from_str(alloc, word)?)));
     }
     match word.parse::<u64>() {
         Ok(number) if 1 <= number && number <= MOST_FIELDS => Ok(Some(FieldWord::Number(number))),
-        _ => {
-            let option = format!(in alloc; "--{id} <F>")?;
-            let most = MOST_FIELDS;
-            let why = format!(in alloc; "{word} is not in 1..={most}")?;
-            Err(bad_value(alloc, word, option.as_str(), why.as_str()))
-        }
+        _ => Err(no_field(alloc, id, word)?),
     }
+}
+
+/// Returns whether a word has digits alone, after a `+` or not.
+fn is_number(word: &str) -> bool {
+    let digits = word.strip_prefix("+").unwrap_or(word);
+    !digits.is_empty() && digits.as_bytes().iter().all(|byte| byte.is_ascii_digit())
+}
+
+/// Returns the refusal of a number that no field has, given as the option of this name.
+fn no_field(alloc: Global, id: &str, word: &str) -> Result<NoRequest, AllocError> {
+    let most = MOST_FIELDS;
+    let why = format!(in alloc; "{word} is not in 1..={most}")?;
+    let option = ["--", id, " <F>"].concat(alloc)?;
+    Ok(bad_value(alloc, word, option.as_str(), why.as_str()))
 }
 
 /// Returns the index of the field with a name, if there is one, and else this index.
@@ -189,28 +193,38 @@ fn unnamed(
     header: &[Vec<u8>],
 ) -> Result<String, AllocError> {
     let name = shown_field(alloc, name)?;
-    let mut text = if is_there {
-        format!(in alloc;
-            "{option}: several fields of the header are named '{name}'; its fields are"
-        )?
+    let fields = shown_fields(alloc, header)?;
+    let fault = if is_there {
+        ": several fields of the header are named '"
     } else {
-        format!(in alloc; "{option}: no field of the header is named '{name}'; its fields are")?
+        ": no field of the header is named '"
     };
-    let mut between = " ";
-    for field in &header[..header.len().min(MOST_SHOWN)] {
-        let field = shown_field(alloc, field)?;
-        text.push_str(format!(in alloc; "{between}'{field}'")?.as_str())?;
-        between = ", ";
+    let (name, fields) = (name.as_str(), fields.as_str());
+    [option, fault, name, "'; its fields are ", fields].concat(alloc)
+}
+
+/// Returns the fields of a header as they are shown to people, between quotes, and how many more there are
+/// where these are too many.
+fn shown_fields(alloc: Global, header: &[Vec<u8>]) -> Result<String, AllocError> {
+    if header.is_empty() {
+        return String::from_str(alloc, "none");
     }
-    match header.len() {
-        0 => text.push_str(" none")?,
-        count if count > MOST_SHOWN => {
-            let more = count - MOST_SHOWN;
-            text.push_str(format!(in alloc; " and {more} more")?.as_str())?;
-        }
-        _ => {}
+    let fields = listed(alloc, &header[..header.len().min(MOST_SHOWN)])?;
+    let more = header.len().saturating_sub(MOST_SHOWN);
+    if more == 0 {
+        return ["'", fields.as_str(), "'"].concat(alloc);
     }
-    Ok(text)
+    format!(in alloc; "'{fields}' and {more} more")
+}
+
+/// Returns fields as they are shown to people, with what closes the quotes of one and opens those of the
+/// next between two of them.
+fn listed(alloc: Global, fields: &[Vec<u8>]) -> Result<String, AllocError> {
+    let mut shown = Vec::new(alloc);
+    for field in fields {
+        shown.push(shown_field(alloc, field)?)?;
+    }
+    shown.join(alloc, "', '")
 }
 
 /// Returns a field as it is shown to people, a long one as its first bytes and an ellipsis.

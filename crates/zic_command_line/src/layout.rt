@@ -4,7 +4,7 @@ use crate::command_line::usage;
 use crate::fields::{FieldWord, FieldWords};
 use crate::no_request::NoRequest;
 use clap::ArgMatches;
-use std::alloc::Global;
+use std::alloc::{AllocError, Global};
 use zic_io::FaultFields;
 use zic_plan::{
     AtFault, Delimiter, Disambiguation, FieldCount, Header, Layout, Notes, Records, RowStart,
@@ -27,26 +27,15 @@ pub(crate) fn layout(
     let style = style(alloc, matches)?;
     let records = records(alloc, matches)?;
     let header = header(alloc, matches)?;
-    let (zone, time) = zone_and_time(alloc, matches, fields)?;
-    let start = row_start(matches);
+    let (zone, time) = indices(alloc, matches, fields)?;
     let at_fault = at_fault(alloc, matches)?;
-    let may_have_more = fields.are_given() || start == RowStart::Record;
-    let count = field_count(&zone, time, may_have_more);
-    if fields.have_names() {
-        if header == Header::Absent {
-            return Err(usage(
-                alloc,
-                "--zone-field and --time-field take names only with --header or --skip-header",
-            ));
-        }
-    } else {
-        expect_two(alloc, &zone, time)?;
-    }
+    expect_fields(alloc, header, fields, zone, time)?;
+    let start = row_start(matches);
     Ok(Layout {
-        zone,
+        zone: zone_from(alloc, matches, zone)?,
         time,
         from,
-        count,
+        count: field_count(zone, time, fields.are_given() || start == RowStart::Record),
         unit,
         delimiter,
         records,
@@ -60,25 +49,34 @@ pub(crate) fn layout(
     })
 }
 
-/// Returns where a row's zone comes from, and the index of the field of its time. A field with a name
-/// has the index of one without a number.
-fn zone_and_time(
+/// Returns the index of the field of a row's zone, unless it is the zone of all rows, and the index of the
+/// field of its time. A field with a name has the index of one without a number.
+fn indices(
     alloc: Global,
     matches: &ArgMatches<'_>,
     fields: &FieldWords,
-) -> Result<(ZoneFrom, usize), NoRequest> {
+) -> Result<(Option<usize>, usize), NoRequest> {
     match matches.get_str("zone") {
         Some(_) if fields.zone.is_some() => {
             Err(usage(alloc, "--zone-field has no meaning with --zone"))
         }
-        Some(name) => {
-            let zone = ZoneFrom::Name(String::from_str(alloc, name)?);
-            Ok((zone, index(&fields.time, 1)))
+        Some(_) => Ok((None, index(&fields.time, 1))),
+        None => Ok((Some(index(&fields.zone, 1)), index(&fields.time, 2))),
+    }
+}
+
+/// Returns where a row's zone comes from: from the field of an index, or else from the option for it.
+fn zone_from(
+    alloc: Global,
+    matches: &ArgMatches<'_>,
+    index: Option<usize>,
+) -> Result<ZoneFrom, AllocError> {
+    match index {
+        Some(index) => Ok(ZoneFrom::Field(index)),
+        None => {
+            let name = matches.get_str("zone").unwrap_or("");
+            Ok(ZoneFrom::Name(String::from_str(alloc, name)?))
         }
-        None => Ok((
-            ZoneFrom::Field(index(&fields.zone, 1)),
-            index(&fields.time, 2),
-        )),
     }
 }
 
@@ -92,33 +90,52 @@ fn index(word: &Option<FieldWord>, default: u64) -> usize {
     number.saturating_sub(1) as usize
 }
 
-/// Refuses one field for the zone and the time.
-fn expect_two(alloc: Global, zone: &ZoneFrom, time: usize) -> Result<(), NoRequest> {
-    match zone {
-        ZoneFrom::Field(index) if *index == time => {
-            Err(usage(alloc, "--zone-field and --time-field are one field"))
-        }
-        _ => Ok(()),
+/// Refuses names of fields where no header has them, and one field for the zone and the time.
+fn expect_fields(
+    alloc: Global,
+    header: Header,
+    fields: &FieldWords,
+    zone: Option<usize>,
+    time: usize,
+) -> Result<(), NoRequest> {
+    if !fields.have_names() {
+        return expect_two(alloc, zone, time);
     }
+    if header == Header::Absent {
+        return Err(usage(
+            alloc,
+            "--zone-field and --time-field take names only with --header or --skip-header",
+        ));
+    }
+    Ok(())
 }
 
-/// Returns the layout with other fields of the zone and the time.
+/// Refuses one field for the zone and the time.
+fn expect_two(alloc: Global, zone: Option<usize>, time: usize) -> Result<(), NoRequest> {
+    if zone == Some(time) {
+        return Err(usage(alloc, "--zone-field and --time-field are one field"));
+    }
+    Ok(())
+}
+
+/// Changes a layout to other fields of the zone, where it has one, and of the time.
 ///
 /// # Errors
 ///
 /// The text of usage where both are one field, or memory ran out.
-pub(crate) fn with_fields(
+pub(crate) fn read_by(
     alloc: Global,
-    layout: Layout,
-    zone: ZoneFrom,
+    layout: &mut Layout,
+    zone: Option<usize>,
     time: usize,
-) -> Result<Layout, NoRequest> {
-    expect_two(alloc, &zone, time)?;
-    let mut layout = layout;
-    layout.count = field_count(&zone, time, true);
-    layout.zone = zone;
+) -> Result<(), NoRequest> {
+    expect_two(alloc, zone, time)?;
+    layout.count = field_count(zone, time, true);
     layout.time = time;
-    Ok(layout)
+    if let (ZoneFrom::Field(field), Some(index)) = (&mut layout.zone, zone) {
+        *field = index;
+    }
+    Ok(())
 }
 
 /// Returns whether the first record is a header, and whether one is written.
@@ -212,12 +229,8 @@ pub(crate) fn max_faults(
 }
 
 /// Returns how many fields a record has: those that are read, or at least up to the last of these.
-fn field_count(zone: &ZoneFrom, time: usize, may_have_more: bool) -> FieldCount {
-    let last = match zone {
-        ZoneFrom::Field(index) => time.max(*index),
-        ZoneFrom::Name(_) => time,
-    };
-    let count = last.saturating_add(1);
+fn field_count(zone: Option<usize>, time: usize, may_have_more: bool) -> FieldCount {
+    let count = time.max(zone.unwrap_or(time)).saturating_add(1);
     if may_have_more {
         FieldCount::AtLeast(count)
     } else {

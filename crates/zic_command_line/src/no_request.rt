@@ -6,7 +6,7 @@ ghost use Rattle.zic_command_line.specs.declared.no_request.NoRequest.TheVariant
 use std::alloc::{AllocError, AllocFailed};
 
 /// Why the words of the command line ask for nothing.
-#[derive(Debug, Drop)]
+#[derive(Drop)]
 pub enum NoRequest {
     /// They ask for no command, or for help: the text that is printed in place of it.
     Usage(String),

@@ -2,7 +2,7 @@
 
 ghost use Rattle.std.specs.Prelude.{◌≡◌, IfOk, IfErr};
 ghost use Rattle.zic_source.specs.Texts.{texts_of};
-ghost use Rattle.zic_compile.specs.Files.{AreImagesOf};
+ghost use Rattle.zic_compile.specs.Files.{AreFilesOf, AreImagesOf};
 ghost use Rattle.zic_compile.specs.Build.{AreFilesOfTexts, IsStopOfBuild};
 ghost use Rattle.zic_compile.specs.code.Stop.{IsStopOfImages, end_of};
 
@@ -16,7 +16,7 @@ use zic_files::{Files, Image};
 use zic_occurrences::ListedSource;
 use zic_pieces::{Gate, TaskStop, run_task};
 use zic_plan::Plan;
-use zic_source::{Fault, read_source};
+use zic_source::{Fault, Source, read_source};
 
 /// Returns the files of all Zone and Link lines of the texts, in the order of the texts and their
 /// lines: a zone's with its image, a link's with that of the zone at the end of its chain. Each,
@@ -40,9 +40,26 @@ pub fn build<R: Threads + Wait + Sync, G: Gate + Sync>(
     ensures err { IfErr result (IsStopOfBuild (texts_of texts.now)) }
 {
     let source = read_source(alloc, texts)?;
-    let listed = ListedSource::new(alloc, &source);
-    let images = images_by(rt, alloc, &listed, plan, gate)?;
-    let files = files_of(alloc, &source, images)?;
+    let files = files_by(rt, alloc, &source, plan, gate);
+    drop(source);
+    files
+}
+
+/// Returns the files of a source, by the images that the plan's workers make.
+fn files_by<R: Threads + Wait + Sync, G: Gate + Sync>(
+    rt: &R,
+    alloc: Global,
+    source: &Source,
+    plan: &Plan,
+    gate: &G,
+) -> Result<Files, RunStop>
+    ensures ok { IfOk result (AreFilesOf source.now) }
+    ensures err { IfErr result (IsStopOfImages source.now) }
+{
+    let listed = ListedSource::new(alloc, source);
+    let images = images_by(rt, alloc, &listed, plan, gate);
+    drop(listed);
+    let files = files_of(alloc, source, images?)?;
     Ok(files)
 }
 

@@ -3,17 +3,22 @@
 ghost use Rattle.std.specs.Prelude.{◌≡◌, ◌<◌, length, IfOk};
 ghost use Rattle.zic_base.specs.Fault.{fault_of};
 ghost use Rattle.zic_base.specs.Memory.{IfRefusal, OnOutOfMemory};
+ghost use Rattle.zic_footer.specs.Making.{IsMade, GoesOn};
+ghost use Rattle.zic_posix.specs.Footer.{TzString};
 ghost use Rattle.zic_rules.specs.Timeline.{zone_of};
+ghost use Rattle.zic_source.specs.Sound.{IsSoundSource};
+ghost use Rattle.zic_states.specs.Fault.{IsSound};
+ghost use Rattle.zic_table.specs.ContentOf.{IsFaultOfTable};
 ghost use Rattle.zic_tzif.specs.Reading.{IsFile, IsSomeFile};
 ghost use Rattle.zic_tzif.specs.Writing.{written};
-ghost use Rattle.zic_compile.specs.Image.{IsImageOf, ReadsAs, IsFaultOfZone, ImageNeedsMemory};
+ghost use Rattle.zic_compile.specs.Image.{IsImageOf, ReadsAs, IsFaultOfImage, IsFaultOfZone, ImageNeedsMemory};
 
 use std::alloc::{AllocError, Global};
-use zic_base::Stop;
+use zic_base::{Place, Stop};
 use zic_files::Image;
-use zic_footer::make;
+use zic_footer::{Footer, make};
 use zic_occurrences::ListedSource;
-use zic_rules::timeline;
+use zic_rules::{Timeline, timeline};
 use zic_table::table;
 use zic_tzif::{ReadStop, Table, Zone, read, write};
 
@@ -36,8 +41,45 @@ pub fn image_of(alloc: Global, source: &ListedSource<'_>, zone: usize) -> Result
     prove!(zone < lines.zones());
     let place = lines.line(zone, 0).place;
     let states = timeline(alloc, source, zone)?;
-    let footer = make(alloc, place, &states)?;
-    let table = table(alloc, place, &states, &footer)?;
+    let image = image_of_states(alloc, place, &states);
+    drop(states);
+    image
+}
+
+/// Compiles the file of a zone that shows these states, and whose Zone line stands at `place`.
+fn image_of_states(alloc: Global, place: Place, states: &Timeline<'_>) -> Result<Image, Stop>
+    requires source { IsSoundSource states.now.source }
+    requires zone { states.now.number < length states.now.source.zones }
+    requires sound { IsSound states.now }
+    ensures ok { IfOk result (IsImageOf states.now) }
+    ensures reads { IfOk result (ReadsAs states.now) }
+    ensures err { IfRefusal fault_of result (IsFaultOfImage states.now place) }
+    ensures memory { OnOutOfMemory fault_of result
+        ((footer : TzString) × IsMade states.now footer) }
+{
+    let footer = make(alloc, place, states)?;
+    let image = image_with(alloc, place, states, &footer);
+    drop(footer);
+    image
+}
+
+/// Compiles the same with the footer that was made for the zone.
+fn image_with(
+    alloc: Global,
+    place: Place,
+    states: &Timeline<'_>,
+    footer: &Footer,
+) -> Result<Image, Stop>
+    requires source { IsSoundSource states.now.source }
+    requires zone { states.now.number < length states.now.source.zones }
+    requires sound { IsSound states.now }
+    requires made { IsMade states.now footer.now }
+    requires goes_on { GoesOn states.now footer.now }
+    ensures ok { IfOk result (IsImageOf states.now) }
+    ensures reads { IfOk result (ReadsAs states.now) }
+    ensures err { IfRefusal fault_of result (IsFaultOfTable states.now place) }
+{
+    let table = table(alloc, place, states, footer)?;
     Ok(file_of(alloc, &table)?)
 }
 

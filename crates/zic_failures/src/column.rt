@@ -32,13 +32,17 @@ pub(crate) fn find_record<R: Files + AllocGlobal>(
 ) -> Option<Found> {
     let mut file = file_from(rt, start)?;
     let mut scan = RecordScan::new(rt.alloc(), sought);
+    let is_read = scan_file(&mut file, &mut scan).is_some();
+    drop(file);
+    if is_read { scan.found() } else { None }
+}
+
+/// Scans a file up to the end of the record that is sought, or to its own; `None` where it can't be read.
+fn scan_file<F: Read>(file: &mut F, scan: &mut RecordScan) -> Option<()> {
     let mut block = [0; BLOCK];
     let mut is_first = true;
     for _ in 0..u64::MAX {
         let count = file.read(&mut block).ok()?;
-        if count == 0 {
-            break;
-        }
         let bytes = block.get(..count)?;
         let bytes = match bytes {
             // A byte order mark at the start of a column is none of its record.
@@ -46,11 +50,11 @@ pub(crate) fn find_record<R: Files + AllocGlobal>(
             _ => bytes,
         };
         is_first = false;
-        if ends_in(&mut scan, bytes)? {
+        if count == 0 || ends_in(scan, bytes)? {
             break;
         }
     }
-    scan.found()
+    Some(())
 }
 
 /// Scans bytes. Returns whether the record that is sought ends in them; `None` where memory is refused.

@@ -78,32 +78,35 @@ impl Expected {
 
     /// Returns what is expected where a record has too few or too many fields.
     fn fields(&self, alloc: Global, entries: &[Entry]) -> Result<String, AllocError> {
-        let mut text = String::new(alloc);
-        let (count, more) = match self.count {
-            FieldCount::Exactly(count) => (count, ""),
-            FieldCount::AtLeast(count) => (count, " or more"),
-        };
-        let s = if count == 1 && more.is_empty() {
-            ""
-        } else {
-            "s"
-        };
-        let line = format!(in alloc; "\nExpected:\n  {count} field{s}{more}")?;
-        text.push_str(line.as_str())?;
-        if count > 1 || !more.is_empty() {
-            let line = match self.form.delimiter {
-                b'\t' => String::from_str(alloc, " with a tab between two of them")?,
-                byte => {
-                    let byte = char::from(byte);
-                    format!(in alloc; " with `{byte}` between two of them")?
-                }
-            };
-            text.push_str(line.as_str())?;
-        }
-        text.push_str(self.named_fields(alloc)?.as_str())?;
+        let count = self.counted_fields(alloc)?;
+        let between = self.between_fields(alloc)?;
+        let named = self.named_fields(alloc)?;
         let entry = expectation(alloc, entries, "RowFields")?;
-        text.push_str(after(entry.as_str(), "\nUsual cause:"))?;
-        Ok(text)
+        let cause = after(entry.as_str(), "\nUsual cause:");
+        let (count, between, named) = (count.as_str(), between.as_str(), named.as_str());
+        ["\nExpected:\n  ", count, between, named, cause].concat(alloc)
+    }
+
+    /// Returns how many fields a record has.
+    fn counted_fields(&self, alloc: Global) -> Result<String, AllocError> {
+        let (count, end) = match self.count {
+            FieldCount::Exactly(1) => (1, ""),
+            FieldCount::Exactly(count) => (count, "s"),
+            FieldCount::AtLeast(count) => (count, "s or more"),
+        };
+        format!(in alloc; "{count} field{end}")
+    }
+
+    /// Returns what stands between two fields, unless a record has only one.
+    fn between_fields(&self, alloc: Global) -> Result<String, AllocError> {
+        if matches!(self.count, FieldCount::Exactly(0 | 1)) {
+            return Ok(String::new(alloc));
+        }
+        if self.form.delimiter == b'\t' {
+            return String::from_str(alloc, " with a tab between two of them");
+        }
+        let delimiter = char::from(self.form.delimiter);
+        format!(in alloc; " with `{delimiter}` between two of them")
     }
 
     /// Returns the end of a line, and a line that says which field is which.

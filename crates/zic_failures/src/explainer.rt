@@ -78,17 +78,50 @@ impl Explainer {
         failure: &Failure,
         texts: Vec<Vec<u8>>,
     ) -> Result<String, AllocError> {
-        let alloc = rt.alloc();
         self.texts = texts;
+        let explanation = self.explained(rt, failure);
+        drop(self);
+        explanation
+    }
+
+    /// Returns these lines, by the texts of the sources.
+    fn explained<R: Files + AllocGlobal>(
+        &self,
+        rt: &R,
+        failure: &Failure,
+    ) -> Result<String, AllocError> {
         let record = self.record(rt, failure);
-        let mut text = self.place(rt, failure, record.as_ref())?;
-        let mut reason = self.refused(rt, failure, record.as_ref())?;
-        if reason.is_empty() {
-            reason = self.sections(alloc, failure)?;
-        }
+        let lines = self.lines(rt, failure, record.as_ref());
+        drop(record);
+        lines
+    }
+
+    /// Returns the same, by what is shown of the record at fault.
+    fn lines<R: Files + AllocGlobal>(
+        &self,
+        rt: &R,
+        failure: &Failure,
+        record: Option<&Found>,
+    ) -> Result<String, AllocError> {
+        let mut text = self.place(rt, failure, record)?;
+        let reason = self.reason(rt, failure, record)?;
         text.push_str(reason.as_str())?;
         let _ = text.pop();
         Ok(text)
+    }
+
+    /// Returns the lines that say why there is a failure, and what is expected.
+    fn reason<R: Files + AllocGlobal>(
+        &self,
+        rt: &R,
+        failure: &Failure,
+        record: Option<&Found>,
+    ) -> Result<String, AllocError> {
+        let refused = self.refused(rt, failure, record)?;
+        if refused.is_empty() {
+            return self.sections(rt.alloc(), failure);
+        }
+        Ok(refused)
     }
 
     /// Returns the sections that say what is expected.
@@ -133,13 +166,12 @@ impl Explainer {
         record: Option<&Found>,
     ) -> Result<String, AllocError> {
         let alloc = rt.alloc();
-        let path = self.word(0);
         match failure {
             Failure::Line { line, kind } => self.line_place(alloc, *kind, 0, *line),
             Failure::TextLine { text, line, kind } => {
                 self.line_place(alloc, *kind, text.saturating_sub(1) as usize, *line)
             }
-            Failure::File(_) => format!(in alloc; "--> {path}\n"),
+            Failure::File(_) => ["--> ", self.word(0), "\n"].concat(alloc),
             Failure::Row { row, kind }
             | Failure::Rows { row, kind, .. }
             | Failure::Rejected { row, kind, .. } => { self.row_place(alloc, *kind, *row, record) }
@@ -162,23 +194,34 @@ impl Explainer {
         line: u64,
     ) -> Result<String, AllocError> {
         let mut place = line_place(alloc, kind, self.word(text), self.text(text), line)?;
+        let related = self.related(alloc, kind, text, line)?;
+        place.push_str(related.as_str())?;
+        Ok(place)
+    }
+
+    /// Returns the lines that say which line or name the fault of a line is to be compared with, if any.
+    fn related(
+        &self,
+        alloc: Global,
+        kind: Kind,
+        text: usize,
+        line: u64,
+    ) -> Result<String, AllocError> {
         let (texts, index) = match self.texts.get(text) {
             Some(alone) if self.are_apart => (slice::from_ref(alone), 0),
             _ => (&self.texts[..], text),
         };
         let at = TextLine { text: index, line };
-        let related = match kind {
-            Kind::UnknownRules => nearest_rules(alloc, texts, at)?,
-            Kind::BadAbbreviation => bad_abbreviation(alloc, texts, at)?,
+        match kind {
+            Kind::UnknownRules => nearest_rules(alloc, texts, at),
+            Kind::BadAbbreviation => bad_abbreviation(alloc, texts, at),
             Kind::DuplicateName => match first_name(alloc, texts, at)? {
-                Some(first) if self.are_apart => self.given_first(alloc, text, first.line)?,
-                Some(first) => self.given_first(alloc, first.text, first.line)?,
-                None => return Ok(place),
+                Some(first) if self.are_apart => self.given_first(alloc, text, first.line),
+                Some(first) => self.given_first(alloc, first.text, first.line),
+                None => Ok(String::new(alloc)),
             },
-            _ => return Ok(place),
-        };
-        place.push_str(related.as_str())?;
-        Ok(place)
+            _ => Ok(String::new(alloc)),
+        }
     }
 
     /// Returns a line that says where a name is given first.

@@ -44,7 +44,7 @@ fn line(alloc: Global, path: &str, reason: &str) -> Result<String, AllocError> {
         return Ok(String::new(alloc));
     }
     let path = shown_word(alloc, path)?;
-    format!(in alloc; "--> {path}: {reason}\n")
+    ["--> ", path.as_str(), ": ", reason, "\n"].concat(alloc)
 }
 
 /// Returns the words for an error of the system.

@@ -15,20 +15,38 @@ pub(crate) fn refused_file<R: Files + AllocGlobal>(
     folder: &str,
     name: &[u8],
 ) -> Result<String, AllocError> {
-    let alloc = rt.alloc();
-    let Some(name) = Name::parse(alloc, name) else {
-        return Ok(String::new(alloc));
-    };
-    let name = name?;
-    if is_special(rt, folder, &name)? {
-        return lines(alloc, folder, &name, "not a regular file");
+    match Name::parse(rt.alloc(), name) {
+        Some(name) => refused_zone(rt, folder, &name?),
+        None => Ok(String::new(rt.alloc())),
     }
-    let Some(octets) = ZoneFolder::new(rt, folder).read(alloc, &name)? else {
-        return Ok(String::new(alloc));
-    };
-    match Image::read(alloc, octets).err() {
+}
+
+/// Returns the same for the name of a zone.
+fn refused_zone<R: Files + AllocGlobal>(
+    rt: &R,
+    folder: &str,
+    name: &Name,
+) -> Result<String, AllocError> {
+    let alloc = rt.alloc();
+    if is_special(rt, folder, name)? {
+        return lines(alloc, folder, name, "not a regular file");
+    }
+    match ZoneFolder::new(rt, folder).read(alloc, name)? {
+        Some(octets) => bad_file(alloc, folder, name, octets),
         None => Ok(String::new(alloc)),
-        Some(unfit) => lines(alloc, folder, &name, reason(unfit)?),
+    }
+}
+
+/// Returns the lines for a file that has these octets, if no rows can be made of it.
+fn bad_file(
+    alloc: Global,
+    folder: &str,
+    name: &Name,
+    octets: Vec<u8>,
+) -> Result<String, AllocError> {
+    match Image::read(alloc, octets).err() {
+        Some(unfit) => lines(alloc, folder, name, reason(unfit)?),
+        None => Ok(String::new(alloc)),
     }
 }
 
@@ -38,7 +56,7 @@ fn is_special<R: Files + AllocGlobal>(
     folder: &str,
     name: &Name,
 ) -> Result<bool, AllocError> {
-    let path = format!(in rt.alloc(); "{folder}/{}", text_of(name))?;
+    let path = [folder, "/", text_of(name)].concat(rt.alloc())?;
     match fs::metadata(rt, path.as_str()) {
         Ok(info) => Ok(!info.is_file()),
         Err(_) => Ok(false),
@@ -57,11 +75,10 @@ fn reason(unfit: Unfit) -> Result<&'static str, AllocError> {
 
 /// Returns the lines for the file of a zone.
 fn lines(alloc: Global, folder: &str, name: &Name, reason: &str) -> Result<String, AllocError> {
-    let (folder, name) = (shown_word(alloc, folder)?, text_of(name));
-    let mut lines = format!(in alloc; "--> {folder}/{name}: {reason}\n")?;
-    let entries = entries(alloc)?;
-    lines.push_str(expectation(alloc, &entries, reason)?.as_str())?;
-    Ok(lines)
+    let folder = shown_word(alloc, folder)?;
+    let path = [folder.as_str(), "/", text_of(name)].concat(alloc)?;
+    let expected = expectation(alloc, &entries(alloc)?, reason)?;
+    ["--> ", path.as_str(), ": ", reason, "\n", expected.as_str()].concat(alloc)
 }
 
 /// Returns a name, which is ASCII, as text.

@@ -1,9 +1,10 @@
 //! Why a command gives up, and the status that the program then ends with.
 
-ghost use Rattle.std.specs.Prelude.{◌≡◌, ◌⊎◌};
+ghost use Rattle.std.specs.Fmt.{decimal};
+ghost use Rattle.std.specs.Prelude.{◌≡◌, ◌⊎◌, ◌++◌};
 ghost use Rattle.zic_io.specs.declared.failure.Failure.TheVariants.{CannotWriteOutput, Memory};
 ghost use Rattle.zic_io.specs.Failing.{fault_failure, run_failure, IsCannotRead, IsUnknownZone};
-ghost use Rattle.zic_io.specs.Words.{status_of};
+ghost use Rattle.zic_io.specs.Words.{count_words, status_of};
 ghost use Rattle.zic_io.specs.code.Message.{first_words, name_in};
 
 use std::alloc::{AllocError, AllocFailed, Global};
@@ -116,16 +117,27 @@ impl fmt::Display for Failure {
     fn fmt<W: fmt::Write>(&self, f: &mut fmt::Formatter<W>) -> fmt::Result {
         let (words, name) = (self.words(), self.name());
         match self {
-            Failure::Line { line, .. } => write!(f, "{words}{line}: {name}"),
+            Failure::Line { line: number, .. } | Failure::Row { row: number, .. } => {
+                write!(f, "{words}{number}: {name}")
+            }
             Failure::TextLine { text, line, .. } => write!(f, "{words}{text} line {line}: {name}"),
-            Failure::Row { row, .. } => write!(f, "{words}{row}: {name}"),
-            Failure::Rows { row, count, .. } | Failure::Rejected { row, count, .. }
-                if *count == 1 => { write!(f, "{words}{row}: {name}\n1 row with a fault") }
             Failure::Rows { row, count, .. } | Failure::Rejected { row, count, .. } => {
-                write!(f, "{words}{row}: {name}\n{count} rows with faults")
+                let rows = rows_with_faults(*count);
+                write!(f, "{words}{row}: {name}\n{count}{rows}")
             }
             _ => write!(f, "{words}{name}"),
         }
+    }
+}
+
+/// Returns what stands after the number of rows with faults.
+fn rows_with_faults(count: u64) -> &'static str
+    ensures { count_words count ≡ decimal count ++ result.now }
+{
+    if count == 1 {
+        " row with a fault"
+    } else {
+        " rows with faults"
     }
 }
 

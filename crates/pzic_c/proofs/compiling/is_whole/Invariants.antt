@@ -1,6 +1,0 @@
-use Rattle.std.proofs.Common.{◌≡◌, ◌+◌, drop}
-use Rattle.std.specs.List.{sum}
-use Rattle.pzic_c.proofs.compiling.is_whole.Given as goal
-
-abbrev pub invariant-loop-len : goal.invariant-loop-len
-invariant-loop-len l = l.count + sum (drop l.len-index l.lengths) ≡ l.left + sum l.lengths

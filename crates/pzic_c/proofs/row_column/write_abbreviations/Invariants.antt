@@ -1,7 +1,0 @@
-use Rattle.std.specs.List.{zip}
-use Rattle.pzic_c.specs.RowColumn.{IsAbbreviationOfRow}
-use Rattle.pzic_c.specs.code.Written.{AreCellsWritten}
-use Rattle.pzic_c.proofs.row_column.write_abbreviations.Given as goal
-
-abbrev pub invariant-loop-i : goal.invariant-loop-i
-invariant-loop-i l = AreCellsWritten (IsAbbreviationOfRow l.files) (zip l.zones l.instants) l.abbreviations l.i

@@ -1,0 +1,4 @@
+pub mod FilesTaken
+pub mod Layouts
+pub mod RowStates
+pub mod Texts

@@ -1,0 +1,62 @@
+-- What the calls on rows by a layout return. Own choice.
+use Rattle.std.specs.Prelude.{◌≡◌, ◌⊎◌, ℕ, ◌+◌, ◌<◌, ◌≤◌, ℤ, List, [], ◌∷◌, ◌++◌, length, map, Option, Some, None, IsSomeAnd}
+use Rattle.zic_convert.specs.Column.{AreRowsByLayout}
+use Rattle.zic_files.specs.File.{File}
+use Rattle.zic_base.specs.RowFault.{row_kind_number}
+use Rattle.zic_base.specs.declared.row_fault.RowFault.{RowFault}
+use Rattle.zic_base.specs.declared.row_fault.RowKind.{RowKind}
+use Rattle.zic_plan.specs.declared.layout.Layout.{Layout}
+use Rattle.zic_plan.specs.Noted.{RowNote}
+use Rattle.zic_plan.specs.declared.plan.TheConstants.{MAX_BYTES, MAX_ROWS}
+use Rattle.zic_zones.specs.Zones.{alone}
+use Rattle.pzic_zones.specs.Handle.{rows_of}
+use Rattle.pzic_files.specs.Layout.{HasNoLayout, IsLayoutOf}
+use Rattle.pzic_files.specs.Text.{overwritten}
+use Rattle.pzic_zones.specs.declared.held.Held.{Held}
+use Rattle.pzic_files.specs.declared.layout.ColumnLayout.{ColumnLayout}
+use Rattle.pzic_zones.specs.declared.made.Made.{Made}
+use Rattle.pzic_zones.specs.declared.made.RowFault as made
+use Rattle.pzic_zones.specs.declared.status.TheConstants.{OK, NO_MEMORY, LENGTHS, NO_SUCH, BAD_ROW}
+
+-- a fault as C sees it: its row and the number of its kind
+abbrev pub fault_seen : RowFault → made.RowFault
+fault_seen fault = record { row = fault.row; kind = row_kind_number fault.kind }
+
+abbrev pub note_seen : RowNote → made.RowFault
+note_seen note = fault_seen note.fault
+
+-- the rows with a fault, and last the one that ends the run, which is the row after this number of rows
+abbrev pub faults_with_end : List RowNote → ℕ → Option RowKind → List RowNote
+faults_with_end faults count None = faults
+faults_with_end faults count (Some kind) = faults ++ record { fault = record { row = count + 1; kind = kind }; own = [] } ∷ []
+
+-- the status of rows that a fault ended, or none did
+abbrev pub status_of_end : Option RowKind → ℤ
+status_of_end None = OK
+status_of_end (Some kind) = BAD_ROW
+
+-- They are the header and the rows of the column by the layout, up to the first that ends the run, and the faults.
+abbrev pub AreMadeBy : List File → Layout → List ℕ → ℤ → Made → Type 0
+AreMadeBy files layout column status made =
+    (fault : Option RowKind) × (faults : List RowNote) × AreRowsByLayout (alone files) layout MAX_ROWS column made.text.items made.count fault faults
+    × (made.faults.items ≡ map note_seen (faults_with_end faults made.count fault)) × (status ≡ status_of_end fault)
+
+-- The handle holds them, or nothing, since memory ran out.
+abbrev pub AreRowsBy : List File → Layout → List ℕ → ℤ → Option Held → Type 0
+AreRowsBy files layout column status (Some held) = IsSomeAnd (rows_of held) (AreMadeBy files layout column status)
+AreRowsBy files layout column status None = status ≡ NO_MEMORY
+
+-- The column was converted by the layout of these numbers and of this name of a zone; or it is too long, or there is no such layout, or memory
+-- ran out, and the handle holds nothing.
+abbrev pub IsConvertedBy : List File → ColumnLayout → List ℕ → List ℕ → ℤ → Option Held → Type 0
+IsConvertedBy files given name column status held =
+    ((layout : Layout) × (length column ≤ MAX_BYTES) × IsLayoutOf given name layout × AreRowsBy files layout column status held)
+    ⊎ ((MAX_BYTES < length column) × (status ≡ LENGTHS) × (held ≡ None))
+    ⊎ (HasNoLayout given name × (status ≡ NO_SUCH) × (held ≡ None))
+    ⊎ ((status ≡ NO_MEMORY) × (held ≡ None))
+
+-- Faults are returned: their number, and as many as there is room for.
+pub record AreFaultsCopied (faults : List made.RowFault) (status : ℤ) (before after : List made.RowFault) (count : ℕ) : Type 0 where
+  pub status_is : status ≡ OK
+  pub number_is : count ≡ length faults
+  pub copied : after ≡ overwritten before faults

@@ -1,0 +1,12 @@
+pub mod code
+pub mod DiffOptions
+pub mod Files
+pub mod FilesDiff
+pub mod FilesOf
+pub mod Layout
+pub mod LayoutRows
+pub mod Names
+pub mod RowColumn
+pub mod Rows
+pub mod Source
+pub mod Text

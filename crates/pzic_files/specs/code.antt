@@ -1,0 +1,2 @@
+-- What only the proofs of this crate's code use. No public contract cites it.
+pub mod Taking

@@ -1,0 +1,242 @@
+//! How a column is read and what its rows are, as C passes it.
+
+ghost use Rattle.std.specs.Prelude.{◌≡◌, false, IsUtf8, MatchOption, IfOk, IfErr};
+ghost use Rattle.zic_plan.specs.Delimiter.{is_delimiter};
+ghost use Rattle.pzic_files.specs.Layout.{HasNoLayout, IsFieldCount, IsLayoutOf, IsLimit, IsRefusal, IsZoneFrom};
+ghost use Rattle.pzic_files.specs.Layout.{fault_number, from_number, header_number, records_number, start_number, style_number, unit_number};
+
+use std::alloc::{AllocError, Global};
+use std::str::from_utf8;
+use zic_plan::{
+    AtFault, Delimiter, Disambiguation, FieldCount, Header, Layout, Notes, Records, RowStart,
+    Style, TimeFrom, Unit, Written, ZoneFrom,
+};
+
+/// How a column is read, and what its rows are, by numbers.
+#[repr(C)]
+#[derive(Clone, Copy, Drop)]
+pub struct ColumnLayout {
+    /// The index of the field of the zone's name, from 0.
+    pub zone: usize,
+    /// The index of the field of the instant or the local time, from 0.
+    pub time: usize,
+    /// How many fields a record has.
+    pub fields: usize,
+    /// Whether it may have more: 0 or 1.
+    pub more_fields: u32,
+    /// The number of how the field has its time.
+    pub from: u32,
+    /// The number of what instants count.
+    pub unit: u32,
+    /// The byte between fields.
+    pub delimiter: u32,
+    /// The number of where records end.
+    pub records: u32,
+    /// The number of whether there is a header.
+    pub header: u32,
+    /// The number of what rows begin with.
+    pub start: u32,
+    /// The number of what a row with a fault does.
+    pub at_fault: u32,
+    /// The number of how a row has its local time and its UT offset.
+    pub style: u32,
+    /// The most bytes of a record, without its line end; 0 sets no limit.
+    pub max_record: u64,
+}
+
+/// Why there is no layout.
+#[derive(Clone, Copy, Drop)]
+pub(crate) enum LayoutStop {
+    /// A number is that of nothing, or the zone's name is no text.
+    None,
+    /// A growth of memory was refused.
+    Memory,
+}
+
+impl From<AllocError> for LayoutStop {
+    ghost use Rattle.std.specs.Prelude.{◌≡◌};
+    ghost use Rattle.pzic_files.specs.declared.layout.LayoutStop.TheVariants as stop;
+
+    ghost from_gives = { λ _ e. e ≡ stop.Memory };
+
+    fn from(_e: AllocError) -> LayoutStop {
+        LayoutStop::Memory
+    }
+}
+
+/// Returns how the time of a number is had, if one has it.
+fn from_of(number: u32) -> Option<TimeFrom>
+    ensures { MatchOption result ((from : TimeFrom) → number ≡ from_number from → ⊥)
+        (λ from. number ≡ from_number from) }
+{
+    match number {
+        0 => Some(TimeFrom::Count),
+        1 => Some(TimeFrom::Rfc3339),
+        2 => Some(TimeFrom::Local(Disambiguation::Reject)),
+        3 => Some(TimeFrom::Local(Disambiguation::Earlier)),
+        4 => Some(TimeFrom::Local(Disambiguation::Later)),
+        5 => Some(TimeFrom::Local(Disambiguation::Compatible)),
+        _ => None,
+    }
+}
+
+/// Returns the unit of a number, if one has it.
+fn unit_of(number: u32) -> Option<Unit>
+    ensures { MatchOption result ((unit : Unit) → number ≡ unit_number unit → ⊥)
+        (λ unit. number ≡ unit_number unit) }
+{
+    match number {
+        0 => Some(Unit::Second),
+        1 => Some(Unit::Millisecond),
+        2 => Some(Unit::Microsecond),
+        3 => Some(Unit::Nanosecond),
+        _ => None,
+    }
+}
+
+/// Returns where the records of a number end, if they have it.
+fn records_of(number: u32) -> Option<Records>
+    ensures { MatchOption result ((records : Records) → number ≡ records_number records → ⊥)
+        (λ records. number ≡ records_number records) }
+{
+    match number {
+        0 => Some(Records::Csv),
+        1 => Some(Records::Lines),
+        _ => None,
+    }
+}
+
+/// Returns the header of a number, if one has it.
+fn header_of(number: u32) -> Option<Header>
+    ensures { MatchOption result ((header : Header) → number ≡ header_number header → ⊥)
+        (λ header. number ≡ header_number header) }
+{
+    match number {
+        0 => Some(Header::Absent),
+        1 => Some(Header::First),
+        2 => Some(Header::Skipped),
+        _ => None,
+    }
+}
+
+/// Returns the start of rows of a number, if one has it.
+fn start_of(number: u32) -> Option<RowStart>
+    ensures { MatchOption result ((start : RowStart) → number ≡ start_number start → ⊥)
+        (λ start. number ≡ start_number start) }
+{
+    match number {
+        0 => Some(RowStart::Fields),
+        1 => Some(RowStart::Record),
+        _ => None,
+    }
+}
+
+/// Returns what a fault does by a number, if that is one.
+fn at_fault_of(number: u32) -> Option<AtFault>
+    ensures { MatchOption result ((at_fault : AtFault) → number ≡ fault_number at_fault → ⊥)
+        (λ at_fault. number ≡ fault_number at_fault) }
+{
+    match number {
+        0 => Some(AtFault::End),
+        1 => Some(AtFault::GoOn),
+        2 => Some(AtFault::Reject),
+        _ => None,
+    }
+}
+
+/// Returns the style of a number, if one has it.
+fn style_of(number: u32) -> Option<Style>
+    ensures { MatchOption result ((style : Style) → number ≡ style_number style → ⊥)
+        (λ style. number ≡ style_number style) }
+{
+    match number {
+        0 => Some(Style::Fields),
+        1 => Some(Style::Iso),
+        _ => None,
+    }
+}
+
+/// Returns the number of fields, if `more` says whether there may be more.
+fn count_of(fields: usize, more: u32) -> Option<FieldCount>
+    ensures { MatchOption result ((count : FieldCount) → IsFieldCount fields more count → ⊥)
+        (λ count. IsFieldCount fields more count) }
+{
+    match more {
+        0 => Some(FieldCount::Exactly(fields)),
+        1 => Some(FieldCount::AtLeast(fields)),
+        _ => None,
+    }
+}
+
+/// Returns the delimiter of a number, if it can be one.
+fn delimiter_of(number: u32) -> Option<Delimiter>
+    ensures { MatchOption result (is_delimiter number ≡ false) (λ delimiter. delimiter ≡ number) }
+{
+    if 127 < number {
+        return None;
+    }
+    Delimiter::new(number as u8)
+}
+
+/// Returns the most bytes of a record, where a number sets a limit.
+fn limit_of(number: u64) -> Option<u64>
+    ensures { IsLimit number result }
+{
+    if number == 0 { None } else { Some(number) }
+}
+
+/// Returns where zones come from: a field, or a name where there is one.
+fn zone_from(alloc: Global, field: usize, name: &[u8]) -> Result<ZoneFrom, LayoutStop>
+    ensures ok { IfOk result (λ zone. IsZoneFrom field name.now zone) }
+    ensures err { IfErr result (IsRefusal (IsUtf8 name.now → ⊥)) }
+{
+    if name.is_empty() {
+        return Ok(ZoneFrom::Field(field));
+    }
+    let Ok(text) = from_utf8(name) else {
+        return Err(LayoutStop::None);
+    };
+    Ok(ZoneFrom::Name(String::from_str(alloc, text)?))
+}
+
+/// Returns the layout of these numbers and of a zone's name.
+///
+/// # Errors
+///
+/// `None` where there is no such layout, or `Memory`.
+pub(crate) fn layout_of(
+    alloc: Global,
+    given: &ColumnLayout,
+    name: &[u8],
+) -> Result<Layout, LayoutStop>
+    ensures ok { IfOk result (IsLayoutOf given.now name.now) }
+    ensures err { IfErr result (IsRefusal (HasNoLayout given.now name.now)) }
+{
+    let count = count_of(given.fields, given.more_fields).ok_or(LayoutStop::None)?;
+    let from = from_of(given.from).ok_or(LayoutStop::None)?;
+    let unit = unit_of(given.unit).ok_or(LayoutStop::None)?;
+    let delimiter = delimiter_of(given.delimiter).ok_or(LayoutStop::None)?;
+    let records = records_of(given.records).ok_or(LayoutStop::None)?;
+    let header = header_of(given.header).ok_or(LayoutStop::None)?;
+    let start = start_of(given.start).ok_or(LayoutStop::None)?;
+    let at_fault = at_fault_of(given.at_fault).ok_or(LayoutStop::None)?;
+    let style = style_of(given.style).ok_or(LayoutStop::None)?;
+    // The byte is a delimiter.
+    let _ = delimiter.byte();
+    Ok(Layout {
+        zone: zone_from(alloc, given.zone, name)?,
+        time: given.time,
+        from,
+        count,
+        unit,
+        delimiter,
+        records,
+        header,
+        max_record: limit_of(given.max_record),
+        start,
+        style,
+        written: Written::All,
+        at_fault,
+        notes: Notes::Faults,
+    })
+}

@@ -1,0 +1,4 @@
+pub mod AsBox
+pub mod Columns
+pub mod Nearness
+pub mod Refusals

@@ -1,0 +1,9 @@
+pub mod Changes
+pub mod CivilTime
+pub mod code
+pub mod Column
+pub mod Handle
+pub mod Local
+pub mod Owned
+pub mod State
+pub mod Zone

@@ -1,0 +1,125 @@
+//! `convert`, from the texts of its sources to the report of its end.
+
+use crate::ending::{Unwritten, ended, keeps_lists, report};
+use crate::header::Head;
+use crate::lists::Lists;
+use crate::ready::ready_releases;
+use crate::rows::convert_rows;
+use std::alloc::{AllocError, Global};
+use std::fs::Files;
+use std::io::{Input, IsTerminal, Write};
+use std::mem;
+use std::random::RandomSource;
+use std::sync::Wait;
+use std::thread::Threads;
+use std::time::Clock;
+use zic_command_line::Conversion;
+use zic_io::{Failure, ProgressLine};
+
+/// What a command has read, and what the message of its failure needs besides it.
+#[derive(Drop)]
+pub struct Noted {
+    /// The texts of the sources, once all of them are read.
+    pub texts: Vec<Vec<u8>>,
+    /// What was read of the column for its header.
+    pub(crate) head: Head,
+    /// The faults of rows after which a run went on, where something else ended it.
+    pub faults: Option<Failure>,
+}
+
+impl Noted {
+    /// Returns what is noted before anything is read.
+    pub fn new(alloc: Global) -> Noted {
+        Noted {
+            texts: Vec::new(alloc),
+            head: Head::new(alloc),
+            faults: None,
+        }
+    }
+}
+
+/// The size in bytes of a block that [`keep_memory`] asks for: almost the largest by which the C
+/// library adapts.
+const LARGE_BLOCK: usize = 33_488_896;
+
+/// Has the C library keep the memory that rounds of rows give back, and not return it to the system
+/// each time: its allocator does so for blocks of up to the size of the largest that was freed
+/// (`M_MMAP_THRESHOLD` in mallopt(3)). The block itself is never touched.
+fn keep_memory(alloc: Global) {
+    drop(large_block(alloc));
+}
+
+/// Returns a block of `LARGE_BLOCK` bytes without content.
+#[inline(never)]
+fn large_block(alloc: Global) -> Result<Vec<u8>, AllocError> {
+    // Inlined, the compiler would leave out both the block and its end.
+    Vec::with_capacity(alloc, LARGE_BLOCK)
+}
+
+/// Converts standard input to standard output, and reports the rows. Where the run goes on after
+/// faults, it writes them and their records to the files that are named for these, if any.
+///
+/// # Errors
+///
+/// Why the texts aren't read or have no files, `CannotRead` with the path of a folder, `CannotWrite` with
+/// the path of a list, why a conversion ends, `Rows` or `Rejected` for the faults after which it went on,
+/// or `Memory`.
+pub fn convert<
+    R: Files + Input + Print + Clock + RandomSource + AllocGlobal + Threads + Wait + Sync,
+    E: Write + IsTerminal + Drop,
+>(rt: &R, order: &Conversion, errors: E, noted: &mut Noted) -> Result<(), Failure> {
+    let mut errors = errors;
+    keep_memory(rt.alloc());
+    ready_releases(rt, order, &mut errors, noted)?;
+    let line = progress_line(order.progress, errors);
+    convert_listed(rt, order, noted, line)
+}
+
+/// Returns where to report progress, if requested.
+fn progress_line<E: IsTerminal + Drop>(progress: bool, errors: E) -> ProgressLine<E> {
+    if !progress {
+        ProgressLine::Never
+    } else if errors.is_terminal() {
+        ProgressLine::Anew(errors)
+    } else {
+        ProgressLine::Once(errors)
+    }
+}
+
+/// Converts standard input, and writes the lists of faults and of their records. A fault of the source, an
+/// unknown zone or lack of memory before the first fault leaves earlier lists as they are.
+fn convert_listed<
+    R: Files + Input + Print + Clock + RandomSource + AllocGlobal + Threads + Wait + Sync,
+    E: Write + Drop,
+>(rt: &R, order: &Conversion, noted: &mut Noted, line: ProgressLine<E>) -> Result<(), Failure> {
+    let mut lists = Lists::open(rt, order)?;
+    let converted = convert_rows(rt, order, noted, line, &mut lists.noted);
+    end(order, noted, lists, converted)
+}
+
+/// Takes note of the faults of rows, writes the lists, and returns how the run ends.
+fn end<R: Files>(
+    order: &Conversion,
+    noted: &mut Noted,
+    lists: Lists<'_, R>,
+    converted: Result<u64, Failure>,
+) -> Result<(), Failure> {
+    let faults = lists.faults(order);
+    let ended = ended(converted, &faults);
+    drop(mem::replace(&mut noted.faults, faults.told_beside(&ended)));
+    let unwritten = if keeps_lists(&faults, &ended) {
+        drop(lists);
+        None
+    } else {
+        lists.finish()
+    };
+    report(ended, path_of(order, unwritten))
+}
+
+/// Returns the path of a list.
+fn path_of(order: &Conversion, unwritten: Option<Unwritten>) -> Option<&String> {
+    match unwritten? {
+        Unwritten::Faults => order.faults.as_ref(),
+        Unwritten::Rejects => order.rejects.as_ref(),
+    }
+}

@@ -1,0 +1,95 @@
+//! How a conversion ends, by what ended it, by the faults of rows, and by which of its lists were written
+//! whole.
+
+ghost use Rattle.std.specs.Prelude.{◌≡◌, option_map, string_bytes};
+ghost use Rattle.std.specs.Option.{option_copied};
+ghost use Rattle.zic_converting.specs.Ending.{ended, first_unwritten, is_before_rows, keeps_lists, rows_made, IsReport};
+
+use crate::faults::Faults;
+use zic_command_line::Zones;
+use zic_io::Failure;
+
+/// A list that was not written whole.
+#[derive(Clone, Copy)]
+pub(crate) enum Unwritten {
+    /// That of the faults of rows.
+    Faults,
+    /// That of their records.
+    Rejects,
+}
+
+/// Returns how a run ends: by what ended the rows, or else by the faults after which it went on, if there are
+/// any.
+pub(crate) fn ended(converted: Result<u64, Failure>, faults: &Faults) -> Result<(), Failure>
+    ensures { result ≡ ended faults.now converted }
+{
+    match converted {
+        Err(failure) => Err(failure),
+        Ok(_) => match faults.failure() {
+            Some(failure) => Err(failure),
+            None => Ok(()),
+        },
+    }
+}
+
+/// Returns whether a run that ended so leaves the lists of an earlier one as they are: it noted no fault of
+/// a row, and ended before rows were made, by a fault of the source, an unknown zone, a header that is too
+/// long, or lack of memory or threads.
+pub(crate) fn keeps_lists(faults: &Faults, ended: &Result<(), Failure>) -> bool
+    ensures { result ≡ keeps_lists faults.now ended.now }
+{
+    faults.first.is_none() && is_before_rows(ended)
+}
+
+/// Returns whether a run without faults of rows ended before rows were made.
+fn is_before_rows(ended: &Result<(), Failure>) -> bool
+    ensures { result ≡ is_before_rows ended.now }
+{
+    match ended {
+        Err(Failure::Line { .. } | Failure::TextLine { .. } | Failure::UnknownZone(_)) => true,
+        Err(Failure::Memory | Failure::NoThread | Failure::Row { row: 0, .. }) => true,
+        _ => false,
+    }
+}
+
+/// Returns the first list that was not written whole, by whether each was.
+pub(crate) fn first_unwritten(faults: bool, rejects: bool) -> Option<Unwritten>
+    ensures { result ≡ first_unwritten faults rejects }
+{
+    match (faults, rejects) {
+        (false, _) => Some(Unwritten::Faults),
+        (true, false) => Some(Unwritten::Rejects),
+        (true, true) => None,
+    }
+}
+
+/// Returns what a run reports that ended so, where the list at this path may not be written whole. That it
+/// isn't comes before faults of rows after which the run went on, and after any other failure.
+///
+/// # Errors
+///
+/// The failure of the run, `CannotWrite` with the path, or `Memory` in place of that.
+pub(crate) fn report(ended: Result<(), Failure>, unwritten: Option<&String>) -> Result<(), Failure>
+    ensures { IsReport ended (option_map string_bytes (option_copied unwritten.entry)) result }
+{
+    let Some(path) = unwritten else {
+        return ended;
+    };
+    match ended {
+        Ok(()) | Err(Failure::Rows { .. } | Failure::Rejected { .. }) => {
+            Err(Failure::CannotWrite(path.clone()?))
+        }
+        ended => ended,
+    }
+}
+
+/// Returns the number of rows that were made, where rows are compared with those of another release and
+/// only some of them are written.
+pub(crate) fn rows_made(against: &Option<Zones>, converted: &Result<u64, Failure>) -> Option<u64>
+    ensures { result ≡ rows_made against.now converted.now }
+{
+    match (against, converted) {
+        (Some(_), Ok(rows)) => Some(*rows),
+        _ => None,
+    }
+}

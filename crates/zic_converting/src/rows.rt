@@ -1,0 +1,64 @@
+//! The rows of a column, from standard input to standard output.
+
+use crate::column::convert_column;
+use crate::conversion::Noted;
+use crate::ending::rows_made;
+use std::fs::Files;
+use std::io::{self, Input, Printer, Read, Write};
+use std::random::RandomSource;
+use std::sync::Wait;
+use std::thread::Threads;
+use std::time::Clock;
+use zic_command_line::Conversion;
+use zic_counted::Counted;
+use zic_io::{Failure, Progress, ProgressLine};
+use zic_pieces::Open;
+use zic_plan::{Header, Layout, Records, RowLog};
+
+/// Converts standard input to standard output, reports the rows, and takes note of faults. Returns the
+/// number of rows.
+pub(crate) fn convert_rows<
+    R: Files + Input + Print + Clock + RandomSource + AllocGlobal + Threads + Wait + Sync,
+    E: Write + Drop,
+    L: RowLog,
+>(
+    rt: &R,
+    order: &Conversion,
+    noted: &Noted,
+    line: ProgressLine<E>,
+    log: &mut L,
+) -> Result<u64, Failure> {
+    // What ended isn't read again: a terminal would go on.
+    let most = if noted.head.is_whole { 0 } else { u64::MAX };
+    let rest = rt.reader().take(most);
+    let mut input = Counted::new(noted.head.bytes.as_slice().chain(rest));
+    let mut output = Counted::new(progress(rt, &order.layout, line));
+    let conversion = zic_commands::Conversion {
+        rt,
+        alloc: rt.alloc(),
+        plan: &order.plan,
+        layout: &order.layout,
+        gate: &Open,
+        max_faults: order.max_faults,
+    };
+    let texts = &noted.texts;
+    let converted = convert_column(order, &conversion, texts, &mut input, &mut output, log);
+    output
+        .into_inner()
+        .finish(rows_made(&order.against, &converted));
+    converted
+}
+
+/// Returns the writer to standard output that reports the rows.
+fn progress<'a, R: Print + Clock, E: Write>(
+    rt: &'a R,
+    layout: &Layout,
+    line: ProgressLine<E>,
+) -> Progress<'a, Printer<'a, R>, R, E> {
+    let has_header = layout.header == Header::First;
+    let delimiter = match layout.records {
+        Records::Csv => Some(layout.delimiter.byte()),
+        Records::Lines => None,
+    };
+    Progress::new(io::writer(rt), rt, line, has_header, delimiter)
+}

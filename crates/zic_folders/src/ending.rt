@@ -1,0 +1,27 @@
+//! How a command ends that doesn't give up.
+
+ghost use Rattle.std.specs.Prelude.{◌≡◌};
+ghost use Rattle.zic_folders.specs.Ending.{ending_of};
+
+/// How a command ends that doesn't give up.
+#[derive(Clone, Copy, Debug, PartialEq, Eq)]
+pub enum Ending {
+    Done,
+    /// A folder lacks files of sources, or has others.
+    Differs,
+    /// No source names the release that a folder is to be of.
+    NoRelease,
+}
+
+impl Ending {
+    /// Returns how a comparison ends that found what these lines say.
+    pub(crate) fn of(findings: &[u8]) -> Ending
+        ensures { result ≡ ending_of findings.now }
+    {
+        if findings.is_empty() {
+            Ending::Done
+        } else {
+            Ending::Differs
+        }
+    }
+}

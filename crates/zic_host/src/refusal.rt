@@ -1,0 +1,62 @@
+//! Why the program gives up, and the status that it then ends with.
+
+ghost use Rattle.std.specs.Prelude.{◌≡◌};
+ghost use Rattle.zic_host.specs.Status.{refusal_of, refusal_status};
+ghost use Rattle.zic_host.specs.declared.refusal.Refusal.TheVariants.{Command};
+
+use thiserror::Error;
+use zic_command_line::NoRequest;
+use zic_io::Failure;
+
+/// Why the program gives up. Its text goes to standard error.
+#[derive(Debug, Drop, Error)]
+pub enum Refusal {
+    /// The words ask for no command, or for help.
+    #[error("{0}")]
+    Usage(String),
+    /// The command gave up.
+    #[error("{0}")]
+    Command(Failure),
+    /// A folder doesn't have each file that sources give, as it is.
+    #[error("tree differs")]
+    Differs,
+    /// No source begins with a line that names its release.
+    #[error("no release in the sources")]
+    NoRelease,
+    /// The command gave up, and lines after the first explain why.
+    #[error("{failure}\n{text}")]
+    Explained { failure: Failure, text: String },
+}
+
+impl Refusal {
+    /// Returns the status of a program that ends so: 2 for its words or for sources without a release, 1 where a folder differs, else that
+    /// of the command's failure.
+    pub fn status(&self) -> u8
+        ensures { result ≡ refusal_status self.now }
+    {
+        match self {
+            Refusal::Usage(_) | Refusal::NoRelease => 2,
+            Refusal::Differs => 1,
+            Refusal::Command(failure) | Refusal::Explained { failure, .. } => failure.status(),
+        }
+    }
+}
+
+impl From<NoRequest> for Refusal {
+    ghost from_gives = { λ no_request e. e ≡ refusal_of no_request };
+
+    fn from(no_request: NoRequest) -> Refusal {
+        match no_request {
+            NoRequest::Usage(text) => Refusal::Usage(text),
+            NoRequest::Memory => Refusal::Command(Failure::Memory),
+        }
+    }
+}
+
+impl From<Failure> for Refusal {
+    ghost from_gives = { λ failure e. e ≡ Command failure };
+
+    fn from(failure: Failure) -> Refusal {
+        Refusal::Command(failure)
+    }
+}

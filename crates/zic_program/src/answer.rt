@@ -1,0 +1,67 @@
+//! The command that a request is for.
+
+use crate::file::{check, dump, show, show_local};
+use std::fs::Files;
+use std::io::{Input, IsTerminal, Write};
+use std::random::RandomSource;
+use std::sync::Wait;
+use std::thread::Threads;
+use std::time::Clock;
+use zic_command_line::Request;
+use zic_converting::{Noted, convert};
+use zic_folders::{Differing, Ending, Verifying, build, diff, verify};
+use zic_host::tell;
+use zic_io::Failure;
+
+/// Does what a request asks for.
+pub(crate) fn answer<
+    R: Files + Input + Print + Clock + RandomSource + AllocGlobal + Threads + Wait + Sync,
+    E: Write + IsTerminal + Drop,
+>(rt: &R, errors: E, request: &Request, noted: &mut Noted) -> Result<Ending, Failure> {
+    let texts = &mut noted.texts;
+    let done = match request {
+        Request::Build(order) => return build(rt, order, texts),
+        Request::Verify {
+            folder,
+            sources,
+            plan,
+            strict,
+        } => {
+            let verifying = Verifying {
+                folder,
+                sources,
+                plan,
+                strict: *strict,
+            };
+            return verify(rt, &verifying, texts);
+        }
+        Request::Check { source, plan } => check(rt, source, plan, texts),
+        Request::Diff {
+            sources,
+            trees,
+            plan,
+            differences,
+            compared,
+            shows_release,
+        } => {
+            let differing = Differing {
+                sources,
+                trees: *trees,
+                plan,
+                differences,
+                compared: *compared,
+                shows_release: *shows_release,
+            };
+            diff(rt, errors, &differing, texts)
+        }
+        Request::Convert(order) => convert(rt, order, errors, noted),
+        Request::Show { file, instant } => show(rt, file.as_str(), *instant),
+        Request::ShowLocal { file, local } => show_local(rt, file.as_str(), local),
+        Request::Dump { file, years } => dump(rt, file.as_str(), years),
+        Request::Explain { text } | Request::Version { text } => tell(rt, text.as_bytes()),
+    };
+    match done {
+        Ok(()) => Ok(Ending::Done),
+        Err(failure) => Err(failure),
+    }
+}

@@ -1,0 +1,58 @@
+//! The commands that print what one source or file says.
+
+use std::fs::Files;
+use std::io::{self, Input};
+use std::slice;
+use std::sync::Wait;
+use std::thread::Threads;
+use zic_counted::Counted;
+use zic_dump::Years;
+use zic_host::read_texts;
+use zic_io::{Failure, read_file};
+use zic_local::LocalTime;
+use zic_plan::Plan;
+
+/// Compiles a source, and lists its files.
+pub(crate) fn check<R: Files + Input + Print + AllocGlobal + Threads + Wait + Sync>(
+    rt: &R,
+    source: &String,
+    plan: &Plan,
+    texts: &mut Vec<Vec<u8>>,
+) -> Result<(), Failure> {
+    read_texts(rt, slice::from_ref(source), texts)?;
+    let mut output = Counted::new(io::writer(rt));
+    zic_source_commands::check(rt, rt.alloc(), plan, texts, &mut output)
+}
+
+/// Prints what a file says about an instant.
+pub(crate) fn show<R: Files + Print + AllocGlobal>(
+    rt: &R,
+    file: &str,
+    instant: i64,
+) -> Result<(), Failure> {
+    let bytes = read_file(rt.alloc(), rt, file)?;
+    let mut output = Counted::new(io::writer(rt));
+    zic_file_commands::show(rt.alloc(), &bytes, instant, &mut output)
+}
+
+/// Prints what a file says about a local time.
+pub(crate) fn show_local<R: Files + Print + AllocGlobal>(
+    rt: &R,
+    file: &str,
+    local: &LocalTime,
+) -> Result<(), Failure> {
+    let bytes = read_file(rt.alloc(), rt, file)?;
+    let mut output = Counted::new(io::writer(rt));
+    zic_file_commands::show_local(rt.alloc(), &bytes, local, &mut output)
+}
+
+/// Lists the changes of a file.
+pub(crate) fn dump<R: Files + Print + AllocGlobal>(
+    rt: &R,
+    file: &str,
+    years: &Years,
+) -> Result<(), Failure> {
+    let bytes = read_file(rt.alloc(), rt, file)?;
+    let mut output = Counted::new(io::writer(rt));
+    zic_file_commands::dump(rt.alloc(), file, &bytes, years, &mut output)
+}
