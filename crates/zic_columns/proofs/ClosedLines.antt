@@ -1,15 +1,15 @@
 -- Lines as records, and those that are not open.
-use Rattle.std.proofs.Common.{◌≡◌, ◌≢◌, ◌⊎◌, ◌+◌, ◌<◌, ◌≤◌, ℕ, zero, suc, true, false, cond, All, List, [], ◌∷◌, ◌++◌, length, map, filter, take, inl, inr, refl, sym, ap, ◌∙◌, append_assoc, length-append, subst, ⊎_elim, arith}
+use Rattle.std.proofs.Common.{◌≡◌, ◌≢◌, ◌⊎◌, ◌+◌, ◌<◌, ℕ, zero, suc, true, false, All, List, [], ◌∷◌, ◌++◌, length, map, filter, inl, inr, refl, sym, ap, ◌∙◌, append_assoc, length-append, subst, ⊎_elim, arith}
 use Rattle.std.specs.List.{onto_first, slice_split}
 use Rattle.std.proofs.lemmas.Bool.{cases_Bool}
 use Rattle.std.proofs.lemmas.List.{append-nil, map-append, take_at}
 use Rattle.std.proofs.lemmas.List.Elements.{All-append, All-cons, All-filter, All-head, All-nil, All-tail, All-take, All-weaker, filter-append}
 use Rattle.std.proofs.lemmas.List.Splits.{length-slice_split, slice_split-cons_no, slice_split-cons_yes, slice_split_none}
-use Rattle.zic_columns.specs.Column.{AreWholeRecords, HasNoQuote, column_records, ends_line, has_byte, lines_of}
+use Rattle.zic_columns.specs.Column.{AreWholeRecords, HasNoQuote, ends_line, has_byte, lines_of}
 use Rattle.zic_columns.specs.Laws.{LinesAreCut, LinesWithoutQuotesAreCsv}
 use Rattle.zic_columns.specs.Lines.{is_open, line_record, line_records, open_record}
 use Rattle.zic_columns.specs.Own.{CsvRecord, csv_records, own_texts}
-use Rattle.zic_columns.specs.Record.{first_fields, own_record}
+use Rattle.zic_columns.specs.Record.{own_record}
 use Rattle.zic_columns.specs.code.Line.{AreWholeLines}
 use Rattle.zic_columns.specs.code.LineScan.{AllClosed, AreClosedLines, HasNoLineEnd}
 use Rattle.zic_columns.proofs.CutLaw.{line_end_whole}
@@ -48,9 +48,6 @@ split_parts (x ∷ a) end b ends = ⊎_elim
 -- the lines before a line end, and those after it
 pub lines_parts : (a : List ℕ) (end : ℕ) (b : List ℕ) → ends_line end ≡ true → lines_of (a ++ end ∷ b) ≡ lines_of a ++ lines_of b
 lines_parts a end b ends = ap (filter has_byte) (split_parts a end b ends) ∙ filter-append has_byte (slice_split ends_line a) (slice_split ends_line b)
-
-lines_nil : lines_of [] ≡ []
-lines_nil = refl
 
 pub line_alone : (line : List ℕ) → 0 < length line → HasNoLineEnd line → lines_of line ≡ line ∷ []
 line_alone [] some none = absurd (omega (arith, some))

@@ -1,9 +1,9 @@
 -- Records cut into pieces, one after the other.
-use Rattle.std.proofs.Common.{◌≡◌, ◌==◌, not, Bool, ◌⊎◌, ℕ, ◌+◌, ◌-◌, ◌<◌, ◌≤◌, true, false, Option, Some, None, List, [], ◌∷◌, ◌++◌, length, take, drop, slice_range, refl, sym, ap, ◌∙◌, arith, subst, inl, inr, ⊎_elim}
+use Rattle.std.proofs.Common.{◌≡◌, ◌⊎◌, ℕ, ◌+◌, ◌-◌, ◌<◌, ◌≤◌, true, false, Option, Some, None, List, [], ◌∷◌, ◌++◌, length, take, drop, slice_range, refl, sym, ap, ◌∙◌, arith, subst, inl, inr, ⊎_elim}
 use Rattle.std.proofs.Math.Seq.{take-add}
 use Rattle.std.proofs.lemmas.List.{append-nil, drop-drop, drop_at, drop_all, length-append, length-drop, length-take, map-append, nil_from_length, take-append-drop, take_all, take_at}
 use Rattle.std.proofs.lemmas.List.Elements.{All-head, All-nil, All-push, All-tail, All-weaker}
-use Rattle.std.proofs.lemmas.Bool.{cases_lt, eqb-true}
+use Rattle.std.proofs.lemmas.Bool.{cases_lt}
 use Rattle.std.proofs.lemmas.Grind.{flat_map-append}
 use Rattle.zic_columns.specs.Column.{AreWholeRecords, column_records}
 use Rattle.zic_columns.specs.code.Cut.{AreCutAfter}
@@ -202,8 +202,3 @@ has_record bytes (Some len) is some =
 pub has_none : (bytes : List ℕ) (given : Option ℕ) → MatchOption given (column_records bytes ≡ []) (IsFirstRecord bytes) → is_some given ≡ false → column_records bytes ≡ []
 has_none bytes None is none = is
 has_none bytes (Some len) is none = absurd (cc none)
-
--- a list that is not filled
-pub none_from : (test : Bool) (n : ℕ) → test ≡ (n == 0) → not test ≡ false → n ≡ 0
-none_from true n is none = eqb-true n 0 (sym is)
-none_from false n is none = absurd (cc none)

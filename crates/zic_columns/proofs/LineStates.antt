@@ -1,5 +1,5 @@
 -- How a CSV reader's machine reads a line.
-use Rattle.std.proofs.Common.{◌≡◌, ◌≢◌, ◌==◌, ◌+◌, ◌<◌, ◌≤◌, ℕ, suc, Bool, true, false, cond, All, List, [], ◌∷◌, ◌++◌, length, drop, drop-cons, get_or, refl, sym, ap, ap₂, ◌∙◌, append_assoc, subst, ⊎_elim, arith}
+use Rattle.std.proofs.Common.{◌≡◌, ◌≢◌, ◌==◌, ◌+◌, ◌<◌, ◌≤◌, ℕ, suc, true, false, cond, List, [], ◌∷◌, ◌++◌, length, drop, drop-cons, get_or, refl, sym, ap, ap₂, ◌∙◌, append_assoc, subst, ⊎_elim, arith}
 use Rattle.std.proofs.lemmas.Bool.{both_ways, cases_Bool, cond_both, eqb-true, ne_eqb}
 use Rattle.std.proofs.lemmas.List.{append-nil, drop_all}
 use Rattle.std.proofs.lemmas.List.Elements.{All-head, All-tail}
@@ -14,7 +14,7 @@ use Rattle.zic_columns.specs.Column.{AreWholeRecords, HasNoQuote, ends_line, sta
 use Rattle.zic_columns.specs.Lines.{is_open, is_quoted}
 use Rattle.zic_columns.specs.Own.{own_from, own_texts}
 use Rattle.zic_columns.specs.code.LineScan.{HasNoLineEnd}
-use Rattle.zic_columns.specs.code.Machine.{EndsRecord, state_at}
+use Rattle.zic_columns.specs.code.Machine.{state_at}
 use Rattle.zic_columns.specs.declared.machine.Place.{Place}
 use Rattle.zic_columns.specs.declared.machine.Place.TheVariants as place
 use Rattle.zic_columns.proofs.CutLaw.{in_record, records_are_cut, stays}
@@ -219,13 +219,6 @@ next_state s t line at lt to =
 pub last_state : (s : State) (line : List ℕ) (at : ℕ) → length line ≤ at → state_after default_config s (drop at line) ≡ s
 unfolding state_after
 last_state s line at end = ap (state_after default_config s) (drop_all at line end)
-
--- a byte that ends no line ends no record there
-pub not_ended : (p : Place) (byte : ℕ) → ends_line byte ≡ false → EndsRecord (state_at p) byte → ⊥
-not_ended place.Start byte within ends = both_ways _ (goes st.StartField byte refl within) ends
-not_ended place.Plain byte within ends = both_ways _ (goes st.InField byte refl within) ends
-not_ended place.Quoted byte within ends = both_ways _ (goes st.InQuoted byte refl within) ends
-not_ended place.QuoteSeen byte within ends = both_ways _ (goes st.AfterQuote byte refl within) ends
 
 pub not_quoted : (p : Place) → (p ≡ place.Quoted → ⊥) → is_quoted (state_at p) ≡ false
 not_quoted place.Start other = refl

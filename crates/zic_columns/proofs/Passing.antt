@@ -1,6 +1,6 @@
 -- Bytes whose first record is passed over.
 use Rattle.std.proofs.Common.{◌≡◌, ◌⊎◌, ℕ, ◌≤◌, false, List, [], ◌∷◌, ◌++◌, length, map, take, drop, Option, Some, None, IfSome, inr, refl, sym, ap, ◌∙◌, arith, subst, ⊎_elim, append_assoc}
-use Rattle.std.proofs.lemmas.List.{append-nil, drop_all, drop_at, length-append, length-drop, length-map, length-take, map-append, nil_from_length, take-append-drop, take_all}
+use Rattle.std.proofs.lemmas.List.{append-nil, drop_all, drop_at, length-append, length-map, length-take, map-append, nil_from_length, take-append-drop, take_all}
 use Rattle.std.specs.Io.KnownBytes.{prepend_known}
 use Rattle.zic_plan.specs.declared.layout.Records.{Records}
 use Rattle.zic_columns.specs.Column.{AreWholeRecords, column_records}
@@ -8,8 +8,7 @@ use Rattle.zic_columns.specs.Lines.{records_by, texts_by}
 use Rattle.zic_columns.specs.Own.{CsvRecord, csv_records, first_own, first_text, own_texts}
 use Rattle.zic_columns.specs.Round.{BeginsTooLong, IsNextTooLong, PassesFirst, Takes, may_have}
 use Rattle.zic_columns.specs.code.Cut.{AreCutAfter}
-use Rattle.zic_columns.specs.code.Hand.{AreSomeRecords, CanBeCut, ClosedBy, OpensWith}
-use Rattle.zic_columns.specs.declared.line_scan.OpenLine.{OpenLine}
+use Rattle.zic_columns.specs.code.Hand.{AreSomeRecords, CanBeCut, ClosedBy}
 use Rattle.zic_columns.proofs.Begun.{no_bytes}
 use Rattle.zic_columns.proofs.ByMode.{alike_by, front_by, joined_by, owns_by}
 use Rattle.zic_columns.proofs.OwnFacts.{own_counted}
@@ -56,16 +55,6 @@ own_too_long most mode own (Some bytes) is over =
     begins_long most (records_by mode bytes) (subst (λ (text : List ℕ). may_have most (length text) ≡ false) (is ∙ ap first_text (sym (owns_by mode bytes))) over)
 
 -- ---- an open line
-
-pub passes_open : (mode : Records) (held : List ℕ) (come : Option (List ℕ)) (line : OpenLine) → OpensWith mode held come line
-    → PassesFirst mode (prepend_known held come) (prepend_known (drop line.len held) come)
-passes_open mode held None line is = tt
-passes_open mode held (Some more) line is = (drop line.len held ++ more, refl, sym (ap (drop 1) is.opens))
-
-pub is_open_own : (mode : Records) (held : List ℕ) (come : Option (List ℕ)) (line : OpenLine) → OpensWith mode held come line
-    → AreFirstOwn mode (take line.own held) (prepend_known held come)
-is_open_own mode held None line is = tt
-is_open_own mode held (Some more) line is = ap first_text (sym (ap (map (λ (w : CsvRecord). w.own)) is.opens) ∙ owns_by mode (held ++ more))
 
 -- ---- one record, and those after it
 

@@ -63,13 +63,6 @@ wholes_joined first rest whole = ⊎_elim
     (wholes_cut first rest)
     whole
 
--- the own bytes of records that are those of two parts
-pub owns_joined : (bytes first rest : List ℕ) → csv_records bytes ≡ csv_records first ++ csv_records rest → own_texts bytes ≡ own_texts first ++ own_texts rest
-owns_joined bytes first rest parts =
-    let own = λ (w : CsvRecord). w.own in
-    sym (wholes_owns bytes) ∙ ap (map own) parts ∙ map-append own (csv_records first) (csv_records rest)
-    ∙ ap (λ (t : List (List ℕ)). t ++ map own (csv_records rest)) (wholes_owns first) ∙ ap (λ (t : List (List ℕ)). own_texts first ++ t) (wholes_owns rest)
-
 -- the same records have the same own bytes
 pub owns_same : (bytes rest : List ℕ) → csv_records bytes ≡ csv_records rest → own_texts bytes ≡ own_texts rest
 owns_same bytes rest same = sym (wholes_owns bytes) ∙ ap (map (λ (w : CsvRecord). w.own)) same ∙ wholes_owns rest

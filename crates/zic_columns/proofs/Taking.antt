@@ -2,14 +2,13 @@
 use Rattle.std.proofs.Common.{◌≡◌, ◌⊎◌, ℕ, ◌-◌, ◌≤◌, Bool, true, false, cond, List, [], ◌∷◌, ◌++◌, length, take, drop, Option, Some, None, IfSome, inl, inr, refl, sym, ap, ◌∙◌, arith, subst, ⊎_elim, append_assoc}
 use Rattle.std.proofs.lemmas.List.{append-nil, length-append, length-drop, length-take, nil_from_length, take-append-drop, take-take, take_all}
 use Rattle.std.proofs.KnownBytes.{Consumes-nil, Consumes-trans}
-use Rattle.std.specs.Io.KnownBytes.{IsAtEnd, Keeps, prepend_known}
+use Rattle.std.specs.Io.KnownBytes.{Consumes, IsAtEnd, Keeps, prepend_known}
 use Rattle.csv.specs.Reading.{is_bom, strip_bom}
 use Rattle.zic_columns.specs.Column.{AreWholeRecords, column_records}
-use Rattle.zic_columns.specs.Lines.{open_record, records_by}
+use Rattle.zic_columns.specs.Lines.{records_by}
 use Rattle.zic_columns.specs.Own.{CsvRecord, csv_records}
 use Rattle.zic_columns.specs.Round.{ColumnOf, HasNoRecord, StaysWithin, Takes, TakesOf, may_take, records_of_pieces}
-use Rattle.zic_columns.specs.code.Hand.{AreSomeRecords, CanBeCut, ClosedBy, OpensWith}
-use Rattle.zic_columns.specs.declared.line_scan.OpenLine.{OpenLine}
+use Rattle.zic_columns.specs.code.Hand.{AreSomeRecords, CanBeCut, ClosedBy}
 use Rattle.zic_plan.specs.declared.layout.Records.{Records}
 use Rattle.zic_columns.proofs.ByMode.{alike_by, front_by, joined_by}
 use Rattle.zic_columns.specs.code.Cutting.{IsCut}
@@ -19,6 +18,14 @@ use Rattle.zic_columns.specs.declared.pieces.Cut.{Cut}
 use Rattle.zic_columns.specs.declared.pieces.PieceRange.{PieceRange}
 use Rattle.zic_columns.proofs.Cuts.{pieces_cut}
 use Rattle.zic_columns.proofs.PieceRecords.{wholes_none}
+
+-- where bytes of the reader come into hand, the same are left
+pub keeps_read : (held now more : List ℕ) (come left : Option (List ℕ)) → now ≡ held ++ more → Consumes come left more
+    → Keeps (prepend_known held come) (prepend_known now left)
+keeps_read held now more None left grown takes = tt
+keeps_read held now more (Some bytes) None grown takes = absurd takes
+keeps_read held now more (Some bytes) (Some rest) grown takes =
+    ap (λ (b : List ℕ). b ++ rest) grown ∙ append_assoc held more rest ∙ ap (λ (b : List ℕ). held ++ b) (sym takes)
 
 -- bytes that stay have no record taken
 pub takes_none : (mode : Records) (old new : Option (List ℕ)) → Keeps old new → Takes mode old new []
@@ -128,12 +135,6 @@ takes_blank mode held (Some rest) count whole closed none = (
   ap (records_by mode) (in_two held rest count) ∙ joined_by mode (take count held) (drop count held ++ rest) (inr whole) closed
       ∙ ap (λ (r : List CsvRecord). r ++ records_by mode (drop count held ++ rest)) (wholes_none (take count held) none),
 )
-
--- an open line is taken
-pub takes_open : (mode : Records) (held : List ℕ) (come : Option (List ℕ)) (line : OpenLine) → OpensWith mode held come line
-    → Takes mode (prepend_known held come) (prepend_known (drop line.len held) come) (open_record (take line.own held) ∷ [])
-takes_open mode held None line is = tt
-takes_open mode held (Some rest) line is = (drop line.len held ++ rest, refl, is.opens)
 
 -- ---- the limit
 

@@ -10,7 +10,7 @@ use Rattle.zic_columns.specs.Exchange.{exchanged}
 use Rattle.zic_columns.specs.Laws.{RecordsByAreExchanged, TextsByAreExchanged}
 use Rattle.zic_columns.specs.Lines.{records_by, exchanged_record}
 use Rattle.zic_columns.specs.Own.{CsvRecord}
-use Rattle.zic_columns.specs.Round.{HasNoRecord, IsNextTooLong, may_have}
+use Rattle.zic_columns.specs.Round.{IsNextTooLong, may_have}
 use Rattle.zic_zones.specs.declared.releases.Releases.{Releases}
 use Rattle.zic_plan.specs.Delimiter.{is_delimiter}
 use Rattle.zic_plan.specs.Layout.{records_before}
@@ -108,16 +108,6 @@ module _ (layout : Layout) (releases : Releases) (most : ℕ) where
   left_ended known left rows has far = if_some known _ (λ bytes e.
       let (done, rest, at, same, so_far) = for_some known _ bytes far e in
       subst (λ (l : List CsvRecord). AreRowsOf layout releases most 1 l rows) (sym same) (ended_more 1 done (records_in layout rest) rows has so_far))
-
-  -- or no record is left
-  pub left_done : (known left next : Option (List ℕ)) (rows : RowsOf) → AreRowsSoFar layout releases most known left rows → Takes layout left next [] → HasNoRecord layout.records next
-      → AreRowsOfLeft layout releases most known rows
-  left_done known left next rows far takes end = if_some known _ (λ bytes e.
-      let (done, rest, at, same, so_far) = for_some known _ bytes far e in
-      let (after, there, parts) = for_some left _ rest takes at in
-      let last : records_in layout after ≡ [] = ap (map (exchanged_record layout.delimiter)) (for_some next _ after end there) in
-      let all : done ≡ records_in layout bytes = sym (same ∙ ap (λ (l : List CsvRecord). done ++ l) (parts ∙ last) ∙ append-nil done) in
-      subst (λ (l : List CsvRecord). AreRowsOf layout releases most 1 l rows) all so_far)
 
   -- or the next record has too many bytes
   pub left_long : (known left next : Option (List ℕ)) (rows : RowsOf) (kind : RowKind) → rows.fault ≡ None → AreRowsSoFar layout releases most known left rows → Takes layout left next []

@@ -157,9 +157,6 @@ product a b h k = grind (arith, h, k)
 pub few_records : (p : Pieces) → ArePieces p → length (records_of_all p.layout.delimiter p.pieces) ≤ 281474976710656
 few_records p sound = omega (arith, as_many_of_all p.layout.delimiter p.pieces, round_few p.size p.pieces sound.cut, product (length p.pieces) p.size sound.few sound.small)
 
-pub small_number : (p : Pieces) (i : ℕ) → ArePieces p → i < length p.pieces → p.first + i * p.size ≤ 281475076710657
-small_number p i sound lt = omega (arith, product i p.size (omega (arith, lt, sound.few)) sound.small, sound.first)
-
 -- ---- the pieces up to one
 
 -- the first pieces of a round are pieces

@@ -5,7 +5,7 @@ use Rattle.std.specs.Prelude.{◌↔◌, is_some, nat_le, option_map}
 use Rattle.std.specs.Fmt.{signed_decimal}
 use Rattle.std.proofs.lemmas.Bool.{eqb-true, ne_eqb}
 use Rattle.std.proofs.lemmas.List.{map-append}
-use Rattle.csv.specs.Reading.{default_config, strip_bom}
+use Rattle.csv.specs.Reading.{strip_bom}
 use Rattle.zic_base.specs.Check.{check, first_failed}
 use Rattle.zic_base.specs.State.{Shown}
 use Rattle.zic_base.specs.declared.row_fault.RowKind.{RowKind}
@@ -13,7 +13,7 @@ use Rattle.zic_base.specs.declared.row_fault.RowKind.TheVariants as kind
 use Rattle.zic_columns.proofs.Exchanges.{comma_exchanged}
 use Rattle.zic_columns.proofs.PieceRecords.{wholes_fields}
 use Rattle.zic_columns.specs.Column.{AreColumnRecords, column_records}
-use Rattle.zic_columns.specs.Exchange.{config_of, exchanged}
+use Rattle.zic_columns.specs.Exchange.{exchanged}
 use Rattle.zic_columns.specs.Laws.{ColumnRecordsAreRead, DelimitedRecordsAreOne}
 use Rattle.zic_columns.specs.Lines.{AreRecordsBy}
 use Rattle.zic_columns.specs.Own.{CsvRecord, paired, csv_records, own_texts}
@@ -183,10 +183,6 @@ module _ (layout : Layout) (plain : HasPlainRows layout) (files : List File) whe
 fields_after : (row_records : List CsvRecord) → fields_of_all (drop 1 row_records) ≡ drop 1 (fields_of_all row_records)
 fields_after [] = refl
 fields_after (row_record ∷ row_records) = refl
-
--- a comma is what stands between fields by default
-comma_config : config_of 44 ≡ default_config
-comma_config = refl
 
 module _ (read : ColumnRecordsAreRead) (one : DelimitedRecordsAreOne) (files : List File) (layout : Layout) (most : ℕ) (column : List ℕ) (texts : List (List ℕ)) (fault : Option RowKind)
     (plain : HasPlainRows layout) where

@@ -180,9 +180,6 @@ module _ {Z : Type 0} (known_of : Z → Releases) (settled : Z → List ℕ → 
 
   -- some records were taken, and their zones made ready
   module _ (then : Z) (grows : grown zones then) (rs : List CsvRecord) (next : Option (List ℕ)) (takes : Takes layout left next rs) where
-    pub grown_on : grown begun then
-    grown_on = joins begun zones then grew grows
-
     -- the writer failed in the end
     pub flush_fails : (new : Counts W) → FailsWithin contents mid new []
         → EndsByZones grown broken may_be begun then stop.WriteFailed (EndsInRest layout plan.max_rows limit known stop.WriteFailed (output held (contents new.inner) log now))

@@ -55,8 +55,24 @@ pub fn rows_of_column(
         AreRowsOfColumn files.now max_rows column.now rows.text.items rows.count rows.fault) }
     ensures few { IfOk result (λ rows. rows.count ≤ length column.now + 1) }
 {
-    column_records_are_read();
     let zones = zones_for(alloc, files, column.len())?;
+    let answer = rows_by(alloc, &zones, max_rows, column);
+    drop(zones);
+    answer
+}
+
+/// Converts a column in memory by these zones.
+fn rows_by(
+    alloc: Global,
+    zones: &SourceZones<'_>,
+    max_rows: u64,
+    column: &[u8],
+) -> Result<ColumnRows, AllocError>
+    ensures rows { IfOk result (λ rows.
+        AreRowsOfColumn zones.now max_rows column.now rows.text.items rows.count rows.fault) }
+    ensures few { IfOk result (λ rows. rows.count ≤ length column.now + 1) }
+{
+    column_records_are_read();
     let Releases {
         zones: row_zones,
         old,

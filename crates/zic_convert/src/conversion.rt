@@ -223,6 +223,7 @@ fn convert_rounds<T: Threads + Wait + Sync, G: Gate + Sync, Z: Zones, R: Read, W
             spare: &spare,
         };
         let tally = convert_ready(conversion, zones, round, &next, writer, log)?;
+        drop(taken);
         count += tally.rows;
         left = tally.left;
     }

@@ -1,10 +1,12 @@
 //! Converts columns in memory by layouts.
 
-ghost use Rattle.std.specs.Prelude.{◌≡◌, ◌+◌, ◌^◌, ◌<◌, ◌≤◌, None, IfOk, IfSome, OnOk, length};
+ghost use Rattle.std.specs.Prelude.{◌≡◌, ◌+◌, ◌^◌, ◌<◌, ◌≤◌, List, ℕ, Option, None, Some, IfOk, IfSome, OnOk, length};
+ghost use Rattle.std.specs.Io.KnownBytes.{Appends};
 ghost use Rattle.zic_columns.specs.Round.{unread};
 ghost use Rattle.zic_plan.specs.declared.plan.TheConstants.{MAX_ROWS};
 ghost use Rattle.zic_convert.specs.Column.{AreRowsByLayout};
 ghost use Rattle.zic_convert.specs.code.Memory.{AreRowsOfLeft};
+ghost use Rattle.zic_convert.specs.code.Progress.{BeginsRows, own_line_in};
 ghost use Rattle.zic_layout_rows.specs.code.Row.{followed_by};
 ghost use Rattle.zic_convert.specs.code.Row.{records_of_all, taken_rows};
 ghost use Rattle.zic_layout_rows.specs.PieceRows.{AreRowsOf};
@@ -26,7 +28,7 @@ use zic_files::Files;
 use zic_layout_rows::{Piece, Rows, rows_of_piece};
 use zic_plan::{FaultyRow, Layout, Plan, Unnoted};
 use zic_rows::RowText;
-use zic_zones::{Releases, Zones};
+use zic_zones::{Releases, SourceZones, Zones};
 
 /// The rows of a column by a layout, up to the first that ends the run: the text of the header and of
 /// the rows, the number of rows, the fault that ends the run, and the rows before it that have a fault.
@@ -145,6 +147,72 @@ fn rows_of_left<R: Read>(by: &RowsBy<'_, '_>, column: &mut Column<R>) -> Result<
     Err(AllocError)
 }
 
+/// Writes the header of a column, if one is written, and returns the rows below it, up to the first that
+/// ends the run. The delimiter and the comma stand in each other's place.
+///
+/// # Errors
+///
+/// As [`rows_of_left`], and where the header has more bytes than a record may have.
+fn rows_below_header<R: Read + Drop>(
+    by: &RowsBy<'_, '_>,
+    plan: &Plan,
+    reader: R,
+    writer: &mut Counted<Vec<u8>>,
+) -> Result<Rows, AllocError>
+    requires { by.now.most ≤ MAX_ROWS }
+    ensures rows { IfOk result (λ rows. (left : Option (List ℕ))
+        × IfSome (R.remaining reader) (λ bytes. BeginsRows by.now.layout.now bytes left)
+        × AreRowsOfLeft by.now.layout.now by.now.releases.now by.now.most left rows) }
+    ensures header { IfOk result (λ _. IfSome (R.remaining reader) (λ bytes.
+        Appends (Some writer.old.inner.items) (Some writer.new.inner.items)
+        (own_line_in by.now.layout.now bytes))) }
+{
+    let log = &mut Unnoted;
+    let Ok(mut left) = begin_rows(by.alloc, plan, by.layout, reader, writer, log) else {
+        return Err(AllocError);
+    };
+    let rows = rows_of_left(by, &mut left);
+    drop(left);
+    rows
+}
+
+/// Converts a column in memory by a layout and these zones, as [`rows_by_layout`] does.
+fn rows_by_zones(
+    alloc: Global,
+    zones: &SourceZones<'_>,
+    plan: &Plan,
+    layout: &Layout,
+    column: &[u8],
+) -> Result<LayoutRows, AllocError>
+    ensures { IfOk result (λ rows. AreRowsByLayout (alone zones.now) layout.now plan.now.max_rows
+        column.now rows.text.items rows.count rows.fault rows.faults.items) }
+{
+    records_by_are_exchanged();
+    texts_by_are_exchanged();
+    let ready = zones.ready();
+    let by = RowsBy {
+        alloc,
+        releases: &ready,
+        layout,
+        most: plan.max_rows(),
+    };
+    let mut writer = Counted::new(Vec::new(alloc));
+    if write_names(&mut writer, layout).is_err() {
+        return Err(AllocError);
+    }
+    let short = Truncated::new(column, read_of_lines(layout), plan.max_bytes());
+    let exchanged = Exchanged::new(short, layout.delimiter.byte());
+    let rows = rows_below_header(&by, plan, exchanged, &mut writer)?;
+    let mut text = writer.into_inner();
+    text.extend_from_slice(rows.text.bytes())?;
+    Ok(LayoutRows {
+        text,
+        count: rows.count,
+        fault: rows.fault,
+        faults: rows.faults,
+    })
+}
+
 /// Converts a column in memory by a layout, on the calling thread, to the header and the rows of
 /// [`crate::convert_column`]. Returns those up to the first that ends the run, and the faults. The
 /// plan says how many rows and bytes the column may have; its workers and pieces change nothing. There
@@ -164,36 +232,11 @@ pub fn rows_by_layout(
         column.now rows.text.items rows.count rows.fault rows.faults.items) }
     ensures within { IfOk result (λ _. length column.now ≤ plan.now.max_bytes) }
 {
-    records_by_are_exchanged();
-    texts_by_are_exchanged();
     if plan.max_bytes() < column.len() as u64 {
         return Err(AllocError);
     }
     let zones = zones_for(alloc, files, column.len())?;
-    let ready = zones.ready();
-    let by = RowsBy {
-        alloc,
-        releases: &ready,
-        layout,
-        most: plan.max_rows(),
-    };
-    let mut writer = Counted::new(Vec::new(alloc));
-    if write_names(&mut writer, layout).is_err() {
-        return Err(AllocError);
-    }
-    let short = Truncated::new(column, read_of_lines(layout), plan.max_bytes());
-    let exchanged = Exchanged::new(short, layout.delimiter.byte());
-    let log = &mut Unnoted;
-    let Ok(mut left) = begin_rows(alloc, plan, layout, exchanged, &mut writer, log) else {
-        return Err(AllocError);
-    };
-    let rows = rows_of_left(&by, &mut left)?;
-    let mut text = writer.into_inner();
-    text.extend_from_slice(rows.text.bytes())?;
-    Ok(LayoutRows {
-        text,
-        count: rows.count,
-        fault: rows.fault,
-        faults: rows.faults,
-    })
+    let rows = rows_by_zones(alloc, &zones, plan, layout, column);
+    drop(zones);
+    rows
 }

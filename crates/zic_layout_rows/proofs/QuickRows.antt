@@ -1,6 +1,6 @@
 -- Rows of records in which all that they show is at hand.
 use Rattle.zic_columns.specs.Lines.{exchanged_record}
-use Rattle.std.proofs.Common.{◌≡◌, ◌≤◌, ◌<◌, ◌+◌, ◌∙◌, ℕ, ℤ, Bool, true, List, [], ◌∷◌, ◌++◌, Some, None, Ok, ap, ap₂, append_assoc, arith, length, length-append, refl, subst, sym, take, drop, get_or}
+use Rattle.std.proofs.Common.{◌≡◌, ◌≤◌, ◌+◌, ◌∙◌, ℕ, ℤ, Bool, true, List, [], ◌∷◌, ◌++◌, Some, None, Ok, ap, ap₂, append_assoc, arith, length, length-append, refl, subst, sym, take, drop, get_or}
 use Rattle.std.specs.Prelude.{int_le, slice_index_or, slice_range, ◌&&◌}
 use Rattle.std.proofs.lemmas.Int.{ints}
 use Rattle.std.specs.Fmt.{signed_decimal}
@@ -19,10 +19,9 @@ use Rattle.zic_plan.specs.Delimiter.{is_delimiter}
 use Rattle.zic_plan.specs.Layout.{has_count}
 use Rattle.zic_plan.specs.declared.layout.Style.{Style}
 use Rattle.zic_plan.specs.declared.layout.Unit.{Unit}
-use Rattle.zic_plan.specs.declared.layout.Unit.TheVariants as unit
 use Rattle.zic_plan.specs.declared.layout.TimeFrom.{TimeFrom}
 use Rattle.zic_plan.specs.declared.layout.ZoneFrom.TheVariants as from
-use Rattle.zic_rows.specs.Count.{count_of, counted_rest_text, fraction_of, second_of, timed_rest_text, units_of_second}
+use Rattle.zic_rows.specs.Count.{count_of, counted_rest_text, second_of, timed_rest_text}
 use Rattle.zic_rows.specs.Instant.{IsRowInstant}
 use Rattle.zic_rows.specs.PlainTime.{IsPlainTime}
 use Rattle.zic_rows.specs.declared.limit.TheConstants.{FIRST_INSTANT, LAST_INSTANT}
@@ -73,13 +72,6 @@ may_row : (t : ℤ) → IsRowInstant t → is_row_instant (Some t) ≡ true
 may_row t is = both (int_le FIRST_INSTANT t) (int_le t LAST_INSTANT) (grind (arith, ints, is.0)) (grind (arith, ints, is.1)) where
   both : (a b : Bool) → a ≡ true → b ≡ true → (a && b) ≡ true
   both a b p q = rw (p, q) refl
-
--- fewer units than make up a second
-pub units_below : (u : Unit) (count : ℤ) → fraction_of u count < units_of_second u
-units_below unit.Second count = grind (arith, ints)
-units_below unit.Millisecond count = grind (arith, ints)
-units_below unit.Microsecond count = grind (arith, ints)
-units_below unit.Nanosecond count = grind (arith, ints)
 
 -- the text of a field in which a time stands
 time_text : (u : Unit) (bytes : List ℕ) (field : Field) (time : RowTime) → IsTimeIn u bytes field time → IsPlainTime u (field_text bytes field) time

@@ -1,6 +1,6 @@
 -- Fractions of seconds.
 use Rattle.std.proofs.Common.{◌≡◌, ◌≤◌, ◌<◌, ◌+◌, ◌-◌, ◌*◌, ◌^◌, ◌∙◌, ℕ, ap, arith, refl, subst, sym}
-use Rattle.std.proofs.Math.Nat.{mul-lt-mul_of_pos_right, one-le-pow, pow-le-pow_right}
+use Rattle.std.proofs.Math.Nat.{mul-lt-mul_of_pos_right, one-le-pow}
 use Rattle.std.proofs.lemmas.Nat.{pow-add}
 use Rattle.zic_plan.specs.declared.layout.Unit.{Unit}
 use Rattle.zic_plan.specs.declared.layout.Unit.TheVariants as unit
@@ -29,10 +29,3 @@ power_is unit.Second = refl
 power_is unit.Millisecond = refl
 power_is unit.Microsecond = refl
 power_is unit.Nanosecond = refl
-
--- a power of ten that fits 32 bits
-pub power_below : (u : Unit) (len : ℕ) → 10 ^ (fraction_digits u - len) < 2 ^ 32
-power_below u len =
-    let at : 0 < 10 = omega arith in
-    let less : fraction_digits u - len ≤ fraction_digits u = omega arith in
-    omega (arith, pow-le-pow_right at less, power_few u)

@@ -1,5 +1,5 @@
 -- Local times of fields, and their texts.
-use Rattle.std.proofs.Common.{◌≡◌, ◌∙◌, ◌+◌, ◌*◌, ◌/◌, ◌%◌, ◌^◌, ◌<◌, FitsSigned, unsigned_abs, w64, ◌≤◌, ℕ, ℤ, pos, negsuc, ◌+ℤ◌, ◌*ℤ◌, ◌-ℤ◌, List, [], ◌∷◌, ◌++◌, take, ap, append_assoc, arith, refl, sym}
+use Rattle.std.proofs.Common.{◌≡◌, ◌∙◌, ◌+◌, ◌*◌, ◌/◌, ◌%◌, ◌^◌, ◌<◌, FitsSigned, unsigned_abs, w64, ℕ, ℤ, pos, negsuc, ◌+ℤ◌, ◌*ℤ◌, ◌-ℤ◌, List, [], ◌∷◌, ◌++◌, ap, append_assoc, arith, refl, sym}
 use Rattle.std.proofs.lemmas.Int.{fits_signed_from_abs, ints}
 use Rattle.std.specs.Int.{w128}
 use Rattle.zic_base.specs.Digits.{clock_text}
@@ -10,7 +10,7 @@ use Rattle.zic_plan.specs.declared.layout.Unit.{Unit}
 use Rattle.zic_plan.specs.declared.layout.Unit.TheVariants as unit
 use Rattle.zic_rows.specs.Count.{fraction_of, fraction_text, local_count_text, second_of, units_of_second}
 use Rattle.zic_rows.specs.DateTime.{civil_second}
-use Rattle.zic_rows.specs.Local.{IsLocalSecond, civil_of, day_at, local_time, second_at}
+use Rattle.zic_rows.specs.Local.{IsLocalSecond, civil_of, local_time, second_at}
 use Rattle.zic_rows.specs.Row.{civil_text, date_text}
 use Rattle.zic_rows.specs.code.Civils.{IsCivil}
 use Rattle.zic_rows.specs.code.Cached.{cached_date}

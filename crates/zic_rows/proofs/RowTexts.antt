@@ -1,12 +1,10 @@
 -- The text of a row in its bytes.
-use Rattle.std.proofs.Common.{◌≡◌, ◌≤◌, subst, refl, ℕ, ◌+◌, ◌-◌, ◌*◌, ◌/◌, ◌%◌, ◌<◌, Bool, List, [], ◌∷◌, ◌++◌, sym, ◌∙◌, ap, ap₂, length-append, arith, ℤ, pos, negsuc, ◌+ℤ◌, ◌-ℤ◌, unsigned_abs, append_assoc, length, take, drop, set, length-take-le, length-drop}
+use Rattle.std.proofs.Common.{◌≡◌, ◌≤◌, subst, refl, ℕ, ◌+◌, ◌-◌, ◌*◌, ◌/◌, ◌%◌, ◌<◌, Bool, List, [], ◌∷◌, ◌++◌, sym, ◌∙◌, ap, arith, ℤ, pos, negsuc, ◌+ℤ◌, ◌-ℤ◌, unsigned_abs, append_assoc, length, take, drop, set, length-take-le, length-drop}
 use Rattle.std.proofs.lemmas.Int.{ints}
-use Rattle.std.proofs.lemmas.List.{drop-drop, take-append-le, take_more_set, take-take}
+use Rattle.std.proofs.lemmas.List.{take_more_set, take-take}
 use Rattle.std.proofs.lemmas.Slice.{take-put_mid}
-use Rattle.std.proofs.Math.Seq.{drop-append-add, take-append-add}
 use borrow.Rule.Slice.PartMut.{put_mid, same_len_mid}
 use Rattle.std.specs.Prelude.{if◌then◌else◌}
-use Rattle.std.specs.Fmt.{signed_decimal}
 use Rattle.zic_calendar.specs.declared.civil_time.Civil.{Civil}
 use Rattle.zic_calendar.specs.Calendar.{IsSupportedDay, IsSupportedYear}
 use Rattle.zic_calendar.specs.Civil.{IsOnDay}
@@ -15,7 +13,7 @@ use Rattle.zic_base.specs.Digits.{two_digits, clock_text, offset_text}
 use Rattle.zic_base.specs.State.{Shown, shown}
 use Rattle.zic_base.specs.declared.state.State.{State}
 use Rattle.zic_rows.specs.Local.{day_at, second_at, local_time, civil_of}
-use Rattle.zic_rows.specs.Row.{four_digits, date_text, civil_text, local_text, state_text, rest_text, row_text, IsRowState}
+use Rattle.zic_rows.specs.Row.{four_digits, date_text, civil_text, local_text, state_text, IsRowState}
 use Rattle.zic_rows.specs.code.Cached.{cached_date, before_name, IsRestOf}
 use Rattle.zic_rows.proofs.LocalTime.{on_day}
 
@@ -44,19 +42,6 @@ day_at-counted (negsuc a) seconds e = omega (arith, ints)
 pub second_at-counted : (t : ℤ) (seconds : ℕ) → t +ℤ pos (719_162 * 86_400) ≡ pos seconds → second_at t ≡ seconds % 86_400
 second_at-counted (pos a) seconds e = omega (arith, ints)
 second_at-counted (negsuc a) seconds e = omega (arith, ints)
-
--- what follows the instant, in the parts that are kept
-pub rest_text-parts : (instant : ℤ) (shown : Shown) (seconds : ℕ) → instant +ℤ shown.offset +ℤ pos (719_162 * 86_400) ≡ pos seconds
-    → let second = seconds % 86_400 in
-    rest_text instant shown ≡ cached_date (seconds / 86_400) ++ (clock_text second ++ state_text shown)
-unfolding rest_text local_text local_time cached_date
-rest_text-parts instant shown seconds e =
-    let t = instant +ℤ shown.offset in
-    let second = seconds % 86_400 in
-    let day = pos (seconds / 86_400) -ℤ pos 719_162 in
-    let P : ℤ → ℕ → List ℕ = λ d s. 44 ∷ (civil_text (civil_of d s) ++ state_text shown) in
-    let here : P day second ≡ 44 ∷ (date_text (civil_of day 0) ++ 84 ∷ []) ++ (clock_text second ++ state_text shown) = simp append_assoc in
-    ap (λ (d : ℤ). P d (second_at t)) (day_at-counted t seconds e) ∙ ap (λ (s : ℕ). P day s) (second_at-counted t seconds e) ∙ here
 
 -- the date of a day, from any civil time of it
 pub cached_date-octets : (day : ℕ) (x : ℤ) (c : Civil) (y : ℕ) → day < 3_652_059 → x ≡ pos day -ℤ pos 719_162 → IsOnDay x c → IsSupportedYear c.year → c.year ≡ pos y
@@ -100,14 +85,6 @@ state_written state octets front name n may long front_is front_long e e₂ =
     at_end ∙ ap (λ (l : List ℕ). l ++ 10 ∷ []) (at_name ∙ ap (λ (l : List ℕ). l ++ name) (at_front ∙ front_is) ∙ ap (λ (l : List ℕ). B ++ l) e)
     ∙ append_assoc B state.name.now (10 ∷ []) ∙ before_name-state (shown state)
 
--- the rest of a row, by the date that is kept
-pub rest_cached : (instant : ℤ) (s : Shown) (seconds day : ℕ) → pos seconds ≡ instant +ℤ s.offset +ℤ pos (719_162 * 86_400) → day ≡ seconds / 86_400
-    → let second = seconds % 86_400 in
-    cached_date day ++ (clock_text second ++ state_text s) ≡ rest_text instant s
-rest_cached instant s seconds day counted of_day =
-    let second = seconds % 86_400 in
-    ap (λ (d : ℕ). cached_date d ++ (clock_text second ++ state_text s)) of_day ∙ sym (rest_text-parts instant s seconds (sym counted))
-
 -- the date that stands before a text which was written after it
 pub date_before : (old new date : List ℕ) → take 20 new ≡ take 20 old → take 12 old ≡ date → take 12 new ≡ date
 date_before old new date same is =
@@ -122,50 +99,6 @@ rest_of day text state octets len is may date written fits = record {
   text = written ∙ ap state_text (sym is);
   fits = fits;
 }
-
--- a row's rest, copied whole, with the time of day written into it and what is after it cut off
-pub rest_copied : (old octets date clock text : List ℕ) (start len : ℕ) → start ≡ length old → length octets ≡ 52 → take 12 octets ≡ date → length clock ≡ 8
-    → take len (drop 20 octets) ≡ text → take (start + 20 + len) (put_mid (start + 12) 8 (old ++ octets) clock) ≡ old ++ (date ++ (clock ++ text))
-rest_copied old octets date clock text start len at long is_date eight is_text =
-    let front : take (start + 12) (old ++ octets) ≡ old ++ date = ap (λ (n : ℕ). take (n + 12) (old ++ octets)) at ∙ take-append-add old octets 12 ∙ ap (λ (l : List ℕ). old ++ l) is_date in
-    let at_time : drop (start + 12) (old ++ octets) ≡ drop 12 octets = ap (λ (n : ℕ). drop (n + 12) (old ++ octets)) at ∙ drop-append-add old octets 12 in
-    let after : drop 8 (drop (start + 12) (old ++ octets)) ≡ drop 20 octets = ap (drop 8) at_time ∙ drop-drop 8 12 octets in
-    let parts : put_mid (start + 12) 8 (old ++ octets) clock ≡ (old ++ (date ++ clock)) ++ drop 20 octets =
-    ap₂ (λ (a b : List ℕ). a ++ (clock ++ b)) front after ∙ simp append_assoc in
-    let short : length date ≡ 12 = ap length (sym is_date) ∙ length-take-le 12 octets (omega (arith, long)) in
-    let size : start + 20 ≡ length (old ++ (date ++ clock)) = omega (arith, at, short, eight, length-append old (date ++ clock), length-append date clock) in
-    ap (take (start + 20 + len)) parts ∙ ap (λ (n : ℕ). take (n + len) ((old ++ (date ++ clock)) ++ drop 20 octets)) size
-    ∙ take-append-add (old ++ (date ++ clock)) (drop 20 octets) len ∙ ap (λ (l : List ℕ). (old ++ (date ++ clock)) ++ l) is_text ∙ simp append_assoc
-
--- the same, as a slice of what was appended is written back
-pub rest_written : (old octets copied given date clock text after_text : List ℕ) (start len size : ℕ) → start ≡ length old → length octets ≡ 52 → take 12 octets ≡ date → length clock ≡ 8
-    → take len (drop 20 octets) ≡ text → len ≤ 32 → copied ≡ old ++ octets → given ≡ clock → size ≡ start + 52
-    → take (start + 20 + len) (take size (put_mid (start + 12) (start + 20 - (start + 12)) copied given ++ after_text)) ≡ old ++ (date ++ (clock ++ text))
-rest_written old octets copied given date clock text after_text start len size at long is_date eight is_text fits with_octets with_clock room =
-    let written = put_mid (start + 12) (start + 20 - (start + 12)) copied given in
-    let of_time : start + 20 - (start + 12) ≡ 8 = omega arith in
-    let same : written ≡ put_mid (start + 12) 8 (old ++ octets) clock =
-    ap₂ (λ (xs ys : List ℕ). put_mid (start + 12) (start + 20 - (start + 12)) xs ys) with_octets with_clock
-    ∙ ap (λ (k : ℕ). put_mid (start + 12) k (old ++ octets) clock) of_time in
-    let all : length (old ++ octets) ≡ start + 52 = omega (arith, length-append old octets, at, long) in
-    let after_date = length-take-le 8 (drop (start + 12) (old ++ octets)) (omega (arith, all, length-drop (start + 12) (old ++ octets))) in
-    let size_of : length written ≡ start + 52 =
-    ap length same ∙ same_len_mid (start + 12) 8 (old ++ octets) clock (omega (arith, eight, after_date)) ∙ all in
-    take-take (start + 20 + len) size (written ++ after_text) (omega (arith, fits, room))
-    ∙ take-append-le (start + 20 + len) written after_text (omega (arith, fits, size_of))
-    ∙ ap (take (start + 20 + len)) same ∙ rest_copied old octets date clock text start len at long is_date eight is_text
-
--- a row, appended in its parts
-pub row_joined : (old named parted numbered new name digits : List ℕ) (instant : ℤ) (s : Shown) → named ≡ old ++ name → parted ≡ named ++ 44 ∷ []
-    → digits ≡ signed_decimal instant → numbered ≡ parted ++ digits → new ≡ numbered ++ rest_text instant s → new ≡ old ++ row_text name instant s
-unfolding row_text
-row_joined old named parted numbered new name digits instant s with_name with_comma are with_digits with_rest =
-    let R = rest_text instant s in
-    let D = signed_decimal instant in
-    let all : new ≡ (((old ++ name) ++ 44 ∷ []) ++ D) ++ R =
-    with_rest ∙ ap (λ (l : List ℕ). l ++ R) (with_digits ∙ ap (λ (l : List ℕ). parted ++ l) are
-    ∙ ap (λ (l : List ℕ). l ++ D) (with_comma ∙ ap (λ (l : List ℕ). l ++ 44 ∷ []) with_name)) in
-    all ∙ simp append_assoc
 
 -- the local time of an instant, by the date that is kept, and what follows it
 pub local_cached : (instant offset : ℤ) (seconds day : ℕ) (more : List ℕ) → pos seconds ≡ instant +ℤ offset +ℤ pos (719_162 * 86_400) → day ≡ seconds / 86_400

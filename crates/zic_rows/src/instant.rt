@@ -7,21 +7,6 @@ ghost use Rattle.zic_rows.specs.Instant.{instant_of};
 
 use crate::limit::MAX_DIGITS;
 
-/// Returns the instant of a field, in seconds from 1970-01-01T00:00:00 UT: 1 to 18 decimal digits,
-/// which may begin with zeros, perhaps after a `-`. Nothing else is an instant, no `+` and no
-/// space. A row may still not have it.
-#[tactic(auto, unfolding(crate::specs::Instant::instant_of))]
-pub fn parse_instant(field: &[u8]) -> Option<i64>
-    ensures { result ≡ instant_of field.now }
-{
-    if let [b'-', digits @ ..] = field {
-        let seconds = short_number(digits, MAX_DIGITS)?;
-        return Some(-(seconds as i64));
-    }
-    let seconds = short_number(field, MAX_DIGITS)?;
-    Some(seconds as i64)
-}
-
 /// Returns whether a field that names an instant has it in plain decimals, as a row has it: no
 /// zero before other digits, and no `-` before a zero. For a field that names none the result is
 /// either.

@@ -23,10 +23,10 @@ mod wide;
 
 pub use count::{Moment, count_from, moment_of, parse_count};
 pub use date_time::{parse_local_time, parse_rfc3339};
-pub use instant::{is_plain, parse_instant};
+pub use instant::is_plain;
 pub use limit::{FARTHEST_OFFSET, FIRST_INSTANT, LAST_INSTANT, MAX_DIGITS};
 pub use local_text::push_local_time;
-pub use row::{RowWriter, push_row};
+pub use row::RowWriter;
 pub use row_text::RowText;
 pub use row_time::{RowTime, quick_time};
 pub use state_text::StateText;

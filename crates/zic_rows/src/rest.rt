@@ -76,22 +76,6 @@ impl CachedRest {
         }
     }
 
-    /// Appends the rest of a row at this second of the day. All of the room is copied at once, and
-    /// what is after the text cut off again. The time of day is written into the copy: a copy of
-    /// bytes that were just written would wait for them.
-    #[inline(always)]
-    pub(crate) fn push(&self, text: &mut Vec<u8>, second: u32) -> Result<(), AllocError>
-        requires { second < DAY }
-        ensures { OnOk result (text.new.items ≡ text.old.items ++ (cached_date self.now.day
-            ++ (clock_text second ++ state_text self.now.state))) }
-    {
-        let start = text.len();
-        text.extend_from_slice(&self.octets)?;
-        text[start + 12..start + 20].copy_from_slice(&time_text(second));
-        text.truncate(start + 20 + self.len);
-        Ok(())
-    }
-
     /// Appends the rest of a row of a style at this second of the day, and as many units after it.
     pub(crate) fn push_counted(
         &self,

@@ -3,39 +3,17 @@
 ghost use Rattle.std.specs.Prelude.{◌≡◌, ◌+ℤ◌, ◌*◌, ◌<◌, ◌++◌, pos, OnOk};
 ghost use Rattle.zic_base.specs.State.{shown};
 ghost use Rattle.zic_rows.specs.Instant.{IsRowInstant, IsRowOffset};
-ghost use Rattle.zic_rows.specs.Row.{row_text, rest_text, state_text, IsRowState};
-ghost use Rattle.zic_rows.specs.Count.{counted_rest_text, counted_row_text, second_of};
+ghost use Rattle.zic_rows.specs.Row.{state_text, IsRowState};
+ghost use Rattle.zic_rows.specs.Count.{counted_rest_text, second_of};
 
 use crate::count::moment_of;
 use crate::limit::{DAY, DAYS, DAYS_TO_1970};
 use crate::rest::CachedRest;
 use crate::state_text::StateText;
-use itoa::Buffer;
 use std::alloc::AllocError;
 use std::marker::Model;
 use zic_base::State;
 use zic_plan::{Style, Unit};
-
-/// What stands between fields.
-const COMMA: u8 = b',';
-
-/// Appends the text of a row: the name, the instant in plain decimals, its local time, the UT
-/// offset, the daylight flag and the abbreviation, between commas, and a newline. The instant is
-/// one that a row may have, the offset is within 24:00:00 and the abbreviation has at most 16
-/// bytes. Where memory runs out, a part of the row may be there.
-pub fn push_row(
-    text: &mut Vec<u8>,
-    name: &[u8],
-    instant: i64,
-    state: &State<'_>,
-) -> Result<(), AllocError>
-    requires instant { IsRowInstant instant }
-    requires state { IsRowState (shown state.now) }
-    ensures { OnOk result
-        (text.new.items ≡ text.old.items ++ row_text name.now instant (shown state.now)) }
-{
-    RowWriter::new(*state).push(text, name, instant)
-}
 
 /// A writer of rows of one state after another, which keeps what they have in common: the date and
 /// the state's text. Clauses see the state.
@@ -77,54 +55,6 @@ impl RowWriter {
         ensures { self.new ≡ text.now }
     {
         self.rest.set_text(text);
-    }
-
-    /// Appends the text of a row. The instant is one that a row may have. Where memory runs out, a
-    /// part of the row may be there.
-    pub fn push(&mut self, text: &mut Vec<u8>, name: &[u8], instant: i64) -> Result<(), AllocError>
-        requires { IsRowInstant instant }
-        ensures state { self.new ≡ self.old }
-        ensures ok { OnOk result
-            (text.new.items ≡ text.old.items ++ row_text name.now instant self.old) }
-    {
-        text.extend_from_slice(name)?;
-        text.push(b',')?;
-        text.extend_from_slice(Buffer::new().format(instant).as_bytes())?;
-        self.push_rest(text, instant)
-    }
-
-    /// Appends the rest of the text of a row after the instant, for a caller that has appended the
-    /// name and the instant: a field that `is_plain` may stand there as it is. Where memory runs
-    /// out, a part may be there.
-    #[inline(always)]
-    pub fn push_rest(&mut self, text: &mut Vec<u8>, instant: i64) -> Result<(), AllocError>
-        requires { IsRowInstant instant }
-        ensures state { self.new ≡ self.old }
-        ensures ok { OnOk result (text.new.items ≡ text.old.items ++ rest_text instant self.old) }
-    {
-        let seconds = local_seconds(instant, self.rest.offset());
-        self.rest.turn_to((seconds / DAY as u64) as u32);
-        self.rest.push(text, (seconds % DAY as u64) as u32)
-    }
-
-    /// Appends the text of a row of a count of units, whose whole second is one that a row may have.
-    /// Where memory runs out, a part of the row may be there.
-    pub fn push_counted(
-        &mut self,
-        text: &mut Vec<u8>,
-        name: &[u8],
-        count: i128,
-        unit: Unit,
-    ) -> Result<(), AllocError>
-        requires { IsRowInstant (second_of unit count) }
-        ensures state { self.new ≡ self.old }
-        ensures ok { OnOk result (text.new.items
-            ≡ text.old.items ++ counted_row_text unit name.now count self.old) }
-    {
-        text.extend_from_slice(name)?;
-        text.push(COMMA)?;
-        text.extend_from_slice(Buffer::new().format(count).as_bytes())?;
-        self.push_counted_rest(text, count, unit, Style::Fields)
     }
 
     /// Appends the rest of the text of a row of a style after a count of units, whose whole second

@@ -1,45 +1,11 @@
 -- Keys of names.
-use Rattle.std.proofs.Common.{◌≡◌, ℕ, zero, suc, ◌+◌, ◌-◌, ◌*◌, ◌^◌, ◌<◌, ◌≤◌, ◌++◌, Bool, true, false, cond, eqb, List, [], ◌∷◌, length, get_or, take, drop, set, replicate, refl, ap, ap₂, sym, ◌∙◌, arith, bit_and, length-append, pow-suc}
+use Rattle.std.proofs.Common.{◌≡◌, ℕ, zero, suc, ◌+◌, ◌-◌, ◌*◌, ◌^◌, ◌<◌, ◌≤◌, ◌++◌, Bool, true, false, cond, eqb, List, [], ◌∷◌, length, take, drop, replicate, refl, ap, ap₂, ◌∙◌, arith, bit_and, pow-suc}
 use Rattle.std.specs.Int.Bits.{and_zero_r}
 use Rattle.std.specs.Simd.Lanes.{Each1, mask_l, zip2}
 use Rattle.std.proofs.lemmas.Bool.{eqb-true}
 use Rattle.std.proofs.Math.Seq.{take-append-add}
-use Rattle.std.proofs.lemmas.List.{drop-append-le, drop-replicate, length-replicate, take-replicate, take-take, take_at, take_more, take_more_set}
+use Rattle.std.proofs.lemmas.List.{drop-append-le, drop-replicate, length-replicate, take-replicate, take-take}
 use Rattle.std.proofs.lemmas.Nat.{and_mask}
-use Rattle.zic_zones.specs.code.NameKeys.{padded}
-
--- ---- padded names
-
--- with their lengths, equal keys have equal names
-pub same_names : (a b : List ℕ) → length a ≡ length b → padded a ≡ padded b → a ≡ b
-same_names a b long same =
-    sym (take_at a (replicate (32 - length a) 0) (length a) refl) ∙ ap (λ (k : List ℕ). take (length a) k) same
-    ∙ take_at b (replicate (32 - length b) 0) (length a) (sym long)
-
-zeros_at : (n i : ℕ) → get_or {A = ℕ} (replicate n 0) i 0 ≡ 0
-zeros_at zero i = refl
-zeros_at (suc n) zero = refl
-zeros_at (suc n) (suc i) = zeros_at n i
-
--- past its end a name reads as zeros too
-pub padded_at : (name : List ℕ) (n i : ℕ) → get_or (name ++ replicate n 0) i 0 ≡ get_or name i 0
-padded_at [] n i = zeros_at n i
-padded_at (x ∷ name) n zero = refl
-padded_at (x ∷ name) n (suc i) = padded_at name n i
-
-pub padded_long : (name : List ℕ) → length name ≤ 32 → length (padded name) ≡ 32
-padded_long name short = omega (arith, length-append name (replicate (32 - length name) 0), length-replicate {A = ℕ} (32 - length name) 0)
-
--- one more byte of a key
-pub key_more : (key name : List ℕ) (i byte : ℕ) → i < 32 → length key ≡ 32 → length name ≤ 32
-    → take i key ≡ take i (padded name) → byte ≡ get_or name i 0 → take (i + 1) (set key i byte) ≡ take (i + 1) (padded name)
-key_more key name i byte below long short before is =
-    let whole : length (padded name) ≡ 32 = padded_long name short in
-    take_more_set key i byte (omega arith)
-    ∙ ap₂ (λ (t : List ℕ) (b : ℕ). t ++ b ∷ []) before (is ∙ sym (padded_at name (32 - length name) i))
-    ∙ sym (take_more (padded name) i 0 (omega arith))
-
--- ---- masks
 
 cleared : (xs : List ℕ) (n : ℕ) → length xs ≡ n → zip2 bit_and xs (replicate n 0) ≡ replicate n 0
 cleared [] zero long = refl

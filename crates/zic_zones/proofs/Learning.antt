@@ -1,13 +1,11 @@
 -- What is learnt of a tree.
-use Rattle.std.proofs.Common.{◌≡◌, ℕ, inl, inr, List, [], ◌∷◌, ◌++◌, Option, Some, None, append_assoc, ap, refl, sym, subst, arith}
+use Rattle.std.proofs.Common.{◌≡◌, ℕ, inl, inr, List, [], ◌∷◌, ◌++◌, Option, Some, None, ap, refl, sym, subst, arith}
 use Rattle.std.specs.Prelude.{All, Contains, OnOk, Ok, Err, Result}
-use Rattle.std.proofs.lemmas.Bool.{false≢true}
 use Rattle.std.proofs.lemmas.List.Elements.{All-weaker, Contains-append_cases, Contains-append_left, Contains-append_right}
 use Rattle.zic_base.proofs.Elements.{only_one}
 use Rattle.zic_files.specs.File.{File, FileImage}
-use Rattle.zic_files.specs.Tree.{AreRequestedOnce, AreOfName, Gains, GrowsBy, IsKnown, IsLearntFrom, IsSettled, Learnt, Reply, files_named}
-use Rattle.zic_zones.specs.Growing.{gains_on}
-use Rattle.zic_zones.specs.Tree.{Breaks, Grows, TreeOf}
+use Rattle.zic_files.specs.Tree.{AreOfName, Gains, GrowsBy, IsKnown, IsLearntFrom, IsSettled, Learnt, Reply, files_named}
+use Rattle.zic_zones.specs.Tree.{Grows, TreeOf}
 use Rattle.zic_zones.specs.code.Ready.{AreReady}
 use Rattle.zic_zones.specs.declared.ready.Ready.{Ready}
 use Rattle.zic_zones.proofs.Readying.{files_added}
@@ -74,25 +72,9 @@ on_ok (Err e) P p = tt
 
 -- ---- what grew, and broke then
 
-pub breaks_now : {T : Type 0} (replied : T → Option (List Reply)) (a b : TreeOf T) → Grows replied a b → Breaks replied a b
-breaks_now replied a b grows = λ replies from. let (more, gains, learnt) = grows.replies replies from in (more, gains, learnt.files.requested)
-
-pub breaks_then : {T : Type 0} (replied : T → Option (List Reply)) (a b c : TreeOf T) → Grows replied a b → Breaks replied b c → Breaks replied a c
-breaks_then replied a b c grows breaks = λ replies from.
-    let (more, gains, learnt) = grows.replies replies from in
-    let (others, gains_others, requested) = breaks (replies ++ more) learnt in (
-      more ++ others,
-      gains_on (replied a.tree) (replied b.tree) (replied c.tree) more others gains gains_others,
-      subst AreRequestedOnce (append_assoc replies more others) requested,
-    )
-
 -- names that are known stay so
 pub known_on : {T : Type 0} (replied : T → Option (List Reply)) (a b : TreeOf T) (name : List ℕ) → Grows replied a b → IsKnown a.learnt name → IsKnown b.learnt name
 known_on replied a b name grows known proper = grows.requested name (known proper)
 
 pub all_known_on : {T : Type 0} (replied : T → Option (List Reply)) (a b : TreeOf T) (names : List (List ℕ)) → Grows replied a b → All (IsKnown a.learnt) names → All (IsKnown b.learnt) names
 all_known_on replied a b names grows known = All-weaker (IsKnown a.learnt) (IsKnown b.learnt) (λ name is. known_on replied a b name grows is) names known
-
--- no zone has the empty name
-pub empty_known : (learnt : Learnt) → IsKnown learnt []
-empty_known learnt proper = absurd (false≢true proper)

@@ -35,9 +35,6 @@ module _ (content : Content) where
     each = λ number n at. has_text_still old new n (λ s. IsStateOfNumber content number s) keeps (are.each number n at);
   }
 
-  pub no_numbers : (texts : List Shown) → AreNumbersOf content texts []
-  no_numbers texts = record { each = λ number n none. absurd cc }
-
   -- the number of one state more
   pub number_added : (texts : List Shown) (numbers : List ℕ) (n : ℕ) (state : Shown) → AreNumbersOf content texts numbers → HasState texts n (λ text. text ≡ state)
       → IsStateOfNumber content (length numbers) state → AreNumbersOf content texts (numbers ++ n ∷ [])

@@ -1,7 +1,6 @@
 -- A local time near which a file shows one state.
-use Rattle.std.proofs.Common.{◌≡◌, ◌≢◌, ◌∙◌, ◌≤◌, ℕ, ℤ, inl, inr, ◌-ℤ◌, ◌≤ℤ◌, true, false, List, Some, Ok, ap, refl, sym, subst, unsigned_abs, arith, FitsSigned, of_z, to_z, to_z-of_z, w32, w64}
-use Rattle.std.specs.Prelude.{IfSome, nat_le, slice_get}
-use Rattle.std.proofs.lemmas.Bool.{cases_Bool, le-leb, leb-false, leb-true, lt-leb}
+use Rattle.std.proofs.Common.{◌≡◌, ◌≢◌, ◌∙◌, ◌≤◌, ℕ, ℤ, inl, ◌-ℤ◌, ◌≤ℤ◌, List, Some, Ok, ap, refl, sym, subst, unsigned_abs, arith, FitsSigned, of_z, to_z, to_z-of_z, w32, w64}
+use Rattle.std.specs.Prelude.{IfSome, slice_get}
 use Rattle.std.proofs.lemmas.Int.{fits_signed_from_abs, ints}
 use Rattle.std.proofs.lemmas.Option.{same_Some}
 use Rattle.zic_base.proofs.Elements.{all_got}
@@ -16,9 +15,7 @@ use Rattle.zic_local.specs.LocalTime.{HaveOffsets, IsInRange, IsInstantOf}
 use Rattle.zic_plan.specs.declared.disambiguation.Disambiguation.{Disambiguation}
 use Rattle.zic_plan.specs.declared.disambiguation.Disambiguation.TheVariants as choice
 use Rattle.zic_rows.specs.Instant.{IsRowOffset}
-use Rattle.zic_slots.specs.Slots.{number_at}
 use Rattle.zic_slots.specs.declared.limit.TheConstants.{UNKNOWN}
-use Rattle.zic_slots.specs.declared.slot.Slot.{Slot}
 use Rattle.zic_tzif.proofs.AnswerLemmas.{one_answer}
 use Rattle.zic_tzif.specs.Answer.{Answers}
 use Rattle.zic_tzif.specs.Content.{Content}
@@ -30,19 +27,6 @@ use Rattle.zic_zones.specs.Zones.{AnswersAt}
 use Rattle.zic_zones.specs.code.Near.{AnswersNear, IsStateNear}
 
 -- ---- one number of a slot
-
--- a slot has one number from a second up to another, where it has that number at both
-pub number_between : (slot : Slot) (a b x n : ℕ) → a ≤ x → x ≤ b → number_at slot a ≡ n → number_at slot b ≡ n → number_at slot x ≡ n
-number_between slot a b x n from to at_a at_b = elim (cases_Bool (nat_le slot.change x)) [
-  | inl after ↦
-      let c = leb-true slot.change x after in
-      let end : nat_le slot.change b ≡ true = le-leb slot.change b (omega (arith, c, to)) in
-      rw after (rw end at at_b)
-  | inr before ↦
-      let c = leb-false slot.change x before in
-      let start : nat_le slot.change a ≡ false = lt-leb slot.change a (omega (arith, c, from)) in
-      rw before (rw start at at_a)
-]
 
 -- ---- one state near a local time
 

@@ -15,7 +15,7 @@ use Rattle.zic_columns.specs.declared.fields.Wanted.{Wanted}
 use Rattle.zic_columns.specs.declared.splits.TheConstants.{BATCH}
 use Rattle.zic_files.specs.Tree.{IsKnown, Reply}
 use Rattle.zic_plan.specs.declared.layout.ZoneFrom.TheVariants as zone
-use Rattle.zic_zones.specs.Growing.{grows_same, grows_then}
+use Rattle.zic_zones.specs.Growing.{grows_then}
 use Rattle.zic_zones.specs.Tree.{Grows, TreeOf}
 use Rattle.zic_zones.specs.Zones.{field_at, zone_in}
 use Rattle.zic_zones.proofs.Learning.{all_known_on}
@@ -53,19 +53,6 @@ of_fields index [] = refl
 of_fields index (w ∷ wholes) = ap (λ (l : List (List ℕ)). name_in index w ∷ l) (of_fields index wholes)
 
 module _ {T : Type 0} (replied : T → Option (List Reply)) (old : TreeOf T) (piece : List ℕ) (index : ℕ) where
-  pub no_batch : (splitting : Splitting) → splitting.piece ≡ piece → splitting.wanted ≡ wanted_at index → splitting.left ≡ csv_records piece
-      → LearnsPiece replied old old piece index splitting BATCH
-  no_batch splitting piece_is wanted left = record {
-    grown = grows_same replied old;
-    piece_is = piece_is;
-    wanted = wanted;
-    done = [];
-    parts = sym left;
-    known = λ k d lt. absurd (omega (arith, lt));
-    few = omega arith;
-    end = λ lt. absurd (omega (arith, lt));
-  }
-
   module _ (now : TreeOf T) (splitting : Splitting) (count : ℕ) (far : LearnsPiece replied old now piece index splitting count) where
     -- the next records of the piece
     pub batch_done : (then : TreeOf T) (next : Splitting) (more : ℕ) (records : List Record) → next.piece ≡ splitting.piece → next.wanted ≡ splitting.wanted
@@ -108,9 +95,6 @@ records_more pieces n piece at =
     ∙ ap (λ (l : List (List (List ℕ))). records_of (take n pieces) ++ l) (append-nil (column_records piece))
 
 module _ {T : Type 0} (replied : T → Option (List Reply)) (old : TreeOf T) (index : ℕ) (pieces : List (List ℕ)) where
-  pub no_piece : LearnsRound replied old old index []
-  no_piece = record { grown = grows_same replied old; known = λ k d lt. absurd (omega (arith, lt)) }
-
   pub next_piece : (now then : TreeOf T) (n : ℕ) (piece : List ℕ) → slice_get pieces n ≡ Some piece → LearnsRound replied old now index (take n pieces) → Grows replied now then
       → All (IsKnown then.learnt) (map (λ (fields : List (List ℕ)). field_at fields index) (column_records piece)) → LearnsRound replied old then index (take (n + 1) pieces)
   next_piece now then n piece at far grows known =

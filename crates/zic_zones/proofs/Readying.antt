@@ -14,7 +14,7 @@ use Rattle.zic_slots.specs.declared.limit.TheConstants.{SLOT_SECONDS}
 use Rattle.zic_slots.specs.declared.place.Place.{Place}
 use Rattle.zic_slots.specs.declared.slot.Slot.{Slot}
 use Rattle.zic_tzif.specs.Content.{Content}
-use Rattle.zic_zones.proofs.Held.{names_still, no_names}
+use Rattle.zic_zones.proofs.Held.{names_still}
 use Rattle.zic_zones.proofs.Slotted.{table_still}
 use Rattle.zic_zones.proofs.Numbered.{numbers_still}
 use Rattle.zic_zones.specs.code.Ready.{AnswersState, AreReady, IsReadyZone, IsTextOf}
@@ -42,15 +42,6 @@ zone_still : (content : Content) (texts texts' : List Shown) (slots slots' : Lis
 zone_still content texts texts' slots slots' zone keeps keeps' is = record {
   numbers = numbers_still content texts texts' zone.numbers.items keeps is.numbers;
   tables = λ era start at. table_still texts texts' slots slots' (AnswersState content) (base_of era) start keeps keeps' (is.tables era start at);
-}
-
-pub none_ready : (ready : Ready) → ready.names ≡ [] → ready.zones.items ≡ [] → (files : List File) → AreReady files ready
-none_ready ready unnamed none files = record {
-  names = subst (λ (l : List (List ℕ)). AreNamesOf files l) (sym unnamed) (no_names files);
-  few = rw none (omega arith);
-  each = λ i file zone at ready_at.
-      let at_none : slice_get {X = ReadyZone} [] i ≡ Some zone = ap (λ (l : List ReadyZone). slice_get l i) (sym none) ∙ ready_at in
-      absurd cc;
 }
 
 -- files that follow aren't ready

@@ -1,5 +1,5 @@
 -- The zones of records, learnt one after another.
-use Rattle.std.proofs.Common.{◌≡◌, ◌∙◌, ◌+◌, ℕ, List, [], ◌∷◌, ◌++◌, map, take, Option, Some, ap, sym, subst, arith}
+use Rattle.std.proofs.Common.{◌≡◌, ◌∙◌, ◌+◌, ℕ, List, [], ◌∷◌, ◌++◌, map, take, Option, Some, ap, sym, subst}
 use Rattle.std.specs.Prelude.{All, slice_get}
 use Rattle.std.proofs.lemmas.List.{map-append}
 use Rattle.std.proofs.lemmas.List.Elements.{All-push}
@@ -9,9 +9,9 @@ use Rattle.zic_columns.specs.declared.fields.Field.{Field}
 use Rattle.zic_columns.specs.declared.fields.Field.TheVariants as field
 use Rattle.zic_columns.specs.declared.fields.Record.{Record}
 use Rattle.zic_files.specs.Tree.{IsKnown, Reply}
-use Rattle.zic_zones.specs.Growing.{grows_same, grows_then}
+use Rattle.zic_zones.specs.Growing.{grows_then}
 use Rattle.zic_zones.specs.Tree.{Grows, TreeOf}
-use Rattle.zic_zones.proofs.Learning.{all_known_on, empty_known}
+use Rattle.zic_zones.proofs.Learning.{all_known_on}
 
 -- the text of a record's field that names a zone
 abbrev pub zone_text : List ℕ → Record → List ℕ
@@ -34,14 +34,6 @@ pub record LearnsRecords {T : Type 0} (replied : T → Option (List Reply)) (old
   pub known : All (IsKnown now.learnt) (map (zone_text piece) done)
 
 module _ {T : Type 0} (replied : T → Option (List Reply)) (old : TreeOf T) (piece : List ℕ) where
-  pub no_records : LearnsRecords replied old old piece (field.Plain (record { start = 0; end = 0 })) []
-  no_records = record {
-    grown = grows_same replied old;
-    located = (omega arith, omega arith);
-    last_known = empty_known old.learnt;
-    known = λ k d lt. absurd (omega (arith, lt));
-  }
-
   module _ (now : TreeOf T) (last : Field) (records : List Record) (i : ℕ) (given : Record) (at : slice_get records i ≡ Some given)
       (far : LearnsRecords replied old now piece last (take i records)) where
     known_next : (then : TreeOf T) → All (IsKnown then.learnt) (map (zone_text piece) (take i records)) → IsKnown then.learnt (zone_text piece given)

@@ -1,5 +1,5 @@
 -- Rows that were written.
-use Rattle.std.specs.Prelude.{◌≡◌, ℕ, ◌+◌, ◌⊎◌, true, List, [], ◌++◌, length, take, Option, Some, None, option_map}
+use Rattle.std.specs.Prelude.{◌≡◌, ℕ, ◌+◌, ◌⊎◌, List, [], ◌++◌, length, take, Option, Some, None, option_map}
 use Rattle.std.specs.List.{concat}
 use Rattle.std.specs.Io.{StartsWith}
 use Rattle.std.specs.Io.KnownBytes.{Appends}
@@ -7,7 +7,6 @@ use Rattle.zic_columns.specs.Own.{CsvRecord}
 use Rattle.zic_counted.specs.Counts.{Counts, HasFailedSince}
 use Rattle.zic_counted.specs.Written.{FailsWithin}
 use Rattle.zic_zones.specs.declared.releases.Releases.{Releases}
-use Rattle.zic_plan.specs.Plan.{Limits}
 use Rattle.zic_plan.specs.declared.layout.Layout.{Layout}
 use Rattle.zic_plan.specs.Noted.{RowNote}
 use Rattle.zic_base.specs.declared.row_fault.RowFault.{RowFault}
@@ -130,8 +129,3 @@ abbrev pub HasOneTooMany : Pieces → Option ℕ → RowFault → Type 0
 HasOneTooMany p limit fault =
     (rows : RowsOf) × AreRowsOf p.layout p.releases p.most p.first (records_of_all p.layout.delimiter p.pieces) rows
     × (before : List RowNote) × IsOneTooMany limit rows.faults fault.row fault.kind before
-
--- the pieces of a round by a layout, releases and a plan; the first record is the row of this number
-abbrev pub pieces_by : Layout → Releases → Limits → List (List ℕ) → ℕ → Pieces
-pieces_by layout releases plan pieces first =
-    record { layout = layout; releases = releases; pieces = pieces; first = first; most = plan.max_rows; size = plan.row_piece; stops = true }

@@ -146,39 +146,6 @@ rounds-preserved g c =
           then grows rs next rows_next (λ releases may. takens_known layout.delimiter c.byte.ensures.sound (g.Z.Zones.settled then) (g.Z.Zones.known then) releases (g.met.Z.Zones.agrees then releases may) layout.zone taken pieces c.in_ok-taken.ensures.settled) c.convert_ready.new.writer (g.L.RowLog.noted c.convert_ready.new.log) c.in_ok-tally.tally ok;
     }
 
-pub rounds-preserved-in_ok-tally : goal.rounds-preserved-in_ok-tally
-rounds-preserved-in_ok-tally g c =
-    let l = c.rounds in
-    let layout = c.args.conversion.now.layout.now in
-    let plan = c.args.conversion.now.plan.now in
-    let limit = c.args.conversion.now.max_faults in
-    let contents = g.W.Write.contents in
-    let known = unread g.R.Read.remaining c.args.column.now in
-    let left = unread g.R.Read.remaining l.column in
-    let held = contents c.args.writer.now.inner in
-    let log = g.L.RowLog.noted c.args.log.now in
-    let now = g.L.RowLog.noted l.log in
-    let pieces = c.next_round.new.column.round in
-    let next = unread g.R.Read.remaining c.next_round.new.column in
-    let then = c.next_round.new.zones in
-    let takes = c.in_ok-taken.ensures.takes in
-    let taken = c.in_ok-taken.taken in
-    let rs = taken_rows layout.delimiter taken pieces in
-    let rows_next = rows_taken layout l.column.by l.invariant.by left next taken pieces takes.takes in
-    let grows = c.in_ok-taken.ensures.grown in
-    let ok = rw c.round-round.ensures at c.in_ok-tally.ensures.ok in
-    let (rows, are, wrote, left_is) = ok in
-    let within = no_more layout (g.Z.Zones.known then) plan.max_rows l.count rs rows are wrote.0 l.invariant.within in
-    record {
-      by = takes.by ∙ l.invariant.by;
-      within = omega (arith, wrote.1, within);
-      failures = wrote.2.1 ∙ l.invariant.failures;
-      grown = g.met.Z.Zones.then c.args.zones.now l.zones then l.invariant.grown grows;
-      far = far_on g.Z.Zones.known g.Z.Zones.settled g.Z.Zones.may_be g.Z.Zones.grown g.Z.Zones.broken g.met.Z.Zones.same g.met.Z.Zones.then g.met.Z.Zones.narrows g.met.Z.Zones.agrees contents
-          c.files_answer_once.ensures layout plan limit known left l.count l.left held l.writer log now c.args.zones.now l.zones l.invariant.grown l.invariant.far
-          then grows rs next rows_next (λ releases may. takens_known layout.delimiter c.byte.ensures.sound (g.Z.Zones.settled then) (g.Z.Zones.known then) releases (g.met.Z.Zones.agrees then releases may) layout.zone taken pieces c.in_ok-taken.ensures.settled) c.convert_ready.new.writer (g.L.RowLog.noted c.convert_ready.new.log) c.in_ok-tally.tally ok;
-    }
-
 pub returns-in_err-flush-clause-halt : goal.returns-in_err-flush-clause-halt
 returns-in_err-flush-clause-halt g c =
     let l = c.rounds in
