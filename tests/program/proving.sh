@@ -121,7 +121,7 @@ shows 'of zic_main'
 
 # Several crates are proved by one call, and a static library is built.
 run 0 1 house/tools/prove zic_main probe calls
-tells 'tools/prove: 2 of 3 crates are to be proved, in about 1 minute on .*'
+tells 'tools/prove: 2 of 3 crates to prove, about 1 minute on .*'
 [ "$(house/crates/probe/out/probe)" = "$(cat house/crates/probe/src/main.rt)" ] || differ 'the program probe is another'
 cmp house/crates/calls/src/lib.rt house/crates/calls/out/libcalls.a || differ 'the static library is another'
 run 0 0 house/tools/prove calls probe
