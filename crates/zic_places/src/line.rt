@@ -7,6 +7,11 @@ use zic_lines::{Entry, Fields, line_entry};
 /// A place where no line is: the compiler's answers here are not shown with theirs.
 const NOWHERE: Place = Place { text: 1, line: 1 };
 
+/// Returns whether a byte ends a line.
+pub(crate) fn is_line_feed(byte: &u8) -> bool {
+    *byte == b'\n'
+}
+
 /// Takes a line apart. Returns whether it can be cut into fields, and has some.
 pub(crate) fn has_fields<'a>(
     alloc: Global,
@@ -51,7 +56,7 @@ pub(crate) fn goes_on(entry: &Entry) -> bool {
 pub(crate) fn awaits(alloc: Global, text: &[u8], lines: u64) -> Result<bool, AllocError> {
     let mut awaited = false;
     let mut left = lines;
-    for line in text.split(|byte| *byte == b'\n') {
+    for line in text.split(is_line_feed) {
         if left == 0 {
             break;
         }
@@ -66,7 +71,7 @@ pub(crate) fn awaits(alloc: Global, text: &[u8], lines: u64) -> Result<bool, All
 /// Returns the line of this number, from 1 on.
 pub(crate) fn line_at(text: &[u8], line: u64) -> Option<&[u8]> {
     let mut left = line;
-    for bytes in text.split(|byte| *byte == b'\n') {
+    for bytes in text.split(is_line_feed) {
         if left == 1 {
             return Some(bytes);
         }

@@ -4,7 +4,7 @@ ghost use Rattle.std.specs.Prelude.{◌<◌, length, map, string_bytes, IfOk, On
 ghost use Rattle.zic_explain.specs.Shown.{IsShownText, StaysShown};
 ghost use Rattle.zic_places.specs.code.Nearest.{IsNearestAt};
 
-use crate::line::{entry_of, goes_on};
+use crate::line::{entry_of, goes_on, is_line_feed};
 use crate::related::{TextLine, entry_at};
 use std::alloc::{AllocError, Global};
 use strsim::levenshtein;
@@ -130,7 +130,7 @@ fn push_names(
     named: Named,
 ) -> Result<(), AllocError> {
     let mut awaited = false;
-    for line in text.split(|byte| *byte == b'\n') {
+    for line in text.split(is_line_feed) {
         if let Some(entry) = entry_of(alloc, awaited, line)? {
             awaited = goes_on(&entry);
             push_name(alloc, names, &entry, named)?;

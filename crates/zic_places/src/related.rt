@@ -3,7 +3,7 @@
 ghost use Rattle.std.specs.Prelude.{IfOk, OnOk, string_bytes};
 ghost use Rattle.zic_explain.specs.Shown.{IsShownText, StaysShown};
 
-use crate::line::{awaits, entry_of, goes_on, line_at};
+use crate::line::{awaits, entry_of, goes_on, is_line_feed, line_at};
 use std::alloc::{AllocError, Global};
 use zic_base::{LONGEST_ABBREVIATION, SHORTEST_ABBREVIATION, are_abbreviation_bytes};
 use zic_explain::{push_bytes, push_line_end};
@@ -72,7 +72,7 @@ fn name_of(entry: &Entry) -> Option<&[u8]> {
 fn line_of_name(alloc: Global, text: &[u8], name: &[u8]) -> Result<Option<u64>, AllocError> {
     let mut awaited = false;
     let mut number: u64 = 0;
-    for line in text.split(|byte| *byte == b'\n') {
+    for line in text.split(is_line_feed) {
         number = number.saturating_add(1);
         if let Some(entry) = entry_of(alloc, awaited, line)? {
             awaited = goes_on(&entry);
@@ -125,7 +125,7 @@ fn bad_of_zone(
     };
     let mut awaited = false;
     let mut number: u64 = 0;
-    for line in text.split(|byte| *byte == b'\n') {
+    for line in text.split(is_line_feed) {
         number = number.saturating_add(1);
         let Some(entry) = entry_of(alloc, awaited, line)? else {
             continue;
@@ -202,7 +202,7 @@ fn bad_of_text(
 ) -> Result<Option<Vec<u8>>, AllocError> {
     let (before, after) = parts;
     let mut awaited = false;
-    for line in text.split(|byte| *byte == b'\n') {
+    for line in text.split(is_line_feed) {
         let Some(entry) = entry_of(alloc, awaited, line)? else {
             continue;
         };
