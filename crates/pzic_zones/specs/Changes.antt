@@ -3,7 +3,7 @@ use Rattle.std.specs.Prelude.{◌≡◌, ℕ, ℤ, pos, ◌-ℤ◌, ◌⊎◌, L
 use Rattle.zic_posix.specs.declared.instants.TheConstants.{MIN_INSTANT, MAX_INSTANT}
 use Rattle.zic_tzif.specs.Content.{Content}
 use Rattle.zic_dump.specs.Changes.{StaysSame}
-use Rattle.zic_clocks.specs.Changes.{IsNextChange, IsPreviousChange, AreChangesWritten}
+use Rattle.zic_dump.specs.NearChanges.{IsNextChange, IsPreviousChange, AreChangesWritten}
 use Rattle.pzic_zones.specs.declared.status.TheConstants.{OK, NO_SUCH}
 
 -- The change after an instant is returned; or there is none in 64 bits, and nothing is written.

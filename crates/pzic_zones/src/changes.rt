@@ -9,7 +9,7 @@ use crate::handle::Handle;
 use crate::held::Held;
 use crate::status::{NO_HANDLE, NO_SUCH, OK};
 use std::alloc::Global;
-use zic_clocks::{next_change, previous_change, write_changes};
+use zic_dump::{next_change, previous_change, write_changes};
 use zic_tzif::Zone;
 
 /// Gives the first change after an instant.

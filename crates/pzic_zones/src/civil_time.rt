@@ -11,7 +11,7 @@ use crate::held::Held;
 use crate::state::State;
 use crate::status::NO_HANDLE;
 use std::alloc::Global;
-use zic_clocks::civil_at;
+use zic_dump::civil_at;
 use zic_tzif::{Answer, Zone};
 
 /// The date and the time of day that clocks show at an instant, and local time.

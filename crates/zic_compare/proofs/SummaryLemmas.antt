@@ -7,8 +7,8 @@ use Rattle.std.proofs.lemmas.Bool.{cases_lt}
 use Rattle.std.proofs.lemmas.Option.{slice_get_within, get_or_from_slice_get, slice_get-get_or}
 use Rattle.zic_base.proofs.Elements.{all_got}
 use Rattle.zic_base.specs.State.{Shown}
-use Rattle.zic_clocks.proofs.Euclid.{place, by_seconds, same_place}
-use Rattle.zic_clocks.proofs.Forever.{answers_moved, later_or_end, past_later}
+use Rattle.zic_dump.proofs.Euclid.{place, by_seconds, same_place}
+use Rattle.zic_dump.proofs.Forever.{answers_moved, later_or_end, past_later}
 use Rattle.zic_compare.specs.Answers.{Pair, DifferAt, IsSeenAt}
 use Rattle.zic_compare.specs.Differences.{AreDifferences, IsDifference}
 use Rattle.zic_compare.specs.Laws.{FourHundredYearsDecide, NoneComes}

@@ -2,3 +2,8 @@ pub mod ChangeLemmas
 pub mod OffsetLemmas
 pub mod OneText
 pub mod YearLemmas
+pub mod Dates
+pub mod Euclid
+pub mod Forever
+pub mod Found
+pub mod Walks

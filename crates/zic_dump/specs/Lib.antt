@@ -1,4 +1,5 @@
 pub mod Changes
+pub mod NearChanges
 pub mod Laws
 pub mod Text
 pub mod Years

@@ -3,3 +3,4 @@ pub mod Offsets
 pub mod Written
 pub mod Listing
 pub mod Listed
+pub mod Walk

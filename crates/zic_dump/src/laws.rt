@@ -1,6 +1,6 @@
 //! Laws of the changes of a file, each the contract of a function. No function here does anything.
 
-ghost use Rattle.zic_dump.specs.Laws.{OneDump};
+ghost use Rattle.zic_dump.specs.Laws.{ChangesComeAgain, OneDump};
 
 use zic_calendar::laws::each_second_has_one_civil_time;
 use zic_tzif::laws::files_say_one;
@@ -12,3 +12,9 @@ pub fn a_file_has_one_dump()
     files_say_one();
     each_second_has_one_civil_time();
 }
+
+/// States that local time that doesn't change for 400 years after the last transition never changes
+/// again.
+pub fn changes_come_again()
+    ensures { ChangesComeAgain }
+{}
