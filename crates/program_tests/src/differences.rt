@@ -7,8 +7,7 @@ use std::alloc::Global;
 use std::process::Abort;
 use std::sync::Wait;
 use std::thread::Threads;
-use zic_compare::{Compared, Listed, Survey};
-use zic_diff::{Sides, diff};
+use zic_compare::{Compared, Listed, Sides, Survey, diff_by_workers};
 use zic_files::Files;
 use zic_pieces::Open;
 use zic_plan::Plan;
@@ -39,7 +38,7 @@ fn listed<R: Threads + Wait + Sync + Abort>(
         since: i64::MIN,
         present: 946_681_200,
     });
-    must(rt, diff(rt, alloc, plan, &Open, sides, &how))
+    must(rt, diff_by_workers(rt, alloc, plan, &Open, sides, &how))
 }
 
 /// Builds the files of a text.

@@ -5,3 +5,4 @@ pub mod VerifyLemmas
 pub mod LineLemmas
 pub mod ReadingLemmas
 pub mod SummaryLemmas
+pub mod Joining

@@ -12,8 +12,7 @@ use std::sync::Wait;
 use std::thread::Threads;
 use std::time::Clock;
 use zic_command_line::Differences;
-use zic_compare::{Compared, Comparison, Listed, Survey};
-use zic_diff::Sides;
+use zic_compare::{Compared, Comparison, Listed, Sides, Survey};
 use zic_files::{Files as ZoneFiles, TreeFiles};
 use zic_host::{
     OldAndNew, expect_folder, fault_in, names_below, old_and_new, random_number, read_texts,
@@ -203,6 +202,6 @@ fn diff_files<R: Print + AllocGlobal + Threads + Wait + Sync>(
 ) -> Result<(), Failure>
     requires { HasInstants how.now }
 {
-    let lines = zic_diff::diff(rt, rt.alloc(), plan, &Open, sides, how)?;
+    let lines = zic_compare::diff_by_workers(rt, rt.alloc(), plan, &Open, sides, how)?;
     tell(rt, &lines)
 }

@@ -1,7 +1,7 @@
 use Rattle.std.proofs.lemmas.Result.{IfOk-weaker}
-use Rattle.zic_diff.specs.code.Pieces.{HaveLines}
-use Rattle.zic_diff.proofs.Joining.{joined_all}
-use Rattle.zic_diff.proofs.listing.lines_by.Goals as goal
+use Rattle.zic_compare.specs.code.Pieces.{HaveLines}
+use Rattle.zic_compare.proofs.Joining.{joined_all}
+use Rattle.zic_compare.proofs.listing.lines_by.Goals as goal
 
 pub returns-in-Ok : goal.returns-in-Ok
 returns-in-Ok g c =

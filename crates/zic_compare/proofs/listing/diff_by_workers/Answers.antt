@@ -1,9 +1,9 @@
 use Rattle.std.proofs.Common.{subst}
 use Rattle.std.proofs.lemmas.Result.{IfOk-weaker}
 use Rattle.zic_compare.specs.Files.{IsDiff}
-use Rattle.zic_diff.specs.code.Pieces.{HaveLines, Pieces}
-use Rattle.zic_diff.proofs.Joining.{diff_of_pieces}
-use Rattle.zic_diff.proofs.listing.diff.Goals as goal
+use Rattle.zic_compare.specs.code.Pieces.{HaveLines, Pieces}
+use Rattle.zic_compare.proofs.Joining.{diff_of_pieces}
+use Rattle.zic_compare.proofs.listing.diff_by_workers.Goals as goal
 
 pub returns : goal.returns
 returns g c =

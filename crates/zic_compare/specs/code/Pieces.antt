@@ -4,7 +4,7 @@ use Rattle.std.specs.Int.{div_ceil}
 use Rattle.zic_compare.specs.Files.{AreLinesOfNew, AreLinesOfOld, HasInstants}
 use Rattle.zic_compare.specs.Lines.{AreLinesOfAll}
 use Rattle.zic_compare.specs.declared.listed.Listed.{Listed}
-use Rattle.zic_diff.specs.declared.pieces.TheConstants.{MAX_FILES}
+use Rattle.zic_compare.specs.declared.pieces.TheConstants.{MAX_FILES}
 use Rattle.zic_files.specs.File.{File}
 use Rattle.zic_plan.specs.declared.plan.TheConstants.{MAX_OF_PIECE}
 

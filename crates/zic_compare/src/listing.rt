@@ -2,19 +2,20 @@
 
 ghost use Rattle.std.specs.Prelude.{◌≡◌, IfOk, flat_map};
 ghost use Rattle.zic_compare.specs.Files.{HasInstants, IsDiff};
-ghost use Rattle.zic_diff.specs.code.Pieces.{HaveLines};
+ghost use Rattle.zic_compare.specs.code.Pieces.{HaveLines};
 
+use crate::files::{diff, with_names};
+use crate::listed::Listed;
 use crate::pieces::{FilePieces, Lines, MAX_FILES};
 use crate::sides::Sides;
 use std::alloc::{AllocError, Global};
 use std::sync::Wait;
 use std::thread::Threads;
-use zic_compare::{Listed, with_names};
 use zic_pieces::{Gate, TaskStop, run_task};
 use zic_plan::Plan;
 
 /// Returns the lines of the names of two lists of files, with the names of their fields before them, as
-/// [`zic_compare::diff`] does; without lines the text is empty.
+/// [`diff`] does; without lines the text is empty.
 ///
 /// The plan's workers list pieces of as many names as the plan says of zones, and pass the gate before
 /// each: first those of the old files, and then those of the new ones. Neither changes the answer. A list
@@ -23,7 +24,7 @@ use zic_plan::Plan;
 /// # Errors
 ///
 /// Fails if memory is refused.
-pub fn diff<T: Threads + Wait + Sync, G: Gate + Sync>(
+pub fn diff_by_workers<T: Threads + Wait + Sync, G: Gate + Sync>(
     rt: &T,
     alloc: Global,
     plan: &Plan,
@@ -36,7 +37,7 @@ pub fn diff<T: Threads + Wait + Sync, G: Gate + Sync>(
 {
     let Sides { old, new } = *sides;
     if old.len() > MAX_FILES || new.len() > MAX_FILES {
-        return zic_compare::diff(alloc, old, new, how);
+        return diff(alloc, old, new, how);
     }
     let pieces = FilePieces::new(how, old, new, plan.zone_piece() as usize);
     let lines = lines_by(rt, alloc, plan, gate, &pieces)?;

@@ -3,11 +3,12 @@
 ghost use Rattle.std.specs.Prelude.{◌≡◌, ◌≤◌, ◌<◌, ◌+◌, length, IfOk};
 ghost use Rattle.zic_plan.specs.declared.plan.TheConstants.{MAX_OF_PIECE};
 ghost use Rattle.zic_compare.specs.Files.{HasInstants};
-ghost use Rattle.zic_diff.specs.code.Pieces.{ArePieces, IsTextOf, count_of, start_of};
+ghost use Rattle.zic_compare.specs.code.Pieces.{ArePieces, IsTextOf, count_of, start_of};
 
+use crate::files::{lines_of_new, lines_of_old};
+use crate::listed::Listed;
 use std::alloc::{AllocError, Global};
 use std::marker::Model;
-use zic_compare::{Listed, lines_of_new, lines_of_old};
 use zic_files::Files;
 use zic_pieces::{PieceStop, Task};
 
@@ -39,7 +40,7 @@ pub(crate) struct FilePieces<'a> {
 }
 
 impl<'a> Model for FilePieces<'a> {
-    ghost use Rattle.zic_diff.specs.code.Pieces.{Pieces, ArePieces};
+    ghost use Rattle.zic_compare.specs.code.Pieces.{Pieces, ArePieces};
 
     ghost Value = { Pieces };
 
@@ -118,7 +119,7 @@ impl<'a> Task for FilePieces<'a> {
 
     type Fault = ();
 
-    ghost use Rattle.zic_diff.specs.code.Pieces.{IsOutcomeOf, count_of};
+    ghost use Rattle.zic_compare.specs.code.Pieces.{IsOutcomeOf, count_of};
 
     ghost count = { count_of };
 

@@ -15,7 +15,7 @@ use Rattle.zic_compare.specs.Files.{AreLinesOfNew, AreLinesOfOld, IsDiff, names_
 use Rattle.zic_compare.specs.Lines.{AreLinesOfAll}
 use Rattle.zic_compare.specs.Text.{with_names}
 use Rattle.zic_compare.proofs.FilesLemmas.{diff_of_both, lines_of_none, lines_of_whole}
-use Rattle.zic_diff.specs.code.Pieces.{ArePieces, HaveLines, IsOutcomeOf, Pieces, count_of, count_of_old, files_of, start_of}
+use Rattle.zic_compare.specs.code.Pieces.{ArePieces, HaveLines, IsOutcomeOf, Pieces, count_of, count_of_old, files_of, start_of}
 
 zip_both : {X Y : Type 0} (Q : X → Y → Type 0) (xs xs' : List X) (ys ys' : List Y) → AllZip Q xs ys → AllZip Q xs' ys' → AllZip Q (xs ++ xs') (ys ++ ys')
 zip_both Q [] xs' [] ys' one other = other
