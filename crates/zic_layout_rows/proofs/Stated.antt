@@ -5,7 +5,7 @@ use Rattle.std.proofs.lemmas.Option.{same_Some}
 use Rattle.zic_base.specs.State.{Shown}
 use Rattle.zic_columns.specs.declared.fields.Record.{Record}
 use Rattle.zic_plan.specs.declared.layout.TimeFrom.TheVariants as from
-use Rattle.zic_slots.specs.declared.limit.TheConstants.{UNKNOWN}
+use Rattle.zic_zones.specs.declared.limit.TheConstants.{UNKNOWN}
 use Rattle.zic_zones.specs.States.{HasState}
 use Rattle.zic_layout_rows.specs.code.Batch.{IsKnown, IsQuickRow, IsTimeIn}
 use Rattle.zic_layout_rows.specs.declared.piece.Piece.{Piece}

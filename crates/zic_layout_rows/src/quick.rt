@@ -4,7 +4,7 @@ ghost use Rattle.zic_columns.specs.Lines.{exchanged_record};
 ghost use Rattle.std.specs.Prelude.{◌≡◌, ◌≢◌, ◌++◌, ◌∷◌, ◌≤◌, [], IfOk, IfSome, IsSome, IsTrue, List, OnOk, Some, drop, length, slice_get, take, ℕ};
 ghost use Rattle.zic_columns.specs.Exchange.{exchanged};
 ghost use Rattle.zic_columns.specs.Record.{IsSplit, IsWithin, bytes_at, field_text, record_at};
-ghost use Rattle.zic_slots.specs.declared.limit.TheConstants.{UNKNOWN};
+ghost use Rattle.zic_zones.specs.declared.limit.TheConstants.{UNKNOWN};
 ghost use Rattle.zic_zones.specs.States.{HasState};
 ghost use Rattle.zic_zones.specs.Zones.{zone_in};
 ghost use Rattle.zic_layout_rows.specs.LayoutRows.{IsTextBy};

@@ -10,3 +10,4 @@ pub mod Shows
 pub mod Learning
 pub mod Records
 pub mod Pieces
+pub mod Slots

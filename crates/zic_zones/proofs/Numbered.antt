@@ -2,7 +2,7 @@
 use Rattle.std.proofs.Common.{◌≡◌, ◌++◌, ℕ, zero, suc, List, [], ◌∷◌, length, Some, inl, inr, subst, sym}
 use Rattle.std.specs.Prelude.{slice_get}
 use Rattle.zic_base.specs.State.{Shown}
-use Rattle.zic_slots.proofs.Slots.{got_more}
+use Rattle.zic_zones.proofs.Slots.{got_more}
 use Rattle.zic_tzif.specs.Content.{Content}
 use Rattle.zic_tzif.specs.States.{IsStateOfNumber}
 use Rattle.zic_zones.specs.States.{HasState}

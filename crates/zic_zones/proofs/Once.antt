@@ -7,12 +7,12 @@ use Rattle.std.proofs.lemmas.Option.{get_or_from_slice_get, slice_get_within}
 use Rattle.zic_base.proofs.Elements.{got}
 use Rattle.zic_base.proofs.Lists.{get_mapped}
 use Rattle.zic_base.proofs.Options.{if_at}
-use Rattle.zic_slots.specs.Places.{base_of}
-use Rattle.zic_slots.specs.Slots.{AreRight}
-use Rattle.zic_slots.specs.declared.limit.TheConstants.{SLOTS}
-use Rattle.zic_slots.specs.declared.slot.Slot.{Slot}
+use Rattle.zic_zones.specs.Places.{base_of}
+use Rattle.zic_zones.specs.Slots.{AreRight}
+use Rattle.zic_zones.specs.declared.limit.TheConstants.{SLOTS}
+use Rattle.zic_zones.specs.declared.slot.Slot.{Slot}
 use Rattle.zic_tzif.specs.Content.{Content}
-use Rattle.zic_slots.proofs.Slots.{got_more}
+use Rattle.zic_zones.proofs.Slots.{got_more}
 use Rattle.zic_zones.proofs.Numbered.{got_still, keeps_more, keeps_same}
 use Rattle.zic_zones.proofs.Slotted.{got_right}
 use Rattle.zic_zones.specs.code.Tables.{AreNumbersOfSlots, HasTable, HaveSlots, HaveTables, slot_of}

@@ -15,7 +15,7 @@ use Rattle.zic_local.specs.LocalTime.{HaveOffsets, IsInRange, IsInstantOf}
 use Rattle.zic_plan.specs.declared.disambiguation.Disambiguation.{Disambiguation}
 use Rattle.zic_plan.specs.declared.disambiguation.Disambiguation.TheVariants as choice
 use Rattle.zic_rows.specs.Instant.{IsRowOffset}
-use Rattle.zic_slots.specs.declared.limit.TheConstants.{UNKNOWN}
+use Rattle.zic_zones.specs.declared.limit.TheConstants.{UNKNOWN}
 use Rattle.zic_tzif.proofs.AnswerLemmas.{one_answer}
 use Rattle.zic_tzif.specs.Answer.{Answers}
 use Rattle.zic_tzif.specs.Content.{Content}

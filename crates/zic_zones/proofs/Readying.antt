@@ -7,12 +7,12 @@ use Rattle.zic_base.proofs.Elements.{got}
 use Rattle.zic_base.proofs.Options.{if_at}
 use Rattle.zic_base.specs.State.{Shown}
 use Rattle.zic_files.specs.File.{File}
-use Rattle.zic_slots.proofs.Slots.{got_more}
-use Rattle.zic_slots.specs.Places.{IsPlaceOf, base_of, start_of}
-use Rattle.zic_slots.specs.Slots.{number_at}
-use Rattle.zic_slots.specs.declared.limit.TheConstants.{SLOT_SECONDS}
-use Rattle.zic_slots.specs.declared.place.Place.{Place}
-use Rattle.zic_slots.specs.declared.slot.Slot.{Slot}
+use Rattle.zic_zones.proofs.Slots.{got_more}
+use Rattle.zic_zones.specs.Places.{IsPlaceOf, base_of, start_of}
+use Rattle.zic_zones.specs.Slots.{number_at}
+use Rattle.zic_zones.specs.declared.limit.TheConstants.{SLOT_SECONDS}
+use Rattle.zic_zones.specs.declared.place.Place.{Place}
+use Rattle.zic_zones.specs.declared.slot.Slot.{Slot}
 use Rattle.zic_tzif.specs.Content.{Content}
 use Rattle.zic_zones.proofs.Held.{names_still}
 use Rattle.zic_zones.proofs.Slotted.{table_still}

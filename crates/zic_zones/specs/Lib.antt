@@ -6,4 +6,6 @@ pub mod Growing
 pub mod Compared
 pub mod Laws
 pub mod Resolved
+pub mod Places
+pub mod Slots
 pub mod code

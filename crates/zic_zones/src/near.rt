@@ -3,8 +3,9 @@
 ghost use Rattle.std.specs.Prelude.{IfSome};
 ghost use Rattle.zic_zones.specs.code.Near.{IsNumberNear};
 
+use crate::limit::SLOT_SECONDS;
+use crate::slot::Slot;
 use zic_base::FARTHEST_FILE_OFFSET;
-use zic_slots::{SLOT_SECONDS, Slot};
 
 /// Returns the number that a slot has at each second as near this one as instants are to their local
 /// time, where all these are in the slot and it has one number at them.

@@ -8,14 +8,15 @@ ghost use Rattle.zic_zones.specs.code.Near.{AnswersNear};
 ghost use Rattle.zic_zones.specs.code.Ready.{AreReady, IsFileOf, IsReadyZone, IsTextOf};
 ghost use Rattle.zic_zones.specs.code.Texts.{Keeps};
 
+use crate::limit::{ERAS, UNKNOWN};
 use crate::name_keys::NameKeys;
 use crate::near::number_near;
+use crate::place::place_of;
 use crate::tables::{Expected, Tables};
 use crate::texts::Texts;
 use std::alloc::{AllocError, Global};
 use zic_files::Files;
 use zic_rows::StateText;
-use zic_slots::{ERAS, UNKNOWN, place_of};
 use zic_tzif::Zone;
 
 /// What is made ready of a zone.

@@ -10,6 +10,7 @@ ghost use Rattle.zic_zones.specs.Resolved.{resolved};
 ghost use Rattle.zic_zones.specs.Zones.{AnswersAt, IsShownAt, ShowsThroughout, number_of};
 
 use crate::laws::local_times_resolve;
+use crate::limit::UNKNOWN;
 use crate::ready::Ready;
 use crate::row_states::RowStates;
 use std::marker::Model;
@@ -18,7 +19,6 @@ use zic_local::laws::{choices_mean_one, instants_are_near};
 use zic_local::{Unresolved, instant};
 use zic_plan::Disambiguation;
 use zic_rows::{RowWriter, StateText};
-use zic_slots::UNKNOWN;
 use zic_tzif::{Answer, Instants};
 
 /// Some instants, and the number of the state that a zone shows at each of them.

@@ -4,9 +4,10 @@ ghost use Rattle.std.specs.Prelude.{◌≡◌, [], IfOk, IfSome, IsTrue, Some, s
 ghost use Rattle.zic_zones.specs.code.Tables.{AreNumbersOfSlots};
 ghost use Rattle.zic_zones.specs.code.Texts.{Keeps};
 
+use crate::limit::UNKNOWN;
+use crate::slot::Slot;
 use std::alloc::{AllocError, Global};
 use std::marker::Model;
-use zic_slots::{Slot, UNKNOWN};
 
 /// The number of bits that number the places: some eight for each slot of the tz database.
 const BITS: u32 = 17;
@@ -24,7 +25,7 @@ pub(crate) struct SlotSet {
 
 impl Model for SlotSet {
     ghost use Rattle.std.specs.Prelude.{List};
-    ghost use Rattle.zic_slots.specs.declared.slot.Slot.{Slot};
+    ghost use Rattle.zic_zones.specs.declared.slot.Slot.{Slot};
 
     ghost Value = { List Slot };
 

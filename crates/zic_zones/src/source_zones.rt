@@ -3,6 +3,7 @@
 ghost use Rattle.std.specs.Prelude.{◌≡◌, IfOk};
 ghost use Rattle.zic_zones.specs.code.Ready.{AreReady};
 
+use crate::place::place_of;
 use crate::ready::Ready;
 use crate::releases::Releases;
 use crate::row_zones::RowZones;
@@ -13,7 +14,6 @@ use std::marker::Model;
 use zic_columns::Round;
 use zic_files::Files;
 use zic_plan::ZoneFrom;
-use zic_slots::place_of;
 
 /// The zones of the files of a source, all of them ready for rows. Clauses see the files.
 #[derive(Drop)]

@@ -1,16 +1,18 @@
 //! Tables of slots, one after another.
 
 ghost use Rattle.std.specs.Prelude.{◌≡◌, ◌<◌, ◌≤◌, ◌≤ℤ◌, [], IfOk, IfSome, slice_get, Some, ◌+◌};
-ghost use Rattle.zic_slots.specs.Places.{base_of};
-ghost use Rattle.zic_slots.specs.declared.limit.TheConstants.{ERAS, LAST_BASE, SLOTS};
+ghost use Rattle.zic_zones.specs.Places.{base_of};
+ghost use Rattle.zic_zones.specs.declared.limit.TheConstants.{ERAS, LAST_BASE, SLOTS};
 ghost use Rattle.zic_zones.specs.code.Tables.{HasTable, HaveTables};
 ghost use Rattle.zic_zones.specs.code.Texts.{Keeps};
 
+use crate::limit::{ERAS, FIRST_BASE};
 use crate::runs::Runs;
+use crate::slot::Slot;
 use crate::slot_set::SlotSet;
+use crate::table::slots_of;
 use std::alloc::{AllocError, Global};
 use std::marker::Model;
-use zic_slots::{ERAS, FIRST_BASE, Slot, slots_of};
 use zic_tzif::Zone;
 
 /// How many rows are expected, and of which years. Making the tables of one era takes as long as some ten
@@ -49,7 +51,7 @@ pub(crate) struct Tables {
 
 impl Model for Tables {
     ghost use Rattle.std.specs.Prelude.{List, map};
-    ghost use Rattle.zic_slots.specs.declared.slot.Slot.{Slot};
+    ghost use Rattle.zic_zones.specs.declared.slot.Slot.{Slot};
     ghost use Rattle.zic_zones.specs.code.Tables.{HaveSlots, slot_of};
 
     ghost Value = { List Slot };

@@ -3,9 +3,9 @@ use Rattle.std.specs.Prelude.{◌≡◌, ℕ, ◌+◌, ◌<◌, ◌≤◌, ℤ, 
 use Rattle.zic_base.specs.State.{Shown}
 use Rattle.zic_base.specs.declared.limit.TheConstants.{FARTHEST_FILE_OFFSET}
 use Rattle.zic_files.specs.File.{File}
-use Rattle.zic_slots.specs.Slots.{number_at}
-use Rattle.zic_slots.specs.declared.limit.TheConstants.{SLOT_SECONDS}
-use Rattle.zic_slots.specs.declared.slot.Slot.{Slot}
+use Rattle.zic_zones.specs.Slots.{number_at}
+use Rattle.zic_zones.specs.declared.limit.TheConstants.{SLOT_SECONDS}
+use Rattle.zic_zones.specs.declared.slot.Slot.{Slot}
 use Rattle.zic_tzif.specs.Answer.{Answers}
 use Rattle.zic_tzif.specs.Content.{Content}
 

@@ -1,10 +1,10 @@
 -- Tables of slots.
 use Rattle.std.specs.Prelude.{◌≡◌, ◌<◌, ◌+◌, ◌*◌, ℕ, ℤ, pos, ◌+ℤ◌, List, Option, Some, None, length, slice_get, slice_index_or}
 use Rattle.zic_base.specs.State.{Shown}
-use Rattle.zic_slots.specs.Places.{base_of}
-use Rattle.zic_slots.specs.Slots.{IsRight, number_at}
-use Rattle.zic_slots.specs.declared.limit.TheConstants.{SLOT_SECONDS, SLOTS}
-use Rattle.zic_slots.specs.declared.slot.Slot.{Slot}
+use Rattle.zic_zones.specs.Places.{base_of}
+use Rattle.zic_zones.specs.Slots.{IsRight, number_at}
+use Rattle.zic_zones.specs.declared.limit.TheConstants.{SLOT_SECONDS, SLOTS}
+use Rattle.zic_zones.specs.declared.slot.Slot.{Slot}
 use Rattle.zic_tzif.specs.Content.{Content}
 use Rattle.zic_zones.specs.States.{HasState}
 

@@ -1,7 +1,7 @@
 use Rattle.std.proofs.Common.{◌≡◌, ◌+◌, ℕ, ℤ, List, length, Some, refl, subst, sym, to_z-of_z}
 use Rattle.std.proofs.lemmas.Option.{slice_get_read}
 use Rattle.std.specs.Prelude.{slice_get}
-use Rattle.zic_slots.specs.Places.{IsPlaceOf}
+use Rattle.zic_zones.specs.Places.{IsPlaceOf}
 use Rattle.zic_zones.proofs.Readying.{quick_is}
 use Rattle.zic_zones.specs.States.{HasState}
 use Rattle.zic_zones.specs.Zones.{AnswersAt}

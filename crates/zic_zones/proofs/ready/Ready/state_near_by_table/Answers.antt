@@ -1,7 +1,7 @@
 use Rattle.std.proofs.Common.{◌≡◌, ◌+◌, ℤ, List, length, Some, refl, subst, to_z-of_z}
 use Rattle.std.proofs.lemmas.Option.{slice_get_read}
 use Rattle.std.specs.Prelude.{slice_get}
-use Rattle.zic_slots.specs.Places.{IsPlaceOf}
+use Rattle.zic_zones.specs.Places.{IsPlaceOf}
 use Rattle.zic_zones.proofs.Readying.{if_some_then, near_found}
 use Rattle.zic_zones.specs.declared.ready.ReadyZone.{ReadyZone}
 use Rattle.zic_zones.proofs.ready.Ready.state_near_by_table.Goals as goal

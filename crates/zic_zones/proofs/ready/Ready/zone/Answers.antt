@@ -1,5 +1,5 @@
 use Rattle.std.proofs.Common.{ℕ, List, subst}
-use Rattle.zic_slots.specs.Places.{base_of}
+use Rattle.zic_zones.specs.Places.{base_of}
 use Rattle.zic_zones.proofs.Slotted.{texts_of_table}
 use Rattle.zic_zones.specs.code.Tables.{HaveTables}
 use Rattle.zic_zones.proofs.ready.Ready.zone.Goals as goal

@@ -3,7 +3,7 @@ use Rattle.std.specs.Prelude.{slice_get}
 use Rattle.std.proofs.lemmas.Option.{get_or_from_slice_get}
 use Rattle.zic_base.proofs.Elements.{got}
 use Rattle.zic_base.proofs.Lists.{take_next}
-use Rattle.zic_slots.specs.declared.slot.Slot.{Slot}
+use Rattle.zic_zones.specs.declared.slot.Slot.{Slot}
 use Rattle.zic_zones.proofs.Numbered.{keeps_then}
 use Rattle.zic_zones.proofs.Once.{numbers_still, slot_numbered}
 use Rattle.zic_zones.specs.code.Tables.{AreNumbersOfSlots}

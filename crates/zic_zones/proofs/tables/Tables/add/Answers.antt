@@ -1,7 +1,7 @@
 use Rattle.std.proofs.Common.{◌≡◌, ℕ, ℤ, List, length, map, sym, subst, to_z-of_z, rules}
-use Rattle.zic_slots.specs.Slots.{AreRight}
-use Rattle.zic_slots.specs.declared.limit.TheConstants.{SLOTS}
-use Rattle.zic_slots.specs.declared.slot.Slot.{Slot}
+use Rattle.zic_zones.specs.Slots.{AreRight}
+use Rattle.zic_zones.specs.declared.limit.TheConstants.{SLOTS}
+use Rattle.zic_zones.specs.declared.slot.Slot.{Slot}
 use Rattle.zic_zones.proofs.Numbered.{keeps_same}
 use Rattle.zic_zones.proofs.Once.{either_have, either_keeps, has_table, have_still, if_ok_some, slots_still}
 use Rattle.zic_zones.specs.code.Tables.{AreNumbersOfSlots, slot_of}

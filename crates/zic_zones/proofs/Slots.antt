@@ -5,11 +5,11 @@ use Rattle.std.proofs.lemmas.Bool.{leb-true, leb-false}
 use Rattle.std.proofs.lemmas.Int.{ints}
 use Rattle.std.proofs.lemmas.Option.{same_Some}
 use Rattle.zic_posix.specs.Instants.{Includes}
-use Rattle.zic_slots.specs.Slots.{AreRight, IsRight, Says}
-use Rattle.zic_slots.specs.code.Known.{IsKnown}
-use Rattle.zic_slots.specs.declared.limit.TheConstants.{SLOT_SECONDS, UNKNOWN}
-use Rattle.zic_slots.specs.declared.slot.Slot.{Slot}
-use Rattle.zic_slots.specs.declared.table.Known.{Known}
+use Rattle.zic_zones.specs.Slots.{AreRight, IsRight, Says}
+use Rattle.zic_zones.specs.code.Known.{IsKnown}
+use Rattle.zic_zones.specs.declared.limit.TheConstants.{SLOT_SECONDS, UNKNOWN}
+use Rattle.zic_zones.specs.declared.slot.Slot.{Slot}
+use Rattle.zic_zones.specs.declared.table.Known.{Known}
 use Rattle.zic_tzif.specs.Content.{Content}
 
 either : (b : Bool) (n : ℕ) → (if b then n else n) ≡ n

@@ -1,7 +1,7 @@
 //! One slot.
 
 ghost use Rattle.std.specs.Prelude.{◌≡◌};
-ghost use Rattle.zic_slots.specs.Slots.{number_at};
+ghost use Rattle.zic_zones.specs.Slots.{number_at};
 
 /// The numbers before and from a change on, in seconds after the start of the slot.
 #[derive(Clone, Copy, Debug, PartialEq, Eq, Drop)]

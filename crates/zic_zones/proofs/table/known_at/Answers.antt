@@ -1,9 +1,9 @@
 use Rattle.std.proofs.Common.{ℕ, subst, sym}
 use Rattle.std.proofs.lemmas.Option.{slice_get-get_or}
 use Rattle.zic_base.specs.State.{shown}
-use Rattle.zic_slots.specs.Slots.{IsNumberAt}
-use Rattle.zic_slots.proofs.table.known_at.Goals as goal
-use Rattle.zic_slots.proofs.table.known_at.Goals.{in-Known, in_default-2, in_default}
+use Rattle.zic_zones.specs.Slots.{IsNumberAt}
+use Rattle.zic_zones.proofs.table.known_at.Goals as goal
+use Rattle.zic_zones.proofs.table.known_at.Goals.{in-Known, in_default-2, in_default}
 
 pub returns-clause-known : goal.returns-clause-known
 returns-clause-known c = record {

@@ -1,7 +1,7 @@
 use Rattle.std.proofs.Common.{◌≡◌, vec_len}
-use Rattle.zic_slots.specs.Slots.{AreRight}
-use Rattle.zic_slots.specs.code.Known.{IsKnown}
-use Rattle.zic_slots.proofs.table.slots_of.Given as goal
+use Rattle.zic_zones.specs.Slots.{AreRight}
+use Rattle.zic_zones.specs.code.Known.{IsKnown}
+use Rattle.zic_zones.proofs.table.slots_of.Given as goal
 
 abbrev pub invariant-loop-place : goal.invariant-loop-place
 invariant-loop-place l = record {

@@ -1,8 +1,8 @@
 use Rattle.std.proofs.Common.{◌≡◌, ◌++◌, ◌∷◌, [], ℤ, List, subst, sym, to_z, of_z, w64, to_z-of_z, rules}
-use Rattle.zic_slots.specs.Slots.{AreRight, IsRight}
-use Rattle.zic_slots.specs.declared.slot.Slot.{Slot}
-use Rattle.zic_slots.proofs.Slots.{right_more}
-use Rattle.zic_slots.proofs.table.slots_of.Goals as goal
+use Rattle.zic_zones.specs.Slots.{AreRight, IsRight}
+use Rattle.zic_zones.specs.declared.slot.Slot.{Slot}
+use Rattle.zic_zones.proofs.Slots.{right_more}
+use Rattle.zic_zones.proofs.table.slots_of.Goals as goal
 
 pub loop-place-preserved : goal.loop-place-preserved
 loop-place-preserved c =

@@ -1,8 +1,8 @@
 -- What is known of some instants.
 use Rattle.std.specs.Prelude.{ℕ, ℤ, List}
 use Rattle.zic_posix.specs.Instants.{Includes}
-use Rattle.zic_slots.specs.Slots.{Says}
-use Rattle.zic_slots.specs.declared.table.Known.{Known}
+use Rattle.zic_zones.specs.Slots.{Says}
+use Rattle.zic_zones.specs.declared.table.Known.{Known}
 use Rattle.zic_tzif.specs.Content.{Content}
 
 -- The number is right at each of the instants, or unknown.

@@ -2,8 +2,8 @@
 
 ghost use Rattle.std.specs.Prelude.{◌≡◌, pos, ◌+ℤ◌, ◌≤ℤ◌, IfOk, vec_len};
 ghost use Rattle.zic_posix.specs.Instants.{Includes};
-ghost use Rattle.zic_slots.specs.Slots.{AreRight, IsRight};
-ghost use Rattle.zic_slots.specs.code.Known.{IsKnown};
+ghost use Rattle.zic_zones.specs.Slots.{AreRight, IsRight};
+ghost use Rattle.zic_zones.specs.code.Known.{IsKnown};
 
 use crate::limit::{LAST_BASE, SLOT_SECONDS, SLOTS, UNKNOWN};
 use crate::slot::Slot;

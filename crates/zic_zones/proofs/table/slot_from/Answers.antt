@@ -1,7 +1,7 @@
 use Rattle.std.proofs.Common.{ℤ, subst, to_z-of_z, rules}
 use Rattle.zic_posix.specs.Instants.{Includes}
-use Rattle.zic_slots.proofs.Slots.{right_by_change, right_throughout}
-use Rattle.zic_slots.proofs.table.slot_from.Goals as goal
+use Rattle.zic_zones.proofs.Slots.{right_by_change, right_throughout}
+use Rattle.zic_zones.proofs.table.slot_from.Goals as goal
 
 pub returns-then-last-before-clause-right : goal.returns-then-last-before-clause-right
 returns-then-last-before-clause-right c =

@@ -1,7 +1,7 @@
 //! Where the slot of an instant is.
 
 ghost use Rattle.std.specs.Prelude.{IfSome};
-ghost use Rattle.zic_slots.specs.Places.{IsPlaceOf};
+ghost use Rattle.zic_zones.specs.Places.{IsPlaceOf};
 
 use crate::limit::{ERAS, FIRST_BASE, SLOT_SECONDS, SLOTS};
 
