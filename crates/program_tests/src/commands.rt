@@ -9,11 +9,13 @@ use std::alloc::Global;
 use std::io::ErrorKind;
 use std::process::Abort;
 use std::slice;
-use zic_commands::*;
 use zic_counted::Counted;
 use zic_dump::Years;
+use zic_file_commands::{dump, show, show_local};
+use zic_io::{Failure, read_file_bytes, read_source_text};
 use zic_local::LocalTime;
 use zic_plan::Plan;
+use zic_source_commands::check;
 
 /// Returns a plan with a number of workers and pieces of one, for 9 rows and 100 bytes.
 fn plan(rt: &impl Abort, workers: u64) -> Plan {

@@ -33,7 +33,7 @@ pub(crate) fn convert_rows<
     let rest = rt.reader().take(most);
     let mut input = Counted::new(noted.head.bytes.as_slice().chain(rest));
     let mut output = Counted::new(progress(rt, &order.layout, line));
-    let conversion = zic_commands::Conversion {
+    let conversion = zic_bulk::Conversion {
         rt,
         alloc: rt.alloc(),
         plan: &order.plan,

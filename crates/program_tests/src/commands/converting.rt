@@ -11,11 +11,12 @@ use std::slice;
 use std::sync::Wait;
 use std::thread::Threads;
 use std::time::{Clock, Duration};
-use zic_commands::*;
+use zic_bulk::{Conversion, KeyedTexts, convert_source, convert_source_against};
 use zic_counted::Counted;
-use zic_io::{FaultFields, FaultList};
+use zic_io::{Failure, FaultFields, FaultList, Progress, ProgressLine};
 use zic_pieces::Open;
 use zic_plan::{AtFault, Disambiguation, Header, Layout, TimeFrom, Unnoted, Written};
+use zic_zones::SourceZones;
 
 const UTC: &[u8] = b"Zone Etc/UTC 0 - UTC";
 

@@ -10,10 +10,13 @@ use std::process::Abort;
 use std::slice;
 use std::sync::Wait;
 use std::thread::Threads;
-use zic_commands::*;
 use zic_counted::Counted;
 use zic_files::ZoneTree;
-use zic_io::{ListFile, ZoneFolder};
+use zic_io::{
+    Durability, Failure, LinkKind, LinkedFolder, ListFile, Tree, ZoneFolder, read_file,
+    read_sources,
+};
+use zic_source_commands::{build, build_linked};
 
 /// Records calls, one of which fails with an error of this kind, this number of times.
 #[derive(Clone, Copy)]
@@ -226,7 +229,7 @@ fn built_of<T: Threads + Wait + Sync + Abort>(
     folder: (&str, Option<LinkKind>),
     texts: &[Vec<u8>],
 ) -> String {
-    let mut tree = zic_commands::Disk::new(alloc, disk, 7, Durability::Later);
+    let mut tree = zic_io::Disk::new(alloc, disk, 7, Durability::Later);
     built_in(rt, alloc, &mut tree, folder, texts)
 }
 
@@ -237,7 +240,7 @@ fn synced_of<T: Threads + Wait + Sync + Abort>(
     disk: &Disk<'_>,
     text: &Vec<u8>,
 ) -> String {
-    let mut tree = zic_commands::Disk::new(alloc, disk, 7, Durability::Synced);
+    let mut tree = zic_io::Disk::new(alloc, disk, 7, Durability::Synced);
     let mut built = built_in(rt, alloc, &mut tree, ("D", None), slice::from_ref(text));
     if built.is_empty() {
         let synced = reported(rt, alloc, tree.sync());

@@ -13,7 +13,7 @@ use Rattle.zic_plan.specs.declared.layout.ZoneFrom.{ZoneFrom}
 use Rattle.zic_plan.specs.declared.layout.ZoneFrom.TheVariants as zone
 use Rattle.zic_zones.specs.Zones.{alone}
 use Rattle.zic_zones.specs.declared.releases.Releases.{Releases}
-use Rattle.zic_commands.specs.Converting.{ConvertsBySource, IsFailureAfterTexts, IsFailureByFiles}
+use Rattle.zic_bulk.specs.Converting.{ConvertsBySource, IsFailureAfterTexts, IsFailureByFiles}
 use Rattle.zic_file_commands.specs.Converting.{Converts, IsFailureOfConvert, IsFailureOfZone, IsFailureOfZones, zones_of}
 
 -- the files of a source stay

@@ -1,8 +1,8 @@
 //! `convert` by texts: compiles them, and converts a column by their files.
 
 ghost use Rattle.std.specs.Prelude.{◌≤◌, ◌+◌, ◌≡◌, IfOk, IfErr};
-ghost use Rattle.zic_commands.specs.Converting.{ConvertsAgainst, ConvertsBySource, against};
-ghost use Rattle.zic_commands.specs.Converting.{IsFailureOfConvertAgainst, IsFailureOfConvertSource, IsFailureOfKeyed};
+ghost use Rattle.zic_bulk.specs.Converting.{ConvertsAgainst, ConvertsBySource, against};
+ghost use Rattle.zic_bulk.specs.Converting.{IsFailureOfConvertAgainst, IsFailureOfConvertSource, IsFailureOfKeyed};
 ghost use Rattle.zic_compile.specs.Build.{AreFilesOfTexts};
 ghost use Rattle.zic_files.specs.Sound.{AreSoundFiles};
 ghost use Rattle.zic_convert.specs.Run.{run_of};
@@ -61,7 +61,7 @@ fn keyed_files<T: Threads + Wait + Sync, G: Gate + Sync>(
 /// # Errors
 ///
 /// Why the texts have no files, in which case nothing is read of the column, or as
-/// [`convert`](crate::convert) by these files.
+/// [`zic_file_commands::convert`] by these files.
 pub fn convert_source<T: Threads + Wait + Sync, G: Gate + Sync, R: Read, W: Write, L: RowLog>(
     conversion: &Conversion<'_, T, G>,
     texts: &[Vec<u8>],

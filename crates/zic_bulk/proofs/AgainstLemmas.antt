@@ -14,7 +14,7 @@ use Rattle.zic_plan.specs.declared.layout.ZoneFrom.TheVariants as zone
 use Rattle.zic_zones.specs.Compared.{MayCompare}
 use Rattle.zic_zones.specs.Zones.{alone}
 use Rattle.zic_zones.specs.declared.releases.Releases.{Releases}
-use Rattle.zic_commands.specs.Converting.{ConvertsAgainst, IsFailureAgainst, MayBeAgainst, against}
+use Rattle.zic_bulk.specs.Converting.{ConvertsAgainst, IsFailureAgainst, MayBeAgainst, against}
 use Rattle.zic_file_commands.specs.Converting.{Converts, IsFailureOfConvert, IsFailureOfZones, IsZoneRequested, zones_of}
 
 -- zones of which one part is those of a source, and the other those of another release

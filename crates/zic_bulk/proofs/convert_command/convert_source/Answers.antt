@@ -2,8 +2,8 @@ use Rattle.std.proofs.Common.{inl, inr, refl}
 use Rattle.std.proofs.lemmas.Result.{err_from_is_err_and}
 use Rattle.zic_convert.specs.Run.{run_of}
 use Rattle.zic_convert.proofs.Joining.{on_err}
-use Rattle.zic_commands.proofs.SourceLemmas.{all_by_source, fails_after_texts}
-use Rattle.zic_commands.proofs.convert_command.convert_source.Goals as goal
+use Rattle.zic_bulk.proofs.SourceLemmas.{all_by_source, fails_after_texts}
+use Rattle.zic_bulk.proofs.convert_command.convert_source.Goals as goal
 
 pub returns-in_err-files-clause-err : goal.returns-in_err-files-clause-err
 returns-in_err-files-clause-err g c =

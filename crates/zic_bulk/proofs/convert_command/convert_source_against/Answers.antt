@@ -3,8 +3,8 @@ use Rattle.std.proofs.lemmas.Result.{err_from_is_err_and}
 use Rattle.zic_convert.specs.Run.{run_of}
 use Rattle.zic_source.specs.Texts.{texts_of}
 use Rattle.zic_convert.proofs.Joining.{on_err}
-use Rattle.zic_commands.proofs.AgainstLemmas.{all_against, fails_against}
-use Rattle.zic_commands.proofs.convert_command.convert_source_against.Goals as goal
+use Rattle.zic_bulk.proofs.AgainstLemmas.{all_against, fails_against}
+use Rattle.zic_bulk.proofs.convert_command.convert_source_against.Goals as goal
 
 pub returns-in_err-files-clause-err : goal.returns-in_err-files-clause-err
 returns-in_err-files-clause-err g c =

@@ -1,6 +1,6 @@
 use Rattle.std.proofs.Common.{inl, inr, refl}
 use Rattle.std.proofs.lemmas.Result.{err_from_is_err_and}
-use Rattle.zic_commands.proofs.convert_command.keyed_files.Goals as goal
+use Rattle.zic_bulk.proofs.convert_command.keyed_files.Goals as goal
 
 pub returns-in_err-files-clause-err : goal.returns-in_err-files-clause-err
 returns-in_err-files-clause-err g c =
