@@ -17,7 +17,8 @@ along f g converted end p q reported same ends path h =
     subst P same (subst Q ends (subst R path h))
 
 pub returns-clause-reported : goal.returns-clause-reported
-returns-clause-reported g c =
-    (c.if-keeps_lists.unwritten,
-     elim c.if-keeps_lists.branch [ then-keeps_lists w ↦ λ _. w.unwritten-is | else-keeps_lists w ↦ grind (arith, common_steps) ],
-     along _ _ _ _ _ _ _ c.faults-faults.ensures c.ended-ended.ensures c.path_of.ensures c.report.ensures)
+returns-clause-reported g c = (
+  c.if-keeps_lists.unwritten,
+  elim c.if-keeps_lists.branch [ then-keeps_lists w ↦ λ _. w.unwritten-is | else-keeps_lists w ↦ grind (arith, common_steps) ],
+  along _ _ _ _ _ _ _ c.faults-faults.ensures c.ended-ended.ensures c.path_of.ensures c.report.ensures,
+)
