@@ -1,7 +1,7 @@
 #!/usr/bin/env bash
 # Kills builds at 32 moments, and checks that each file is whole, and that the next build makes the whole tree.
-# It checks too that runs have temporary names of their own, and that a conversion that is killed has listed the faults of
-# the rows that are out.
+# It checks too that runs have temporary names of their own, and that a conversion that is killed leaves earlier lists, and has
+# listed the faults of the rows that are out in temporary files.
 set -euo pipefail
 cd "$(dirname "${BASH_SOURCE[0]}")/../.."
 . tests/common.sh
@@ -36,8 +36,9 @@ calls=$((calls + 1))
 expect 0 '' '' build tree many
 diff -r whole tree >&2 || differ 'a build after those that were killed leaves another tree'
 
-# A conversion is killed while it waits for the next row: the lines of both lists are there.
+# A conversion is killed while it waits for the next row: the lines of both lists are there, under temporary names.
 mkfifo column rows
+echo old | tee faults >rejects
 "$program" convert --keep-going --faults faults --rejects rejects plain <column >rows 2>../err &
 run=$!
 exec 3>column 4<rows
@@ -45,7 +46,7 @@ printf 'Etc/UTC,x\nNowhere,1\nEtc/UTC,0\n' >&3
 IFS= read -r -t 20 row <&4 || true
 # The row is read as soon as it is written, perhaps before the lists are.
 for _ in {1..100}; do
-    [ "$(wc -l <rejects 2>../no-list)" = 2 ] && break
+    [ "$(cat '~pzic'* 2>../no-list | wc -l)" = 4 ] && break
     sleep 0.1
 done
 kill -9 $run
@@ -53,6 +54,10 @@ wait $run 2>../err || true
 exec 3>&- 4<&-
 calls=$((calls + 1))
 [ "$row" = 'Etc/UTC,0,1970-01-01T00:00:00,+00:00:00,0,UTC' ] || differ "the row is '$row'"
-[ "$(cat faults)" = "1,RowInstant"$'\n'"2,RowZone" ] || differ "the faults are '$(cat faults)'"
-[ "$(cat rejects)" = "Etc/UTC,x"$'\n'"Nowhere,1" ] || differ "the records put aside are '$(cat rejects)'"
+[ "$(cat faults rejects)" = $'old\nold' ] || differ "a conversion that was killed left the lists '$(cat faults rejects)'"
+for text in $'1,RowInstant\n2,RowZone' $'Etc/UTC,x\nNowhere,1'; do
+    found=0
+    for list in '~pzic'*; do if [ "$(cat "$list")" = "$text" ]; then found=$((found + 1)); fi; done
+    [ "$found" = 1 ] || differ "$found temporary lists hold '$text'"
+done
 leave killed

@@ -1,7 +1,7 @@
 #!/usr/bin/env bash
 # Checks messages and statuses where inputs can't be read and outputs fail: closed streams, full disks, pipes without a reader.
 # It has folders in place of files and files in place of folders, links, a disk that is full after some bytes, and a folder that may
-# not be written. As root, it tries that folder as the user nobody.
+# not be written. As root, it tries that folder as the user nobody. It ends conversions in each way whose lists can't be written.
 set -euo pipefail
 cd "$(dirname "${BASH_SOURCE[0]}")/../.."
 . tests/common.sh
@@ -132,16 +132,81 @@ for kilobytes in 0 1; do
     told "pzic build tree big, with at most $kilobytes KiB a file" 3 '' "cannot write tree/$name"
     expect_tree tree "$wanted"
 done
+
+# ------------------------------------------------------------------ lists that can't be written
+
+# The column has a row, one with a fault, a row, and a second fault in the fourth.
+printf 'Etc/UTC,0\nx,0\nEtc/UTC,1\nEtc/UTC,0.5\n' >column
+input=column
+row=Etc/UTC,0,1970-01-01T00:00:00,+00:00:00,0,UTC
+second=Etc/UTC,1,1970-01-01T00:00:01,+00:00:00,0,UTC
+noted=$'row 2: RowZone\n1 row with a fault'
+for option in --faults --rejects; do
+    case $option in
+    --faults) one=$row$'\nx,0,,,,' two=$row$'\nx,0,,,,\n'$second all=$row$'\nx,0,,,,\n'$second$'\nEtc/UTC,0.5,,,,' ;;
+    *) one=$row two=$row$'\n'$second all=$row$'\n'$second ;;
+    esac
+    full="cannot write /dev/full"
+    expect 3 "$all" "$full"$'\nrow 2: RowZone\n2 rows with faults' convert --keep-going $option /dev/full plain
+    expect 3 "$two" "$full"$'\nrow 4: RowInstant\n'"$noted" convert --keep-going $option /dev/full --max-faults 1 plain
+    expect 3 "$one" "$full"$'\nrow 3: TooManyRows\n'"$noted" convert --keep-going $option /dev/full --max-rows 2 plain
+    expect 3 "$two" "$full"$'\nrow 4: RowTooLong\n'"$noted" convert --keep-going $option /dev/full --max-record 9 plain
+    expect 3 "$one" "$full"$'\ncolumn: ColumnTooLong\n'"$noted" convert --keep-going $option /dev/full --max-bytes 15 plain
+    # The first round of rows is written, and the next can't be.
+    status=0
+    (head -n 2 column && sleep 1 && yes Etc/UTC,0 | head -n 1000) 2>../log | (
+        trap '' XFSZ
+        ulimit -f 1
+        exec "$program" convert --keep-going $option /dev/full plain
+    ) >../out 2>../err || status=$?
+    : >../out
+    told "pzic convert $option /dev/full, with at most 1 KiB of rows" 3 '' "$full"$'\ncannot write rows'
+done
+# Lists that can't be made are found before the first row.
+mkdir folder
+for path in '' none/list new/ folder; do
+    expect 3 '' "cannot write $path" convert --keep-going --faults "$path" plain
+    expect 3 '' "cannot write $path" convert --keep-going --rejects "$path" plain
+done
+# What is half written is removed, and the earlier list stays.
+echo old >list
+for option in --faults --rejects; do
+    status=0
+    text=$(
+        trap '' XFSZ
+        ulimit -f 0
+        "$program" convert --keep-going $option list plain <column 2>&1 >/dev/null
+    ) || status=$?
+    : >../out
+    echo "$text" >../err
+    told "pzic convert $option list, with at most 0 bytes a file" 3 '' $'cannot write list\nrow 2: RowZone\n2 rows with faults'
+    [ "$(cat list)" = old ] || differ "a list that could not be written holds '$(cat list)'"
+done
+[ -z "$(find . -name '~pzic*')" ] || differ "lists that could not be written left $(find . -name '~pzic*')"
+input=/dev/null
+
 # A folder that may not be written.
 rm -rf tree
 mkdir tree
 chmod 755 . ..
+echo old >tree/list
+chmod 666 tree/list
 chmod 555 tree
 run=()
 if [ "$(id -u)" = 0 ]; then run=(setpriv --reuid 65534 --regid 65534 --clear-groups); fi
 status=0
 "${run[@]}" "$program" build tree plain >../out 2>../err || status=$?
 told 'pzic build into a folder that may not be written' 3 '' 'cannot write tree/Etc/UTC'
+for option in --faults --rejects; do
+    status=0
+    "${run[@]}" "$program" convert --keep-going $option tree/new plain <column >../out 2>../err || status=$?
+    told "pzic convert $option into a folder that may not be written" 3 '' 'cannot write tree/new'
+done
+# An earlier list in it is written where it is.
+status=0
+"${run[@]}" "$program" convert --keep-going --rejects tree/list plain <column >../out 2>../err || status=$?
+told 'pzic convert --rejects, of a list in a folder that may not be written' 5 "$row"$'\n'"$second" $'row 2: RowZone\n2 rows with faults'
+[ "$(cat tree/list)" = $'x,0\nEtc/UTC,0.5' ] || differ "the list in a folder that may not be written holds '$(cat tree/list)'"
 chmod 755 tree
 
 leave outputs

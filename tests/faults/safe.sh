@@ -88,7 +88,11 @@ convert --keep-going --faults /dev/stdin utc.zi
 refused 'pzic convert --faults /dev/stdin'
 convert --keep-going --faults ../out utc.zi
 refused 'pzic convert --faults ../out >../out'
-for path in /dev/stdin ../out utc.zi tree/Etc/UTC; do
+for path in ../err /dev/stderr; do
+    convert --keep-going --faults "$path" utc.zi
+    refused "pzic convert --faults $path 2>../err"
+done
+for path in /dev/stdin ../out ../err utc.zi tree/Etc/UTC; do
     convert --keep-going --rejects "$path" utc.zi
     refused "pzic convert --rejects $path"
 done
@@ -102,6 +106,46 @@ for path in list name ./list; do
 done
 holds list old
 rm list name
+# One file that isn't there yet.
+mkdir folder
+ln -s new dangling
+ln -s folder named
+while read -r path other; do
+    convert --keep-going --faults "$path" --rejects "$other" utc.zi
+    refused "pzic convert --faults $path --rejects $other, which aren't there"
+done <<'END'
+new ./new
+./new new
+folder/../new new
+folder/new folder//new
+folder/new named/new
+dangling new
+new dangling
+END
+calls=$((calls + 1))
+[ ! -e new ] && [ -z "$(ls -A folder)" ] || differ "a conversion that was refused left '$(ls -A . folder)'"
+rm dangling named
+# Where nothing says what standard streams are, no earlier file is taken for a list.
+libraries=()
+if [ "$(id -u)" = 0 ] && has 'a system without /proc and /dev' chroot ldd; then
+    mapfile -t libraries < <(ldd "$program" | grep -o '/[^ ]*')
+    mkdir bare
+    cp --parents -L "${libraries[@]}" bare
+    cp "$program" utc.zi column bare
+    for option in --faults --rejects; do
+        status=0
+        chroot bare /zic_main convert --keep-going $option column utc.zi <bare/column >../out 2>../err || status=$?
+        refused "pzic convert $option column <column, without /proc and /dev"
+        cmp -s column bare/column || differ "pzic convert $option column changed the column"
+        status=0
+        chroot bare /zic_main convert --keep-going $option new utc.zi <bare/column >../out 2>../err || status=$?
+        calls=$((calls + 1))
+        [ -s bare/new ] || differ "pzic convert $option new, without /proc and /dev: status $status, and no list"
+        rm -f bare/new
+    done
+else
+    echo "skipped: a system without /proc and /dev: this isn't root"
+fi
 status=0
 "$program" convert --keep-going --faults /dev/stdout utc.zi <column 2>../err | cat >../piped || status=${PIPESTATUS[0]}
 refused 'pzic convert --faults /dev/stdout, a pipe'
@@ -128,6 +172,8 @@ holds list old
 convert --keep-going --faults none --zone No --time-field 2 utc.zi
 told 'pzic convert --faults none --zone No' 2 '' 'unknown zone No'
 [ ! -e none ] || differ 'a run that stopped before its rows made a list'
+calls=$((calls + 1))
+[ -z "$(find . -name '~pzic*')" ] || differ "a run that stopped before its rows left $(find . -name '~pzic*')"
 convert --keep-going --faults list utc.zi
 told 'pzic convert --faults list utc.zi' 1 "$rows" "$faults"
 holds list 2,RowZone
@@ -136,6 +182,32 @@ convert --keep-going --faults list --zone Etc/UTC utc.zi
 told 'pzic convert --faults list, without faults' 0 "$row" ''
 holds list ''
 printf 'Etc/UTC,0\nNo,0\n' >column
+
+# A list replaces what a symbolic link leads to, and has the permissions of the earlier one. Other links keep that.
+echo old >folder/list
+chmod 600 folder/list
+ln folder/list other
+ln -s folder/list symbolic.list
+convert --keep-going --rejects symbolic.list utc.zi
+told 'pzic convert --rejects, of a symbolic link' 5 "$row" "$faults"
+holds folder/list No,0
+holds other old
+calls=$((calls + 1))
+[ -L symbolic.list ] && [ "$(stat -c %a folder/list)" = 600 ] && [ "$(ls -A folder)" = list ] ||
+    differ "a list by a symbolic link left '$(ls -lA folder symbolic.list)'"
+# An open file is written as it is, since others know it by its descriptor.
+exec 3>opened
+convert --keep-going --rejects /dev/fd/3 utc.zi
+exec 3>&-
+holds opened No,0
+# Records are mended while they are read: the list is long enough that it isn't read at once.
+awk 'BEGIN { for (i = 0; i < 100000; i++) print (i % 2 ? "UTC," : "No,") i }' >bad
+grep No bad >../wanted
+status=0
+sed 's/^UTC/Etc\/UTC/' bad | "$program" convert --keep-going --rejects bad utc.zi >../out 2>../err || status=$?
+calls=$((calls + 1))
+[ "$status" = 5 ] && cmp -s bad ../wanted && [ "$(wc -l <../out)" = 50000 ] ||
+    differ "mended records: status $status, $(wc -l <bad) records and $(wc -l <../out) rows, and not 50000 of each"
 
 # ------------------------------------------------------------------ leftovers of build
 
@@ -215,8 +287,8 @@ fsync(<./new/traced>)'
         >../out 2>../err <<<'X,0' || status=$?
     told 'pzic convert --rejects' 5 '' 'row 1: RowZone
 1 row with a fault'
-    holds <(grep -o 'f[a-z]*sync([0-9]*<.*>)' ../trace | sed -E "s|<$PWD|<.|; s/[0-9]+</</") 'fdatasync(<./listed>)
-fdatasync(<./aside>)'
+    holds <(grep -o 'f[a-z]*sync([0-9]*<.*>)' ../trace | sed -E "s|<$PWD|<.|; s/[0-9]+</</; s/~pzic[0-9]+/~/") 'fdatasync(<./~>)
+fdatasync(<./~>)'
 else
     echo "skipped: the syncs of build --sync and of lists: there is no strace that can trace here"
 fi

@@ -84,14 +84,21 @@ first_unwritten true true = None
 abbrev pub IsUnwrittenAt : List ℕ → Result (Unit {0}) Failure → Type 0
 IsUnwrittenAt path reported = (reported ≡ Err failures.Memory) ⊎ IsErrAnd reported (IsCannotWrite path)
 
--- What a run reports that ended so, where the list at this path, if there is one, may not be written whole: that it can't be written, in
--- place of a good end and of faults of rows after which the run went on; any other failure stands.
+-- What a run reports that ended so, where the list at this path, if there is one, may not be written whole: that it can't be written,
+-- whatever ended the run.
 abbrev pub IsReport : Result (Unit {0}) Failure → Option (List ℕ) → Result (Unit {0}) Failure → Type 0
 IsReport ended None reported = reported ≡ ended
-IsReport (Ok done) (Some path) reported = IsUnwrittenAt path reported
-IsReport (Err (failures.Rows row kind count)) (Some path) reported = IsUnwrittenAt path reported
-IsReport (Err (failures.Rejected row kind count)) (Some path) reported = IsUnwrittenAt path reported
-IsReport (Err failure) (Some path) reported = reported ≡ Err failure
+IsReport ended (Some path) reported = IsUnwrittenAt path reported
+
+-- the failure that ended a run, if one did
+abbrev pub failure_in : Result (Unit {0}) Failure → Option Failure
+failure_in (Ok done) = None
+failure_in (Err failure) = Some failure
+
+-- what is told behind the list at this path, if one can't be written: the failure that ended the run, if one did
+abbrev pub behind_of : Option (List ℕ) → Result (Unit {0}) Failure → Option Failure
+behind_of None ended = None
+behind_of (Some path) ended = failure_in ended
 
 -- the path of a list, if there is one
 abbrev pub path_of : Conversion → Option Unwritten → Option (List ℕ)
@@ -99,12 +106,12 @@ path_of order None = None
 path_of order (Some lists.Faults) = option_map string_bytes order.faults
 path_of order (Some lists.Rejects) = option_map string_bytes order.rejects
 
--- What a run reports that ended so after these faults: a list may not be written whole, but where those of an earlier run stay as they are
--- nothing is written to either.
-abbrev pub IsReportOf : Conversion → Faults → Result (Unit {0}) Failure → Result (Unit {0}) Failure → Type 0
-IsReportOf order faults ended reported =
+-- What a run reports that ended so after these faults, and what it tells behind that: a list may not be written whole, but where those of
+-- an earlier run stay as they are nothing is written to either.
+abbrev pub IsReportOf : Conversion → Faults → Result (Unit {0}) Failure → Result (Unit {0}) Failure → Option Failure → Type 0
+IsReportOf order faults ended reported behind =
     (unwritten : Option Unwritten) × (IsTrue (keeps_lists faults ended) → unwritten ≡ None)
-    × IsReport ended (path_of order unwritten) reported
+    × IsReport ended (path_of order unwritten) reported × (behind ≡ behind_of (path_of order unwritten) ended)
 
 -- the number of rows that were made, where some are left out: those of a run by two releases that ended well
 abbrev pub rows_made : Option Zones → Result ℕ Failure → Option ℕ

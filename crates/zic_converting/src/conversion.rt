@@ -27,6 +27,8 @@ pub struct Noted {
     pub texts: Vec<Vec<u8>>,
     /// What was read of the column for its header.
     pub(crate) head: Head,
+    /// What ended a run, where a list is reported before it that can't be written.
+    pub ended: Option<Failure>,
     /// The faults of rows after which a run went on, where something else ended it.
     pub faults: Option<Failure>,
 }
@@ -37,6 +39,7 @@ impl Noted {
         Noted {
             texts: Vec::new(alloc),
             head: Head::new(alloc),
+            ended: None,
             faults: None,
         }
     }
@@ -91,7 +94,8 @@ fn progress_line<E: IsTerminal + Drop>(progress: bool, errors: E) -> ProgressLin
 }
 
 /// Converts standard input, and writes the lists of faults and of their records. A fault of the source, an
-/// unknown zone or lack of memory before the first fault leaves earlier lists as they are.
+/// unknown zone or lack of memory before the first fault leaves earlier lists as they are. A list that can't
+/// be written is reported whatever ended the rows, and before it.
 fn convert_listed<
     R: Files + Input + Print + Clock + RandomSource + AllocGlobal + Threads + Wait + Sync,
     E: Write + Drop,
@@ -111,7 +115,7 @@ fn end<R: Files>(
     ensures told { let faults = faults_in order.now.layout.at_fault lists.entry.list.noted in
         noted.new.faults ≡ told_beside faults (ended faults converted) }
     ensures reported { let faults = faults_in order.now.layout.at_fault lists.entry.list.noted in
-        IsReportOf order.now faults (ended faults converted) result }
+        IsReportOf order.now faults (ended faults converted) result noted.new.ended }
 {
     let faults = lists.faults(order);
     let ended = ended(converted, &faults);
@@ -122,7 +126,7 @@ fn end<R: Files>(
     } else {
         lists.finish()
     };
-    report(ended, path_of(order, unwritten))
+    report(ended, path_of(order, unwritten), &mut noted.ended)
 }
 
 /// Returns the path of a list.

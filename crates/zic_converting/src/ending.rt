@@ -3,9 +3,10 @@
 
 ghost use Rattle.std.specs.Prelude.{◌≡◌, option_map, string_bytes};
 ghost use Rattle.std.specs.Option.{option_copied};
-ghost use Rattle.zic_converting.specs.Ending.{ended, first_unwritten, is_before_rows, keeps_lists, rows_made, IsReport};
+ghost use Rattle.zic_converting.specs.Ending.{behind_of, ended, failure_in, first_unwritten, is_before_rows, keeps_lists, rows_made, IsReport};
 
 use crate::faults::Faults;
+use std::mem;
 use zic_command_line::Zones;
 use zic_io::Failure;
 
@@ -64,22 +65,34 @@ pub(crate) fn first_unwritten(faults: bool, rejects: bool) -> Option<Unwritten>
 }
 
 /// Returns what a run reports that ended so, where the list at this path may not be written whole. That it
-/// isn't comes before faults of rows after which the run went on, and after any other failure.
+/// isn't comes first, whatever ended the run, and that is then put behind it.
 ///
 /// # Errors
 ///
 /// The failure of the run, `CannotWrite` with the path, or `Memory` in place of that.
-pub(crate) fn report(ended: Result<(), Failure>, unwritten: Option<&String>) -> Result<(), Failure>
-    ensures { IsReport ended (option_map string_bytes (option_copied unwritten.entry)) result }
+pub(crate) fn report(
+    ended: Result<(), Failure>,
+    unwritten: Option<&String>,
+    behind: &mut Option<Failure>,
+) -> Result<(), Failure>
+    ensures reported { IsReport ended (option_map string_bytes (option_copied unwritten.entry)) result }
+    ensures behind { behind.new ≡ behind_of (option_map string_bytes (option_copied unwritten.entry)) ended }
 {
     let Some(path) = unwritten else {
+        drop(mem::replace(behind, None));
         return ended;
     };
+    drop(mem::replace(behind, failure_in(ended)));
+    Err(Failure::CannotWrite(path.clone()?))
+}
+
+/// Returns the failure that ended a run, if one did.
+fn failure_in(ended: Result<(), Failure>) -> Option<Failure>
+    ensures { result ≡ failure_in ended }
+{
     match ended {
-        Ok(()) | Err(Failure::Rows { .. } | Failure::Rejected { .. }) => {
-            Err(Failure::CannotWrite(path.clone()?))
-        }
-        ended => ended,
+        Ok(()) => None,
+        Err(failure) => Some(failure),
     }
 }
 

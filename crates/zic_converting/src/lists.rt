@@ -6,28 +6,30 @@ ghost use Rattle.zic_converting.specs.Ending.{faults_in};
 use crate::ending::{Unwritten, first_unwritten};
 use crate::faults::Faults;
 use std::fs::Files;
-use std::io::BufWriter;
+use std::io::{BufWriter, ErrorKind};
+use std::random::RandomSource;
 use zic_command_line::Conversion;
+use zic_host::random_number;
 use zic_io::{Failure, FaultList, ListFile};
 
-/// The lists of a conversion, as far as files are named for them. A file is made or emptied with the first
-/// round of rows of which one has a fault, or by [`Lists::finish`].
+/// The lists of a conversion, as far as files are named for them. Each has its path once it is finished by
+/// [`Lists::finish`]; until then what has the path stays, but for a [`ListFile`] that is written where it is.
 #[derive(Drop)]
 pub(crate) struct Lists<'a, R: Files> {
     pub(crate) list: FaultList<BufWriter<ListFile<'a, R>>>,
 }
 
-impl<'a, R: Files + AllocGlobal> Lists<'a, R> {
+impl<'a, R: Files + RandomSource + AllocGlobal> Lists<'a, R> {
     /// Opens the files, and writes nothing to them.
     ///
     /// # Errors
     ///
-    /// `CannotWrite` with the path of a file that can't be opened, or `Memory`.
-    pub(crate) fn open(rt: &'a R, order: &'a Conversion) -> Result<Lists<'a, R>, Failure> {
+    /// `CannotWrite` with the path of a file that can't be made or opened, or `Memory`.
+    pub(crate) fn open(rt: &'a R, order: &Conversion) -> Result<Lists<'a, R>, Failure> {
         let faults = list_file(rt, &order.faults)?;
         match list_file(rt, &order.rejects) {
             Ok(rejects) => Ok(Lists {
-                list: FaultList::new(faults, rejects, order.fault_fields),
+                list: FaultList::new(rt.alloc(), faults, rejects, order.fault_fields),
             }),
             Err(failure) => {
                 drop(faults);
@@ -49,41 +51,51 @@ impl<R: Files> Lists<'_, R> {
         }
     }
 
-    /// Has the files pass on what they hold back, and the system write it. Returns the first that was not
-    /// written whole, if there is one.
+    /// Has the files pass on what they hold back, and the system write it, and gives each that is whole its
+    /// path. Returns the first that isn't, if there is one.
     pub(crate) fn finish(self) -> Option<Unwritten> {
         let mut list = self.list;
         let has_faults = list.finish_faults();
         let has_rejects = list.finish_rejects();
         let (faults, rejects) = list.into_files();
         first_unwritten(
-            has_faults && is_synced(faults),
-            has_rejects && is_synced(rejects),
+            has_faults && is_finished(faults),
+            has_rejects && is_finished(rejects),
         )
     }
 }
 
 /// Returns the file of a list at this path, if there is one, which nothing is written to yet.
-fn list_file<'a, R: Files + AllocGlobal>(
+fn list_file<'a, R: Files + RandomSource + AllocGlobal>(
     rt: &'a R,
-    path: &'a Option<String>,
+    path: &Option<String>,
 ) -> Result<Option<BufWriter<ListFile<'a, R>>>, Failure> {
     let Some(path) = path else {
         return Ok(None);
     };
-    let Ok(file) = ListFile::open(rt, path.as_str()) else {
-        return Err(Failure::CannotWrite(path.clone()?));
-    };
+    let file = open_file(rt, path)?;
     match BufWriter::new(rt.alloc(), file) {
         Ok(file) => Ok(Some(file)),
         Err(_) => Err(Failure::Memory),
     }
 }
 
-/// Has the system write a file, if there is one. Returns whether that succeeded.
-fn is_synced<R: Files>(file: Option<BufWriter<ListFile<'_, R>>>) -> bool {
+/// Opens the file of a list at this path.
+fn open_file<'a, R: Files + RandomSource + AllocGlobal>(
+    rt: &'a R,
+    path: &String,
+) -> Result<ListFile<'a, R>, Failure> {
+    match ListFile::open(rt.alloc(), rt, path.as_str(), random_number(rt)) {
+        Ok(file) => Ok(file),
+        Err(e) if e.kind() == ErrorKind::OutOfMemory => Err(Failure::Memory),
+        Err(_) => Err(Failure::CannotWrite(path.clone()?)),
+    }
+}
+
+/// Has the system write a file, if there is one, and gives it its path. Returns whether that succeeded.
+fn is_finished<R: Files>(file: Option<BufWriter<ListFile<'_, R>>>) -> bool {
     match file {
-        Some(mut file) => file.get_mut().sync().is_ok(),
+        Some(mut file) => file.get_mut().finish().is_ok(),
         None => true,
     }
 }

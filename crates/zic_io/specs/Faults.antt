@@ -83,3 +83,8 @@ HasFailed file = MatchOption file ⊥ (λ f. 0 < f.failures)
 -- a file just where there was one, and the same that it held at first
 abbrev pub IsSameList : {W : Type 0} → ListNotes W → ListNotes W → Type 0
 IsSameList old new = (new.start ≡ old.start) × (is_some new.file ≡ is_some old.file)
+
+-- The same once rows were noted. Before the first record the header may be written, and what the file then holds is where its list begins.
+abbrev pub IsListAfter : {W : Type 0} → List RowNote → ListNotes W → ListNotes W → Type 0
+IsListAfter [] old new = is_some new.file ≡ is_some old.file
+IsListAfter (first ∷ noted) old new = IsSameList old new

@@ -5,18 +5,23 @@ ghost use Rattle.std.specs.Prelude.{◌≡◌};
 use crate::fault_line::{FaultFields, push_fault, push_record};
 use crate::list_output::ListOutput;
 use crate::noted::Noted;
+use std::alloc::Global;
 use std::io::Write;
 use std::marker::Model;
+use std::mem;
 use zic_base::RowFault;
 use zic_plan::{FaultyRow, LineEnd, RowLog};
 
 /// Takes note of rows with a fault: counts them, keeps the first fault, and writes each into two files,
 /// where there are such. Into the one goes a line with the number of the row, the name of the fault
 /// and the requested fields, with commas between them, and into the other the record with its own
-/// line end.
+/// line end. Before the first record stands the header, so a file without records has none.
 #[derive(Drop)]
 pub struct FaultList<W: Write> {
+    alloc: Global,
     fields: FaultFields,
+    /// The header that is written before the first record; empty if there is none.
+    header: Vec<u8>,
     first: Option<RowFault>,
     count: u64,
     /// Whether a row was noted that the files may hold back.
@@ -45,13 +50,18 @@ impl<W: Write> Model for FaultList<W> {
 }
 
 impl<W: Write> FaultList<W> {
-    ghost use Rattle.std.specs.Prelude.{◌≡◌, ◌-◌, ◌^◌, [], length, min, option_map, slice_get, IsTrue, IsFalse};
+    ghost use Rattle.std.specs.Prelude.{◌≡◌, ◌-◌, ◌^◌, [], ◌∷◌, ◌++◌, length, min, option_map, slice_get, IsTrue, IsFalse};
     ghost use Rattle.zic_counted.specs.Counts.{Counts};
-    ghost use Rattle.zic_io.specs.Faults.{fault_of, list_for, HasFailed, HasLines, HasRejects, IsSameList};
+    ghost use Rattle.zic_io.specs.Faults.{fault_of, list_for, HasFailed, HasLines, HasRejects, IsListAfter, IsSameList};
 
     /// Returns a list without rows, with a file for faults and one for records, and these fields in the
     /// lines of faults.
-    pub fn new(faults: Option<W>, rejects: Option<W>, fields: FaultFields) -> FaultList<W>
+    pub fn new(
+        alloc: Global,
+        faults: Option<W>,
+        rejects: Option<W>,
+        fields: FaultFields,
+    ) -> FaultList<W>
         ensures { result ≡ record {
           fields = fields;
           noted = [];
@@ -62,7 +72,9 @@ impl<W: Write> FaultList<W> {
         let noted = Noted::new(&faults);
         let held = Noted::new(&rejects);
         FaultList {
+            alloc,
             fields,
+            header: Vec::new(alloc),
             first: None,
             count: 0,
             holds_back: false,
@@ -113,6 +125,46 @@ impl<W: Write> FaultList<W> {
         self.rejects.finish()
     }
 
+    /// Writes the header that is kept, if there is one, before the first record.
+    fn put_header(&mut self)
+        ensures noted { self.new.noted ≡ self.old.noted }
+        ensures fields { self.new.fields ≡ self.old.fields }
+        ensures faults { self.new.faults ≡ self.old.faults }
+        ensures rejects { IsListAfter self.old.noted self.old.rejects self.new.rejects }
+    {
+        let header = mem::replace(&mut self.header, Vec::new(self.alloc));
+        self.put(&header);
+    }
+
+    /// Writes a header, if there is one and no record stands before it.
+    fn put(&mut self, header: &[u8])
+        ensures noted { self.new.noted ≡ self.old.noted }
+        ensures fields { self.new.fields ≡ self.old.fields }
+        ensures faults { self.new.faults ≡ self.old.faults }
+        ensures rejects { IsListAfter self.old.noted self.old.rejects self.new.rejects }
+    {
+        if self.first.is_some() || header.is_empty() {
+            return;
+        }
+        push_record(&mut self.rejects, header, LineEnd::Lf);
+        self.held = Noted::new(&self.rejects);
+    }
+
+    /// Adds a row, its line and its record.
+    fn add(&mut self, row: &FaultyRow)
+        ensures noted { self.new.noted ≡ self.old.noted ++ row.now ∷ [] }
+        ensures fields { self.new.fields ≡ self.old.fields }
+        ensures faults { IsSameList self.old.faults self.new.faults }
+        ensures rejects { IsSameList self.old.rejects self.new.rejects }
+    {
+        self.first = self.first.or(Some(row.fault));
+        self.count = self.count.saturating_add(1);
+        self.holds_back = true;
+        self.noted = self.noted.and(row);
+        push_fault(&mut self.faults, self.fields, row);
+        push_record(&mut self.rejects, &row.own, row.line_end);
+    }
+
     /// Returns the files.
     pub fn into_files(self) -> (Option<W>, Option<W>)
         ensures faults { result.0 ≡ option_map (λ (file : Counts W). file.inner) self.faults.file }
@@ -124,7 +176,7 @@ impl<W: Write> FaultList<W> {
 
 impl<W: Write> RowLog for FaultList<W> {
     ghost use Rattle.std.specs.Prelude.{◌≡◌, ◌++◌, [], ◌∷◌, Some, is_some};
-    ghost use Rattle.zic_io.specs.Faults.{IsSameList};
+    ghost use Rattle.zic_io.specs.Faults.{IsListAfter, IsSameList};
 
     ghost noted = { λ l. Some l.noted };
 
@@ -134,25 +186,21 @@ impl<W: Write> RowLog for FaultList<W> {
         ensures faults { self.new.faults ≡ self.old.faults }
         ensures file { is_some self.new.rejects.file ≡ is_some self.old.rejects.file }
     {
-        if self.first.is_some() || header.is_empty() {
-            return;
+        self.header.clear();
+        if self.header.extend_from_slice(header).is_err() {
+            // Without memory to keep it, it is written at once.
+            self.put(header);
         }
-        push_record(&mut self.rejects, header, LineEnd::Lf);
-        self.held = Noted::new(&self.rejects);
     }
 
     fn note(&mut self, row: &FaultyRow)
         ensures adds { Some self.new.noted ≡ Some (self.old.noted ++ row.now ∷ []) }
         ensures fields { self.new.fields ≡ self.old.fields }
         ensures faults { IsSameList self.old.faults self.new.faults }
-        ensures rejects { IsSameList self.old.rejects self.new.rejects }
+        ensures rejects { IsListAfter self.old.noted self.old.rejects self.new.rejects }
     {
-        self.first = self.first.or(Some(row.fault));
-        self.count = self.count.saturating_add(1);
-        self.holds_back = true;
-        self.noted = self.noted.and(row);
-        push_fault(&mut self.faults, self.fields, row);
-        push_record(&mut self.rejects, &row.own, row.line_end);
+        self.put_header();
+        self.add(row);
     }
 
     fn flush(&mut self)

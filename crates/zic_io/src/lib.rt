@@ -22,7 +22,7 @@ pub use fault_line::FaultFields;
 pub use fault_list::FaultList;
 pub use input::{MAX_SOURCE, read_file_bytes, read_source_text};
 pub use link_kind::{LinkKind, LinkedFolder};
-pub use list_file::ListFile;
+pub use list_file::{ListFile, folder_of, followed};
 pub use output::write_output;
 pub use progress::{Progress, ProgressLine};
 pub use sources::{read_file, read_sources};

@@ -38,35 +38,52 @@ fn with_lines<R: Files + AllocGlobal>(
 }
 
 /// Returns the lines after the first about a failure, without the last line end: its explanation, if
-/// requested, and the faults before it.
+/// requested, what ended the run besides, and the faults before that.
 fn lines_after<R: Files + AllocGlobal>(
     rt: &R,
     explainer: Option<Explainer>,
     noted: Noted,
     failure: &Failure,
 ) -> Result<String, AllocError> {
-    let Noted { texts, faults, .. } = noted;
+    let Noted {
+        texts,
+        ended,
+        faults,
+        ..
+    } = noted;
     let mut text = match explainer {
         Some(explainer) => explainer.explanation(rt, failure, texts)?,
         None => String::new(rt.alloc()),
     };
-    let pushed = push_faults(rt, &mut text, &faults);
+    let pushed = push_both(rt, &mut text, &ended, &faults);
+    drop(ended);
     drop(faults);
     pushed?;
     Ok(text)
 }
 
-/// Adds the faults before a failure, if there are any, in lines of their own.
-fn push_faults<R: AllocGlobal>(
+/// Adds what ended a run besides its failure, and the faults before that, if there are any.
+fn push_both<R: AllocGlobal>(
     rt: &R,
     text: &mut String,
+    ended: &Option<Failure>,
     faults: &Option<Failure>,
 ) -> Result<(), AllocError> {
-    let Some(faults) = faults else {
+    push_failure(rt, text, ended)?;
+    push_failure(rt, text, faults)
+}
+
+/// Adds a failure, if there is one, in lines of its own.
+fn push_failure<R: AllocGlobal>(
+    rt: &R,
+    text: &mut String,
+    failure: &Option<Failure>,
+) -> Result<(), AllocError> {
+    let Some(failure) = failure else {
         return Ok(());
     };
     if !text.is_empty() {
         text.push('\n')?;
     }
-    text.push_str(format!(in rt.alloc(); "{faults}")?.as_str())
+    text.push_str(format!(in rt.alloc(); "{failure}")?.as_str())
 }

@@ -101,7 +101,7 @@ fn converted_to_a_failed_read<T: Threads + Wait + Sync + Abort>(
 fn rows_and_faults_before_a_failed_read_end_at_the_same_row(rt: HostRuntime) {
     let mut rows = Counted::new(Vec::new(rt.alloc()));
     let mut file = Vec::new(rt.alloc());
-    let mut list = FaultList::new(Some(&mut file), None, NO_FIELDS);
+    let mut list = FaultList::new(rt.alloc(), Some(&mut file), None, NO_FIELDS);
     let answer = converted_to_a_failed_read(&rt, rt.alloc(), &mut rows, &mut list);
     expect_reported(&rt, rt.alloc(), answer, "cannot read column, status 3");
     expect(&rt, list.count() == 2 && list.finish_faults(), "two faults");

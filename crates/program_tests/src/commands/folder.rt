@@ -695,57 +695,80 @@ fn what_is_no_regular_file_is_not_opened(rt: HostRuntime) {
     expect_calls(&rt, calls, "", "");
 }
 
-/// Opens the list D/list, writes this number of lines to it, flushes it, and syncs it.
+/// Opens the list D/list, writes this number of lines to it, flushes it, and finishes it.
 fn list_lines(disk: &Disk<'_>, lines: usize) -> io::Result<()> {
-    let mut file = ListFile::open(disk, "D/list")?;
+    let mut file = ListFile::open(disk.log.alloc, disk, "D/list", 7)?;
     disk.log.note("opened", "")?;
     for _ in 0..lines {
         file.write_all(b"1,Row\n")?;
     }
     file.flush()?;
-    file.sync()
+    file.finish()
 }
 
 /// The number of lines, the call that fails, and the calls, followed by what is reported if one fails.
 type List = (usize, (&'static str, ErrorKind), &'static str);
 
-/// A file is emptied, or made, by the first write or flush, and its errors are those of the list.
-static LISTS: [List; 6] = [
+/// A list has its path once it is whole, and one that isn't is removed. In a folder where no file may be
+/// made, the earlier file is emptied by the first write.
+static LISTS: [List; 10] = [
     (
         2,
         ("", ErrorKind::Other),
-        "open D/list\nopened \ncut 0\nwrite 6\nwrite 6\nflush \nsync \n",
+        "open D/list\ncreate D/~pzic7\nopened \nwrite 6\nwrite 6\nflush \nsync \nrename D/~pzic7\nto D/list\n",
     ),
     (
         0,
         ("", ErrorKind::Other),
-        "open D/list\nopened \ncut 0\nflush \nsync \n",
+        "open D/list\ncreate D/~pzic7\nopened \nflush \nsync \nrename D/~pzic7\nto D/list\n",
     ),
-    // there is no file, but a folder for one
+    // there is no file
     (
         1,
         ("open D/list", ErrorKind::NotFound),
-        "open D/list\nopened \nopen D/list\nwrite 6\nflush \nsync \n",
+        "open D/list\ncreate D/~pzic7\nopened \nwrite 6\nflush \nsync \nrename D/~pzic7\nto D/list\n",
     ),
     (
         1,
         ("open D/list", ErrorKind::PermissionDenied),
         "open D/list\nfailed",
     ),
+    // another run has the temporary name
+    (
+        0,
+        ("create D/~pzic7", ErrorKind::AlreadyExists),
+        "open D/list\ncreate D/~pzic7\ncreate D/~pzic8\nopened \nflush \nsync \nrename D/~pzic8\nto D/list\n",
+    ),
     (
         1,
-        ("cut 0", ErrorKind::Other),
-        "open D/list\nopened \ncut 0\nfailed",
+        ("create D/~pzic7", ErrorKind::PermissionDenied),
+        "open D/list\ncreate D/~pzic7\nopened \ncut 0\nwrite 6\nflush \nsync \n",
+    ),
+    (
+        1,
+        ("create D/~pzic7", ErrorKind::Other),
+        "open D/list\ncreate D/~pzic7\nfailed",
+    ),
+    (
+        1,
+        ("write 6", ErrorKind::Other),
+        "open D/list\ncreate D/~pzic7\nopened \nwrite 6\nremove D/~pzic7\nfailed",
     ),
     (
         1,
         ("sync ", ErrorKind::Other),
-        "open D/list\nopened \ncut 0\nwrite 6\nflush \nsync \nfailed",
+        "open D/list\ncreate D/~pzic7\nopened \nwrite 6\nflush \nsync \nremove D/~pzic7\nfailed",
+    ),
+    (
+        1,
+        ("to D/list", ErrorKind::Other),
+        "open D/list\ncreate D/~pzic7\nopened \nwrite 6\nflush \nsync \nrename D/~pzic7\nto D/list\n\
+remove D/~pzic7\nfailed",
     ),
 ];
 
 #[test]
-fn the_file_of_a_list_is_emptied_once_it_is_used(rt: HostRuntime) {
+fn a_list_has_its_path_once_it_is_whole(rt: HostRuntime) {
     for (lines, fails, want) in &LISTS {
         let calls = RefCell::new(String::new(rt.alloc()));
         let disk = Disk {

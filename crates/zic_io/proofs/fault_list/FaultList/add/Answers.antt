@@ -5,7 +5,7 @@ use Rattle.zic_plan.specs.Noted.{RowNote}
 use Rattle.zic_io.specs.Faults.{IsFaultLine, IsRecordLine, fault_of}
 use Rattle.zic_io.specs.code.FaultList.{Gets}
 use Rattle.zic_io.proofs.FaultLemmas.{count_rises, file_grows, first_stays}
-use Rattle.zic_io.proofs.fault_list.FaultListRowLog.note.Goals as goal
+use Rattle.zic_io.proofs.fault_list.FaultList.add.Goals as goal
 
 pub invariant_of-self : goal.invariant_of-self
 invariant_of-self g c =

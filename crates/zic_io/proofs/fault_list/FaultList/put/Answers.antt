@@ -3,7 +3,7 @@ use Rattle.zic_plan.specs.Noted.{RowNote}
 use Rattle.zic_io.specs.Faults.{IsRecordLine}
 use Rattle.zic_io.specs.code.FaultList.{IsFileFor, held_in}
 use Rattle.zic_io.proofs.FaultLemmas.{begins_there, no_rows, none_is}
-use Rattle.zic_io.proofs.fault_list.FaultListRowLog.begin.Goals as goal
+use Rattle.zic_io.proofs.fault_list.FaultList.put.Goals as goal
 
 pub invariant_of-self : goal.invariant_of-self
 invariant_of-self g c =
