@@ -1,7 +1,9 @@
 #!/usr/bin/env bash
 # Checks messages and statuses where inputs can't be read and outputs fail: closed streams, full disks, pipes without a reader.
 # It has folders in place of files and files in place of folders, links, a disk that is full after some bytes, and a folder that may
-# not be written. As root, it tries that folder as the user nobody. It ends conversions in each way whose lists can't be written.
+# not be written. It has trees in which a system call fails, by `strace`, names with line ends, and tables that are pipes or links. It
+# ends conversions in each way whose lists can't be written. As root, it tries what may not be read or written as the user nobody.
+# Parts need: strace
 set -euo pipefail
 cd "$(dirname "${BASH_SOURCE[0]}")/../.."
 . tests/common.sh
@@ -32,6 +34,88 @@ echo Zonk >faulty
 printf x >column
 rest=$({ "$program" convert faulty 2>../err || cat; } <column)
 [ "$rest" = x ] || differ "of the column of a faulty source only '$rest' is left"
+
+# ------------------------------------------------------------------ trees that can't be read
+
+printf 'Zone Etc/UTC 0 - UTC\nZone Z/EST -5 - EST\n' >two
+"$program" build old.tree two
+"$program" build new.tree two
+printf 'Etc/UTC,0\nZ/EST,0\n' >zones.csv
+
+# hurt CALL ERROR PATH WORD...: runs the program, where a system call fails with an error for a path.
+hurt() {
+    status=0
+    strace -f -o ../trace -P "$3" -e "trace=$1" -e "inject=$1:error=$2" "$program" "${@:4}" <zones.csv >../out 2>../err || status=$?
+}
+
+# What is there and can't be read isn't removed.
+if strace -o /dev/null true 2>/dev/null; then
+    for call in 'open,openat EIO' 'open,openat EMFILE' 'open,openat ENFILE' 'read EIO' '%stat EIO'; do
+        hurt ${call% *} "${call#* }" new.tree/Z/EST diff --trees old.tree new.tree
+        told "pzic diff --trees, where ${call% *} gives ${call#* }" 3 '' 'cannot read new.tree/Z/EST'
+        hurt ${call% *} "${call#* }" new.tree/Z/EST diff --trees --summary new.tree old.tree
+        told "pzic diff --trees --summary, where ${call% *} gives ${call#* }" 3 '' 'cannot read new.tree/Z/EST'
+    done
+    hurt open,openat EMFILE new.tree/Z/ diff --trees old.tree new.tree
+    told 'pzic diff --trees, of a folder that is not opened' 3 '' 'cannot read new.tree/Z/'
+else
+    echo "skipped: trees that can't be read: there is no strace that can trace here"
+fi
+
+# What may not be read. A column may name anything, so there it is no zone.
+chmod 755 . ..
+run=()
+if [ "$(id -u)" = 0 ]; then run=(setpriv --reuid 65534 --regid 65534 --clear-groups); fi
+chmod 000 new.tree/Z/EST
+status=0
+"${run[@]}" "$program" diff --trees old.tree new.tree >../out 2>../err || status=$?
+told 'pzic diff --trees, of a file that may not be read' 3 '' 'cannot read new.tree/Z/EST'
+status=0
+"${run[@]}" "$program" convert --keep-going --tree new.tree <zones.csv >../out 2>../err || status=$?
+told 'pzic convert --tree, of a file that may not be read' 1 $'Etc/UTC,0,1970-01-01T00:00:00,+00:00:00,0,UTC\nZ/EST,0,,,,' $'row 2: RowZone\n1 row with a fault'
+chmod 644 new.tree/Z/EST
+for mode in 000 444; do
+    chmod $mode new.tree/Z
+    for command in 'diff --trees old.tree new.tree' 'verify --strict new.tree two'; do
+        status=0
+        "${run[@]}" "$program" $command >../out 2>../err || status=$?
+        path=new.tree/Z/
+        if [ "$mode" = 444 ]; then path=new.tree/Z/EST; fi
+        told "pzic $command, of a folder of mode $mode" 3 '' "cannot read $path"
+    done
+    chmod 755 new.tree/Z
+done
+
+# A name with a line end makes no line of its own, and a path beyond the limit of the system isn't passed over.
+: >$'new.tree/a\nextra b'
+expect 1 'extra a\x0aextra b' 'tree differs' verify --strict new.tree two
+rm $'new.tree/a\nextra b'
+part=$(printf 'd%.0s' {1..250})
+deep=new.tree
+(
+    cd new.tree
+    for ((i = 0; i < 20; i++)); do mkdir "$part" && cd "$part"; done
+    : >lost
+)
+for ((i = 0; i < 17; i++)); do deep=$deep/$part; done
+expect 3 '' "cannot read $deep" verify --strict new.tree two
+rm -r new.tree/d*
+
+# ------------------------------------------------------------------ tables that are no regular files
+
+mkdir tables
+mkfifo tables/zone.tab
+status=0
+timeout 20 "$program" build --tables tables tabled plain >../out 2>../err || status=$?
+told 'pzic build --tables, of a pipe' 3 '' 'cannot read tables/zone.tab'
+rm tables/zone.tab
+echo secret >secret
+ln -s ../secret tables/zone.tab
+expect 3 '' 'cannot read tables/zone.tab' build --tables tables tabled plain
+rm tables/zone.tab
+mkdir tables/zone.tab
+expect 3 '' 'cannot read tables/zone.tab' build --tables tables tabled plain
+[ ! -e tabled ] || differ 'a folder was made where a table cannot be read'
 
 # ------------------------------------------------------------------ outputs that fail
 
@@ -192,8 +276,6 @@ chmod 755 . ..
 echo old >tree/list
 chmod 666 tree/list
 chmod 555 tree
-run=()
-if [ "$(id -u)" = 0 ]; then run=(setpriv --reuid 65534 --regid 65534 --clear-groups); fi
 status=0
 "${run[@]}" "$program" build tree plain >../out 2>../err || status=$?
 told 'pzic build into a folder that may not be written' 3 '' 'cannot write tree/Etc/UTC'

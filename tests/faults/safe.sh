@@ -306,6 +306,15 @@ done
 cp faulty.zi "$red.zi"
 "$program" check --explain "$red.zi" 2>../err || true
 grep -qxF -- "--> $shown.zi:1" <(sed 's/,.*//' ../err) && ! grep -q $'\e' ../err || differ "check --explain: '$(cat ../err)'"
+# A path or a name in the first line of a failure.
+: >file
+for words in "check No$red" "build file/No$red utc.zi" "convert --tree tree --zone No$red --time-field 1" "convert --tree No$red"; do
+    # shellcheck disable=SC2086
+    "$program" $words <column >../out 2>../err && differ "pzic ${words//$red/$shown}: no error" || true
+    calls=$((calls + 1))
+    [ "$(wc -l <../err)" = 1 ] && ! grep -q $'\e' ../err && grep -qF "No$shown" ../err ||
+        differ "pzic ${words//$red/$shown}: '$(head -c 300 ../err)'"
+done
 cp faulty.zi Zürich.zi
 "$program" check --explain Zürich.zi 2>../err || true
 grep -q -- '^--> Zürich.zi:1' ../err || differ "check --explain of a path beyond ASCII: '$(cat ../err)'"

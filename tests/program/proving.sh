@@ -9,6 +9,7 @@ work=${work:?}
 mkdir -p "$work"/{bin,tmp,kit/bin,house/docs}
 cp -r pzic tools "$work/house"
 cp -r docs/help "$work/house/docs"
+printf '%s 1\n' low zic_main >"$work/house/tools/first-build.txt"
 cd "$work"
 export PATH=$work/bin:$PATH TMPDIR=$work/tmp LARGE_PAGES=$work/pages NOTED=$work/noted KIT=$work/kit
 calls=0 differences=0 proofs=0

@@ -8,7 +8,7 @@ use std::random::RandomSource;
 use std::sync::Wait;
 use std::thread::Threads;
 use zic_command_line::{Building, Links};
-use zic_host::{random_number, read_texts};
+use zic_host::{Refusal, random_number, read_texts};
 use zic_io::{Disk, Durability, Failure, LinkKind, LinkedFolder};
 
 /// Compiles sources, and places their files in a folder, with tables and the name of a release if these
@@ -16,20 +16,33 @@ use zic_io::{Disk, Durability, Failure, LinkKind, LinkedFolder};
 ///
 /// # Errors
 ///
-/// Why the texts or tables aren't read or the texts have no files, `CannotWrite` with the path of a file
-/// or folder, or `Memory`.
+/// Why the texts or tables aren't read or the texts have no files, the text of usage where a zone has the
+/// name of one of the other files, `CannotWrite` with the path of a file or folder, or `Memory`.
 pub fn build<R: Files + Input + RandomSource + AllocGlobal + Threads + Wait + Sync>(
     rt: &R,
     order: &Building,
     texts: &mut Vec<Vec<u8>>,
-) -> Result<Ending, Failure> {
+) -> Result<Ending, Refusal> {
     read_texts(rt, &order.sources, texts)?;
     let Some(extras) = Extras::of(rt, order, texts)? else {
         return Ok(Ending::NoRelease);
     };
-    let placed = place(rt, order, texts, &extras);
+    let placed = place_with(rt, order, texts, &extras);
     drop(extras);
     placed
+}
+
+/// Places the files of the texts and these others in the folder, unless two of them have one name.
+fn place_with<R: Files + RandomSource + AllocGlobal + Threads + Wait + Sync>(
+    rt: &R,
+    order: &Building,
+    texts: &[Vec<u8>],
+    extras: &Extras,
+) -> Result<Ending, Refusal> {
+    if order.release.is_some() || order.tables.is_some() {
+        extras.expect_room(rt.alloc(), texts)?;
+    }
+    Ok(place(rt, order, texts, extras)?)
 }
 
 /// Places the files of the texts and these others in the folder.

@@ -5,6 +5,7 @@ ghost use Rattle.zic_compare.specs.Files.{HasInstants};
 ghost use Rattle.zic_compile.specs.Build.{AreFilesOfTexts};
 ghost use Rattle.zic_source.specs.Texts.{texts_of};
 
+use crate::folder::Folder;
 use std::fs::Files;
 use std::io::{Input, Write};
 use std::random::RandomSource;
@@ -13,12 +14,11 @@ use std::thread::Threads;
 use std::time::Clock;
 use zic_command_line::Differences;
 use zic_compare::{Compared, Comparison, Listed, Sides, Survey};
-use zic_files::{Files as ZoneFiles, TreeFiles};
+use zic_files::Files as ZoneFiles;
 use zic_host::{
-    OldAndNew, expect_folder, fault_in, names_below, old_and_new, random_number, read_texts,
-    show_of_folders, show_of_sources, tell,
+    OldAndNew, fault_in, old_and_new, read_texts, show_of_folders, show_of_sources, tell,
 };
-use zic_io::{Failure, ZoneFolder};
+use zic_io::Failure;
 use zic_pieces::Open;
 use zic_plan::Plan;
 use zic_rows::FIRST_INSTANT;
@@ -55,7 +55,7 @@ pub fn diff<
         if differing.shows_release {
             show_of_folders(rt, &mut errors, differing.sources)?;
         }
-        diff_trees(rt, differing.plan, differing.sources, &how)
+        diff_trees(rt, &mut errors, differing.plan, differing.sources, &how)
     } else {
         read_texts(rt, differing.sources, texts)?;
         if differing.shows_release {
@@ -145,8 +145,9 @@ fn text_files<R: AllocGlobal + Threads + Wait + Sync>(
 }
 
 /// Lists when the files of the last folder answer otherwise than those of the first.
-fn diff_trees<R: Files + Print + RandomSource + AllocGlobal + Threads + Wait + Sync>(
+fn diff_trees<R: Files + Print + RandomSource + AllocGlobal + Threads + Wait + Sync, E: Write>(
     rt: &R,
+    errors: &mut E,
     plan: &Plan,
     folders: &[String],
     how: &Listed,
@@ -156,23 +157,68 @@ fn diff_trees<R: Files + Print + RandomSource + AllocGlobal + Threads + Wait + S
     let (Some(old), Some(new)) = (folders.first(), folders.last()) else {
         return Ok(());
     };
-    let old = tree_files(rt, old)?;
-    let done = diff_tree(rt, plan, old.files(), new, how);
+    let old = Folder::read(rt, old)?;
+    let done = diff_tree(rt, errors, plan, &old, new, how);
     drop(old);
     done
 }
 
-/// Lists when the files of a folder answer otherwise than these.
-fn diff_tree<R: Files + Print + RandomSource + AllocGlobal + Threads + Wait + Sync>(
+/// Lists when the files of a folder answer otherwise than those of this one.
+fn diff_tree<R: Files + Print + RandomSource + AllocGlobal + Threads + Wait + Sync, E: Write>(
     rt: &R,
+    errors: &mut E,
     plan: &Plan,
-    old: &ZoneFiles,
+    old: &Folder<'_>,
     new: &String,
     how: &Listed,
 ) -> Result<(), Failure>
     requires { HasInstants how.now }
 {
-    let new = tree_files(rt, new)?;
+    let new = Folder::read(rt, new)?;
+    let done = diff_folders(rt, errors, plan, old, &new, how);
+    drop(new);
+    done
+}
+
+/// Lists when the files of two folders answer otherwise. A name whose file is refused in one of them is
+/// left out of both: it is neither removed nor added.
+fn diff_folders<R: Files + Print + RandomSource + AllocGlobal + Threads + Wait + Sync, E: Write>(
+    rt: &R,
+    errors: &mut E,
+    plan: &Plan,
+    old: &Folder<'_>,
+    new: &Folder<'_>,
+    how: &Listed,
+) -> Result<(), Failure>
+    requires { HasInstants how.now }
+{
+    let refused_old = old.tell_refused(rt, errors, new.zones.files())?;
+    let refused_new = new.tell_refused(rt, errors, old.zones.files())?;
+    if refused_old.is_empty() && refused_new.is_empty() {
+        let sides = Sides {
+            old: old.zones.files(),
+            new: new.zones.files(),
+        };
+        return diff_files(rt, plan, &sides, how);
+    }
+    let old = old.read_but(rt, &refused_new)?;
+    let done = diff_but(rt, plan, old.files(), new, &refused_old, how);
+    drop(old);
+    done
+}
+
+/// Lists when the files of a folder, but for those of these names, answer otherwise than these.
+fn diff_but<R: Files + Print + RandomSource + AllocGlobal + Threads + Wait + Sync>(
+    rt: &R,
+    plan: &Plan,
+    old: &ZoneFiles,
+    new: &Folder<'_>,
+    refused: &[String],
+    how: &Listed,
+) -> Result<(), Failure>
+    requires { HasInstants how.now }
+{
+    let new = new.read_but(rt, refused)?;
     let sides = Sides {
         old,
         new: new.files(),
@@ -180,17 +226,6 @@ fn diff_tree<R: Files + Print + RandomSource + AllocGlobal + Threads + Wait + Sy
     let done = diff_files(rt, plan, &sides, how);
     drop(new);
     done
-}
-
-/// Returns the files of a folder that rows can be made of.
-fn tree_files<R: Files + RandomSource + AllocGlobal>(
-    rt: &R,
-    path: &String,
-) -> Result<TreeFiles, Failure> {
-    expect_folder(rt, path)?;
-    let names = names_below(rt, path)?;
-    let mut folder = ZoneFolder::new(rt, path.as_str());
-    Ok(zic_compare::read_tree(rt.alloc(), random_number(rt), &mut folder, &names)?)
 }
 
 /// Lists when the files of two lists answer otherwise.

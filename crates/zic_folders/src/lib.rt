@@ -6,6 +6,7 @@ mod building;
 mod differing;
 mod ending;
 mod extras;
+mod folder;
 mod verifying;
 
 pub use building::build;

@@ -1,12 +1,14 @@
 //! `verify`: whether a folder has just the files of sources.
 
 use crate::ending::Ending;
+use std::alloc::{AllocError, Global};
 use std::fs::Files;
 use std::io::Input;
 use std::sync::Wait;
 use std::thread::Threads;
+use zic_explain::shown_word;
 use zic_files::Files as ZoneFiles;
-use zic_host::{expect_folder, names_below, read_texts, tell};
+use zic_host::{expect_folder, is_missing, names_below, read_texts, tell};
 use zic_io::{Failure, ZoneFolder};
 use zic_plan::Plan;
 use zic_source_commands::files_of;
@@ -34,11 +36,31 @@ pub fn verify<R: Files + Input + Print + AllocGlobal + Threads + Wait + Sync>(
     texts: &mut Vec<Vec<u8>>,
 ) -> Result<Ending, Failure> {
     read_texts(rt, verifying.sources, texts)?;
-    expect_folder(rt, verifying.folder)?;
+    let missing = is_missing(rt, verifying.folder.as_str());
+    if !missing {
+        expect_folder(rt, verifying.folder)?;
+    }
     let files = files_of(rt, rt.alloc(), verifying.plan, texts)?;
-    let ending = verify_files(rt, verifying, &files);
+    let ending = if missing {
+        verify_none(verifying.folder, &files)
+    } else {
+        verify_files(rt, verifying, &files)
+    };
     drop(files);
     ending
+}
+
+/// Ends well where there are no files: `build` makes no folder for these.
+///
+/// # Errors
+///
+/// `CannotRead` with the path of the folder, which is missing, or `Memory`.
+fn verify_none(folder: &String, files: &ZoneFiles) -> Result<Ending, Failure> {
+    if files.len() == 0 {
+        Ok(Ending::Done)
+    } else {
+        Err(Failure::CannotRead(folder.clone()?))
+    }
 }
 
 /// Prints what the folder doesn't have of these files and, if that counts, has besides them.
@@ -72,7 +94,16 @@ fn push_extra<R: Files + AllocGlobal>(
     path: &String,
     lines: &mut Vec<u8>,
 ) -> Result<(), Failure> {
-    let names = names_below(rt, path)?;
+    let names = shown_names(rt.alloc(), &names_below(rt, path)?)?;
     lines.extend_from_slice(&zic_compare::extra(rt.alloc(), files, &names)?)?;
     Ok(())
+}
+
+/// Returns names as they are shown: no line end in one begins another line. That of a zone stays as it is.
+fn shown_names(alloc: Global, names: &[String]) -> Result<Vec<String>, AllocError> {
+    let mut shown = Vec::new(alloc);
+    for name in names {
+        shown.push(shown_word(alloc, name.as_str())?)?;
+    }
+    Ok(shown)
 }

@@ -1,6 +1,6 @@
 //! Folders, and the names of their files.
 
-use std::alloc::{AllocError, Global};
+use std::alloc::Global;
 use std::fs::{self, DirEntry, Files};
 use std::io::{self, ErrorKind};
 use zic_io::Failure;
@@ -15,6 +15,14 @@ pub fn expect_folder<R: Files>(rt: &R, path: &String) -> Result<(), Failure> {
         Ok(info) if info.is_dir() => Ok(()),
         Err(e) if e.kind() == ErrorKind::OutOfMemory => Err(Failure::Memory),
         _ => Err(Failure::CannotRead(path.clone()?)),
+    }
+}
+
+/// Returns whether nothing has a path.
+pub fn is_missing<R: Files>(rt: &R, path: &str) -> bool {
+    match fs::metadata(rt, path) {
+        Err(e) => e.kind() == ErrorKind::NotFound,
+        Ok(_) => false,
     }
 }
 
@@ -69,10 +77,7 @@ fn list<R: Files + AllocGlobal>(
     names: &mut Names,
 ) -> Result<(), Failure> {
     let path = format!(in rt.alloc(); "{root}/{folder}")?;
-    match list_at(rt, path.as_str(), folder, names) {
-        Ok(()) => Ok(()),
-        Err(e) => Err(unreadable(e, path)),
-    }
+    list_at(rt, path.as_str(), folder, names)
 }
 
 /// Adds the names of the files and folders in the folder at a path.
@@ -81,57 +86,64 @@ fn list_at<R: Files + AllocGlobal>(
     path: &str,
     folder: &str,
     names: &mut Names,
-) -> io::Result<()> {
-    let entries = fs::read_dir(&rt, path)?;
-    for entry in entries {
-        add_entry(rt.alloc(), entry, folder, names)?;
+) -> Result<(), Failure> {
+    match fs::read_dir(&rt, path) {
+        Ok(entries) => {
+            for entry in entries {
+                add_entry(rt.alloc(), entry, path, folder, names)?;
+            }
+            Ok(())
+        }
+        Err(e) => Err(unreadable(rt.alloc(), &e, path)),
     }
-    Ok(())
 }
 
-/// Adds the name of an entry of a folder, unless it isn't UTF-8.
+/// Adds the name of an entry of the folder at a path, unless it isn't UTF-8.
 fn add_entry<D: Files + Drop>(
     alloc: Global,
     entry: io::Result<DirEntry<D>>,
+    path: &str,
     folder: &str,
     names: &mut Names,
-) -> io::Result<()> {
+) -> Result<(), Failure> {
     match entry {
         Ok(entry) => {
-            let added = add(alloc, &entry, folder, names);
+            let added = add(alloc, &entry, path, folder, names);
             drop(entry);
-            match added {
-                Ok(()) => Ok(()),
-                Err(_) => Err(io::Error::from(ErrorKind::OutOfMemory)),
-            }
+            added
         }
         Err(e) if e.kind() == ErrorKind::InvalidFilename => Ok(()),
-        Err(e) => Err(e),
+        Err(e) => Err(unreadable(alloc, &e, path)),
     }
 }
 
-/// Adds the name of a file or of a folder.
+/// Adds the name of a file or of a folder. What can't be told to be either isn't taken for a file: it may
+/// be a folder whose path is too long, or that may not be entered.
 fn add<D: Files>(
     alloc: Global,
     entry: &DirEntry<D>,
+    path: &str,
     folder: &str,
     names: &mut Names,
-) -> Result<(), AllocError> {
+) -> Result<(), Failure> {
     let name = entry.file_name();
     match entry.file_type() {
-        Ok(kind) if kind.is_dir() => {
-            names.folders.push(format!(in alloc; "{folder}{name}/")?)?;
+        Ok(kind) if kind.is_dir() => names.folders.push(format!(in alloc; "{folder}{name}/")?)?,
+        Ok(_) => names.files.push(format!(in alloc; "{folder}{name}")?)?,
+        // It was removed since the folder was listed.
+        Err(e) if e.kind() == ErrorKind::NotFound => {}
+        Err(e) => {
+            let path = format!(in alloc; "{path}{name}")?;
+            return Err(unreadable(alloc, &e, path.as_str()));
         }
-        _ => names.files.push(format!(in alloc; "{folder}{name}")?)?,
     }
     Ok(())
 }
 
-/// Returns the failure for a folder that can't be read.
-fn unreadable(e: io::Error, path: String) -> Failure {
-    if e.kind() == ErrorKind::OutOfMemory {
-        Failure::Memory
-    } else {
-        Failure::CannotRead(path)
+/// Returns the failure for a path that can't be read for this reason.
+fn unreadable(alloc: Global, e: &io::Error, path: &str) -> Failure {
+    match String::from_str(alloc, path) {
+        Ok(path) if e.kind() != ErrorKind::OutOfMemory => Failure::CannotRead(path),
+        _ => Failure::Memory,
     }
 }

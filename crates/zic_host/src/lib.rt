@@ -4,12 +4,14 @@
 #![tactic(auto)]
 
 mod folder;
+mod reading;
 mod refusal;
 mod release;
 mod sources;
 mod system;
 
-pub use folder::{expect_folder, names_below};
+pub use folder::{expect_folder, is_missing, names_below};
+pub use reading::{NamesFrom, UnreadFile, WholeFolder};
 pub use refusal::Refusal;
 pub use release::{VERSION, release_of, show_of_folders, show_of_sources};
 pub use sources::{OldAndNew, fault_in, old_and_new, read_texts};

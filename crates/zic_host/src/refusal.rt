@@ -4,8 +4,10 @@ ghost use Rattle.std.specs.Prelude.{◌≡◌};
 ghost use Rattle.zic_host.specs.Status.{refusal_of, refusal_status};
 ghost use Rattle.zic_host.specs.declared.refusal.Refusal.TheVariants.{Command};
 
+use std::alloc::{AllocError, Global};
 use thiserror::Error;
 use zic_command_line::NoRequest;
+use zic_explain::shown_word;
 use zic_io::Failure;
 
 /// Why the program gives up. Its text goes to standard error.
@@ -39,6 +41,39 @@ impl Refusal {
             Refusal::Differs => 1,
             Refusal::Command(failure) | Refusal::Explained { failure, .. } => failure.status(),
         }
+    }
+}
+
+impl Refusal {
+    /// Returns the refusal as people see it: control characters of a path or a name in its first line are
+    /// shown as `\x1b`, so that a terminal takes none for a command, and none begins a line of its own.
+    pub fn shown(self, alloc: Global) -> Refusal {
+        match self {
+            Refusal::Command(failure) => Refusal::Command(shown(alloc, failure)),
+            Refusal::Explained { failure, text } => Refusal::Explained {
+                failure: shown(alloc, failure),
+                text,
+            },
+            other => other,
+        }
+    }
+}
+
+/// Returns a failure with its path or name as it is shown, or that memory ran out.
+fn shown(alloc: Global, failure: Failure) -> Failure {
+    match with_shown_word(alloc, failure) {
+        Ok(failure) => failure,
+        Err(_) => Failure::Memory,
+    }
+}
+
+/// Returns a failure with its path or name as it is shown.
+fn with_shown_word(alloc: Global, failure: Failure) -> Result<Failure, AllocError> {
+    match failure {
+        Failure::CannotRead(path) => Ok(Failure::CannotRead(shown_word(alloc, path.as_str())?)),
+        Failure::CannotWrite(path) => Ok(Failure::CannotWrite(shown_word(alloc, path.as_str())?)),
+        Failure::UnknownZone(name) => Ok(Failure::UnknownZone(shown_word(alloc, name.as_str())?)),
+        other => Ok(other),
     }
 }
 

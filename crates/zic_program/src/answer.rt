@@ -10,14 +10,13 @@ use std::time::Clock;
 use zic_command_line::Request;
 use zic_converting::{Noted, convert};
 use zic_folders::{Differing, Ending, Verifying, build, diff, verify};
-use zic_host::tell;
-use zic_io::Failure;
+use zic_host::{Refusal, tell};
 
 /// Does what a request asks for.
 pub(crate) fn answer<
     R: Files + Input + Print + Clock + RandomSource + AllocGlobal + Threads + Wait + Sync,
     E: Write + IsTerminal + Drop,
->(rt: &R, errors: E, request: &Request, noted: &mut Noted) -> Result<Ending, Failure> {
+>(rt: &R, errors: E, request: &Request, noted: &mut Noted) -> Result<Ending, Refusal> {
     let texts = &mut noted.texts;
     let done = match request {
         Request::Build(order) => return build(rt, order, texts),
@@ -33,7 +32,7 @@ pub(crate) fn answer<
                 plan,
                 strict: *strict,
             };
-            return verify(rt, &verifying, texts);
+            return Ok(verify(rt, &verifying, texts)?);
         }
         Request::Check { source, plan } => check(rt, source, plan, texts),
         Request::Diff {
@@ -62,6 +61,6 @@ pub(crate) fn answer<
     };
     match done {
         Ok(()) => Ok(Ending::Done),
-        Err(failure) => Err(failure),
+        Err(failure) => Err(Refusal::Command(failure)),
     }
 }

@@ -46,7 +46,7 @@ fn run_line<
             drop(noted);
             ended(ending)
         }
-        Err(reason) => Err(explained(rt, explainer, noted, reason)),
+        Err(reason) => Err(explained(rt, explainer, noted, reason).shown(rt.alloc())),
     }
 }
 
@@ -83,10 +83,7 @@ fn run_noted<
             explainer.read_by(&order.layout);
         }
     }
-    match answer(rt, errors, request, noted) {
-        Ok(ending) => Ok(ending),
-        Err(failure) => Err(Refusal::Command(failure)),
-    }
+    answer(rt, errors, request, noted)
 }
 
 /// Returns whether the program ends well.
