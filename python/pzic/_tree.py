@@ -4,7 +4,9 @@ from __future__ import annotations
 
 import ctypes
 import errno
+import hashlib
 import os
+import pickle
 import stat
 from functools import lru_cache
 from types import MappingProxyType
@@ -175,6 +177,9 @@ class Tree(_Zones):
     says that no file has the name, :class:`BadName` that no file can have it, and :class:`BadFile`
     that the file isn't a TZif file of version 2 or 3. The names that are listed are those of the files that can be opened; folders that are
     links aren't looked through.
+
+    A pickle of a tree, or of a zone of one, has the checksum of the files that were read, and not their bytes. Where
+    the folder has other files, reading the pickle raises :class:`pickle.UnpicklingError`.
     """
 
     __module__ = "pzic"
@@ -223,8 +228,14 @@ class Tree(_Zones):
     def __repr__(self) -> str:
         return f"pzic.Tree({self._folder!r})"
 
-    def __reduce__(self) -> Tuple[Type[Tree], Tuple[str]]:
-        return type(self), (self._folder,)
+    def __reduce__(self) -> Tuple[Any, ...]:
+        read = tuple(sorted(self._zones))
+        return _tree_of_pickle, (type(self), self._folder, read, self._all is not None, self._checksum(read))
+
+    def _checksum(self, names: Iterable[str]) -> str:
+        """Return the checksum of the files of these names, and of all names that were listed if all files were read."""
+        listed = () if self._all is None else tuple(sorted({*self._all, *self._all.left_out}))
+        return checksum(*(part for name in names for part in (name.encode(), self.data(name))), repr(listed).encode())
 
     def files(self, names: Optional[Iterable[str]] = None) -> Files:
         """Return the files of these names, by default of all that are listed, as they are now or were
@@ -252,7 +263,8 @@ class Tree(_Zones):
         return self._files_for(None)._owned
 
     def _make(self, name: str) -> Zone:
-        return zone_named(self._read(name), name, (zone_of_folder, (self._folder, name)))
+        data = self._read(name)
+        return zone_named(data, name, (zone_of_folder, (self._folder, name, checksum(data))))
 
     def _numbers(self, names: List[str]) -> Tuple[Owned, List[int]]:
         files = self.files(names)
@@ -298,14 +310,40 @@ class Tree(_Zones):
         return True
 
 
-@lru_cache(maxsize=16)
-def _opened(folder: str) -> Tree:
-    return Tree(folder)
+def checksum(*parts: bytes) -> str:
+    """Return a checksum of byte strings, each with its length."""
+    made = hashlib.sha256()
+    for part in parts:
+        made.update(b"%d:" % len(part) + part)
+    return made.hexdigest()
 
 
-def zone_of_folder(folder: str, name: str) -> Zone:
-    """Return a zone of a pickle. A process reads a file for its pickles once."""
-    return _opened(folder)[name]
+@lru_cache(maxsize=4096)
+def zone_of_folder(folder: str, name: str, wanted: Optional[str] = None) -> Zone:
+    """Return a zone of a pickle. A process reads a file for its pickles once.
+
+    ``wanted`` is the checksum of the file's bytes when the zone was pickled; earlier versions pickled none.
+    Raises :class:`pickle.UnpicklingError` where the file has other bytes.
+    """
+    zone = Tree(folder)[name]
+    if wanted is not None and checksum(zone.data) != wanted:
+        raise pickle.UnpicklingError(f"{os.path.join(folder, name)} isn't the file that was pickled")
+    return zone
+
+
+def _tree_of_pickle(kind: Type[Tree], folder: str, read: Tuple[str, ...], whole: bool, wanted: str) -> Tree:
+    """Return a tree of a pickle: its class, its folder, the names whose files were read, whether all files were
+    read at once, and the checksum of these. Raises :class:`pickle.UnpicklingError` where the folder has other files."""
+    tree = kind(folder)
+    try:
+        if whole:
+            tree._files_for(None)
+        same = tree._checksum(read) == wanted
+    except (KeyError, BadFile):
+        same = False
+    if not same:
+        raise pickle.UnpicklingError(f"{folder} hasn't the files that were pickled")
+    return tree
 
 
 class Compiled(_InMemory):

@@ -8,7 +8,6 @@ a shell. Needs ``dask`` and ``distributed``.
 from __future__ import annotations
 
 import argparse
-import hashlib
 import importlib
 import json
 import os
@@ -18,6 +17,7 @@ from typing import Any, Dict, List, NamedTuple, Optional, Sequence, Tuple, Union
 
 from pzic import Compiled, Files, Tree, __version__
 from pzic._rows import Layout
+from pzic._tree import checksum
 
 _Zones = Union[Tree, Compiled]
 
@@ -74,29 +74,26 @@ class _Job(NamedTuple):
 
 
 #: The zones that this process made, by their checksum.
-_made: Dict[str, Union[Compiled, Files]] = {}
+_made: Dict[str, _Zones] = {}
 
 
 def _digest(*parts: object) -> str:
-    sum_ = hashlib.sha256()
-    for part in parts:
-        octets = part if isinstance(part, bytes) else repr(part).encode()
-        sum_.update(b"%d:" % len(octets) + octets)
-    return sum_.hexdigest()
+    return checksum(*(part if isinstance(part, bytes) else repr(part).encode() for part in parts))
 
 
-def _files_digest(files: Files) -> str:
-    return _digest("tree", *(part for name in files for part in (name, files.data(name))))
+def _tree_digest(tree: Tree) -> str:
+    """Return the checksum of the names that a tree lists, and of their files."""
+    return _digest("tree", *(part for name in tree for part in (name, tree.data(name))))
 
 
 def _sent(zones: _Zones) -> _Sent:
     """Return what workers are sent of zones."""
     if isinstance(zones, Tree):
-        return _Sent(_files_digest(zones.files()), (), zones.folder)
+        return _Sent(_tree_digest(zones), (), zones.folder)
     return _Sent(_digest(*zones.texts), zones.texts, None)
 
 
-def _zones(sent: _Sent) -> Union[Compiled, Files]:
+def _zones(sent: _Sent) -> _Zones:
     """Return the zones of this process, made once."""
     zones = _made.get(sent.digest)
     if zones is None:
@@ -104,13 +101,13 @@ def _zones(sent: _Sent) -> Union[Compiled, Files]:
     return zones
 
 
-def _zones_made(sent: _Sent) -> Union[Compiled, Files]:
+def _zones_made(sent: _Sent) -> _Zones:
     if sent.folder is None:
         return Compiled(*sent.texts)
-    files = Tree(sent.folder).files()
-    if _files_digest(files) != sent.digest:
+    tree = Tree(sent.folder)
+    if _tree_digest(tree) != sent.digest:
         raise RuntimeError(f"{sent.folder} has other files here")
-    return files
+    return tree
 
 
 def _lines(block: bytes, layout: Layout, skipped: int, rows: Sequence[int]) -> List[Optional[int]]:
@@ -260,13 +257,15 @@ def convert(
     return _report(names, jobs, done, into, made, sent.digest)
 
 
-def add_local(frame: Any, zones: _Zones, names: str = "zone", instants: str = "instant") -> Any:
+def add_local(frame: Any, zones: Union[_Zones, Files], names: str = "zone", instants: str = "instant") -> Any:
     """Return a Dask frame with the columns ``offset``, ``local``, ``daylight`` and ``abbreviation`` added, by its
-    columns of zones' names and of instants."""
+    columns of zones' names and of instants. Workers are sent what :func:`convert` sends them, and all bytes of
+    :class:`pzic.Files`."""
     meta = frame._meta.assign(
         offset=0, local=_nothing("datetime64[ns]"), daylight=False, abbreviation=_nothing("object")
     )
-    return frame.map_partitions(_with_local, zones, names, instants, meta=meta)
+    sent = _dask.delayed(zones if isinstance(zones, Files) else _sent(zones), traverse=False)
+    return frame.map_partitions(_with_local, sent, names, instants, meta=meta)
 
 
 def _nothing(kind: str) -> Any:
@@ -274,7 +273,8 @@ def _nothing(kind: str) -> Any:
     return pandas.Series([], dtype=kind)
 
 
-def _with_local(frame: Any, zones: _Zones, names: str, instants: str) -> Any:
+def _with_local(frame: Any, sent: Union[_Sent, Files], names: str, instants: str) -> Any:
+    zones = sent if isinstance(sent, Files) else _zones(sent)
     # What came from another worker may not be aligned: a copy is.
     own = frame[[names, instants]].copy()
     columns = zones.convert_columns(own[names], own[instants])
@@ -287,7 +287,8 @@ def _with_local(frame: Any, zones: _Zones, names: str, instants: str) -> Any:
 
 
 def offsets(zone: Any, instants: Any) -> Any:
-    """Return the UT offsets of a zone at the instants of a Dask array."""
+    """Return the UT offsets of a zone at the instants of a Dask array. Workers are sent the zone as a pickle: of a
+    zone of a folder the path and the checksum, and they fail if they have another file there."""
     import numpy
 
     return instants.map_blocks(_offsets, zone, dtype=numpy.int32)

@@ -160,6 +160,47 @@ def frames(zones):
     print("dask: frames and arrays")
 
 
+def of_another_release(source, work):
+    """A frame and an array by a tree are refused where the folder has other files in the meantime."""
+    try:
+        import dask
+        import dask.array
+        import dask.dataframe
+        import numpy
+        import pandas
+    except ImportError:
+        return
+    folder = f"{work}/changing"
+    tree = pzic.Tree(folder)
+    os.mkdir(folder)
+    compiled = pzic.Tree.compile(source)
+
+    def place(like):
+        with open(f"{folder}/Zone", "wb") as file:
+            file.write(compiled.data(like))
+
+    place("Europe/Dublin")
+    frame = dask.dataframe.from_pandas(pandas.DataFrame({"zone": ["Zone"] * 4, "instant": numpy.arange(4)}), npartitions=2)
+    lazy = pzic.dask.add_local(frame, tree)
+    array = pzic.dask.offsets(tree["Zone"], dask.array.from_array(numpy.arange(4), chunks=2))
+    place("Europe/Rome")
+    pzic.dask._made.clear()
+    try:
+        lazy.compute(scheduler="synchronous")
+    except RuntimeError as error:
+        expect("another release", str(error), f"{folder} has other files here")
+    else:
+        raise SystemExit("dask: another release: no error")
+    expect("another release", list(array.compute(scheduler="synchronous")), [compiled["Europe/Dublin"].utcoffset(0)] * 4)
+    try:
+        array.compute(scheduler="processes")
+    except Exception as error:
+        expect("another release", "isn't the file that was pickled" in str(error), True)
+    else:
+        raise SystemExit("dask: another release: no error by processes")
+    print("dask: no other release")
+
+
 def main(program, source, work):
     clean, faulty = make_files(f"{work}/clean", False), make_files(f"{work}/faulty", True)
     headed = make_files(f"{work}/headed", True, header=True)
@@ -179,6 +220,8 @@ def main(program, source, work):
             first_fault(program, [source], faulty, f"{work}/d", client, compiled, [], {})
             first_fault(program, [source], clean, f"{work}/g", client, compiled, ["--max-record", "25"], {"max_record": 25})
             frames(compiled)
+            frames(pzic.Tree(f"{work}/tree"))
+            of_another_release(source, work)
             killed(program, [source], clean, f"{work}/e", client, compiled, workers)
             address = client.scheduler.address
         words = ["convert", "--source", source, "--max-record", "100", "--scheduler", address, "--into", f"{work}/f", *clean]

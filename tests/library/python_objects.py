@@ -90,6 +90,37 @@ def copy_trees(tree, path):
     check(list(compiled) == ["Fixed", "Zone", "Other"] and list(files) == ["A"], "after the copies")
 
 
+def pickles_of_other_files(tree):
+    """A pickle of a folder's zone or of a tree isn't read over files other than those that were read."""
+    with tempfile.TemporaryDirectory() as folder:
+        def place(name, like):
+            with open(os.path.join(folder, name), "wb") as file:
+                file.write(tree.data(like))
+
+        place("A", "Europe/Dublin")
+        place("B", "Europe/Paris")
+        one, every = pzic.Tree(folder), pzic.Tree(folder)
+        zone, moment = one["A"], datetime(2024, 7, 3, tzinfo=one.tzinfo("A"))
+        every.convert(b"A,0\n")
+        kept = [pickle.dumps(value) for value in (zone, moment, one, every)]
+        for value, text in zip((zone, moment), kept):
+            check(pickle.loads(text) == value, "the same files", value)
+        check(pickle.loads(kept[2])["A"] == pickle.loads(kept[3])["A"] == zone, "the same files")
+        place("C", "Europe/Rome")
+        check(pickle.loads(kept[2])["A"] == zone, "a file that wasn't read")
+        refuses(pickle.UnpicklingError, pickle.loads, kept[3])
+        os.remove(os.path.join(folder, "C"))
+        place("B", "Europe/Rome")
+        check(pickle.loads(kept[2])["A"] == zone, "a file that wasn't read")
+        refuses(pickle.UnpicklingError, pickle.loads, kept[3])
+        place("A", "Europe/Rome")
+        pzic._tree.zone_of_folder.cache_clear()
+        for text in kept:
+            refuses(pickle.UnpicklingError, pickle.loads, text)
+        os.remove(os.path.join(folder, "A"))
+        refuses(pickle.UnpicklingError, pickle.loads, kept[2])
+
+
 def copy_time_zones(tree, data):
     dublin = tree.tzinfo("Europe/Dublin")
     check(tree.tzinfo("Europe/Dublin") is dublin is tree["Europe/Dublin"].tzinfo(), "one object")
@@ -575,6 +606,7 @@ def main():
     data = tree.data("Europe/Dublin")
     copy_zones(tree, data)
     copy_trees(tree, folder)
+    pickles_of_other_files(tree)
     copy_time_zones(tree, data)
     copy_errors(tree)
     use_processes(tree)
