@@ -56,7 +56,9 @@ impl RowLog for Notebook {
         }
     }
 
-    fn flush(&mut self) {}
+    fn flush(&mut self) -> bool {
+        true
+    }
 }
 
 /// Returns the layout of columns with details, whose rows with faults are put aside.

@@ -8,8 +8,8 @@ ghost use Rattle.pzic_files.specs.Layout.{fault_number, from_number, header_numb
 use std::alloc::{AllocError, Global};
 use std::str::from_utf8;
 use zic_plan::{
-    AtFault, Delimiter, Disambiguation, FieldCount, Header, Layout, Notes, Records, RowStart,
-    Style, TimeFrom, Unit, Written, ZoneFrom,
+    AtFault, Delimiter, Disambiguation, FieldCount, Header, Layout, Notes, Quotes, Records,
+    RowStart, Style, TimeFrom, Unit, Written, ZoneFrom,
 };
 
 /// How a column is read, and what its rows are, by numbers.
@@ -231,6 +231,7 @@ pub(crate) fn layout_of(
         unit,
         delimiter,
         records,
+        quotes: Quotes::Lenient,
         header,
         max_record: limit_of(given.max_record),
         start,

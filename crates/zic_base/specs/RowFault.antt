@@ -16,6 +16,7 @@ row_kind_number kind.RowSkipped = 41
 row_kind_number kind.RowRepeated = 42
 row_kind_number kind.RowQuote = 43
 row_kind_number kind.RowTooLong = 44
+row_kind_number kind.HeaderIsRow = 45
 
 -- the word for a kind: its name
 abbrev pub row_kind_word : RowKind → List ℕ
@@ -29,3 +30,4 @@ row_kind_word kind.RowSkipped = codes "RowSkipped"
 row_kind_word kind.RowRepeated = codes "RowRepeated"
 row_kind_word kind.RowQuote = codes "RowQuote"
 row_kind_word kind.RowTooLong = codes "RowTooLong"
+row_kind_word kind.HeaderIsRow = codes "HeaderIsRow"

@@ -21,17 +21,19 @@ pub enum RowKind {
     RowSkipped = 41,
     /// Clocks show the local time more than once.
     RowRepeated = 42,
-    /// The double quotes of a line are open at its end, where each line is a record.
+    /// The double quotes of a record are open at its end, or a byte follows those of a field.
     RowQuote = 43,
     /// A record has more bytes than records may have.
     RowTooLong = 44,
+    /// The record that is taken for a header names a known zone and has a valid time.
+    HeaderIsRow = 45,
 }
 
 impl RowKind {
     ghost use Rattle.std.specs.Prelude.{◌≢◌, MatchOption};
     ghost use Rattle.zic_base.specs.RowFault.{row_kind_number, row_kind_word};
 
-    /// Returns the number of the kind, 35 to 44: own choice.
+    /// Returns the number of the kind, 35 to 45: own choice.
     pub fn number(self) -> u8
         ensures { result ≡ row_kind_number self }
     {
@@ -53,6 +55,7 @@ impl RowKind {
             RowKind::RowRepeated => "RowRepeated",
             RowKind::RowQuote => "RowQuote",
             RowKind::RowTooLong => "RowTooLong",
+            RowKind::HeaderIsRow => "HeaderIsRow",
         }
     }
 
@@ -72,6 +75,7 @@ impl RowKind {
             42 => RowKind::RowRepeated,
             43 => RowKind::RowQuote,
             44 => RowKind::RowTooLong,
+            45 => RowKind::HeaderIsRow,
             _ => return None,
         })
     }

@@ -23,6 +23,8 @@ pub enum RunStop {
     Memory,
     /// A worker could not be started. Never answered, since the other workers go on.
     NoThread,
+    /// The log of rows with a fault could not be written on.
+    LogFailed,
 }
 
 impl From<Stop> for RunStop {

@@ -7,8 +7,8 @@ use clap::ArgMatches;
 use std::alloc::{AllocError, Global};
 use zic_io::FaultFields;
 use zic_plan::{
-    AtFault, Delimiter, Disambiguation, FieldCount, Header, Layout, Notes, Records, RowStart,
-    Style, TimeFrom, Unit, Written, ZoneFrom,
+    AtFault, Delimiter, Disambiguation, FieldCount, Header, Layout, Notes, Quotes, Records,
+    RowStart, Style, TimeFrom, Unit, Written, ZoneFrom,
 };
 
 /// Returns how a column is read.
@@ -39,6 +39,7 @@ pub(crate) fn layout(
         unit,
         delimiter,
         records,
+        quotes: Quotes::Lenient,
         header,
         max_record: matches.get_one::<u64>("max-record"),
         start,

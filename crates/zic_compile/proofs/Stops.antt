@@ -5,7 +5,7 @@ use Rattle.zic_base.specs.Fault.{fault_of}
 use Rattle.zic_base.specs.declared.fault.Stop.{Stop}
 use Rattle.zic_base.specs.declared.fault.Stop.TheVariants as stop
 use Rattle.zic_base.specs.declared.run_stop.RunStop.{RunStop}
-use Rattle.zic_base.specs.declared.run_stop.RunStop.TheVariants.{Source, Row, ReadFailed, WriteFailed, ColumnTooLong, Memory, NoThread}
+use Rattle.zic_base.specs.declared.run_stop.RunStop.TheVariants.{Source, Row, ReadFailed, WriteFailed, ColumnTooLong, Memory, NoThread, LogFailed}
 use Rattle.zic_base.specs.RunStop.{run_stop}
 use Rattle.zic_source.specs.FirstFault.{IsFirstFault, MayRunOutOfMemory}
 use Rattle.zic_source.specs.Grammar.{IsSource}
@@ -28,6 +28,7 @@ module _ (texts : List (List ℕ)) (source : SourceLines) (is : IsSource texts s
   images_stop ColumnTooLong stops = stops
   images_stop Memory stops = inr (source, is.read)
   images_stop NoThread stops = stops
+  images_stop LogFailed stops = stops
 
   pub images_stops : {X : Type 0} (result : Result X RunStop) → IfErr result (IsStopOfImages source) → IfErr result (IsStopOfBuild texts)
   images_stops (Ok x) stops = tt

@@ -78,6 +78,7 @@ module _ (layout : Layout) (releases : Releases) (most : ℕ) (limit : Option �
   ends_below stop.ColumnTooLong w = lines_below stop.ColumnTooLong w
   ends_below stop.Memory w = lines_below stop.Memory w
   ends_below stop.NoThread w = lines_below stop.NoThread w
+  ends_below stop.LogFailed w = lines_below stop.LogFailed w
 
 -- one of the two lines of a header has no byte
 one_line : (start : RowStart) (names : List ℕ) (header : Header) (d : ℕ) (line own : List ℕ) → (names_of start header line ≡ []) ⊎ (header_of start names d own ≡ [])
@@ -151,6 +152,7 @@ module _ (layout : Layout) (releases : Releases) (most : ℕ) (limit : Option �
   ends_after_names stop.ColumnTooLong w = both stop.ColumnTooLong w
   ends_after_names stop.Memory w = both stop.Memory w
   ends_after_names stop.NoThread w = both stop.NoThread w
+  ends_after_names stop.LogFailed w = both stop.LogFailed w
 
 -- ---- a column below the line of names
 

@@ -107,6 +107,7 @@ module _ (layout : Layout) (most : ℕ) (limit : Option ℕ) (known : Option (Li
   ends_as_read reader failures taken most_bytes (stop.Source fault) is ends = absurd is
   ends_as_read reader failures taken most_bytes stop.WriteFailed is ends = absurd is
   ends_as_read reader failures taken most_bytes stop.NoThread is ends = absurd is
+  ends_as_read reader failures taken most_bytes stop.LogFailed is ends = absurd is
 
 -- what holds of an outcome that is there, by zones
 both_ok : (outcome : Result ℕ Halt) (G : Type 0) (M : Releases → Type 0) (C : ℕ → Releases → Type 0) → IfOk outcome (λ _. G)
@@ -145,6 +146,7 @@ module _ {R W : Type 0} (most : ℕ) (old new : Counts R) (held now : Counts W) 
   reading_cause (stop.Source fault) is = absurd is
   reading_cause stop.WriteFailed is = absurd is
   reading_cause stop.NoThread is = absurd is
+  reading_cause stop.LogFailed is = absurd is
 
   own_cause : (why : RunStop) → IsOwnCause held now why → IsCauseOf most old new held now why
   own_cause (stop.Row row kind) is = is
@@ -154,6 +156,7 @@ module _ {R W : Type 0} (most : ℕ) (old new : Counts R) (held now : Counts W) 
   own_cause stop.ColumnTooLong is = absurd is
   own_cause (stop.Source fault) is = absurd is
   own_cause stop.NoThread is = absurd is
+  own_cause stop.LogFailed is = absurd is
 
   pub cause_end : (outcome : Result ℕ Halt) (result : Result ℕ RunStop) → IsEnd new old.failures old.taken most outcome result → IfErr outcome (IsCauseOfHalt held now)
       → IfErr result (IsCauseOf most old new held now)

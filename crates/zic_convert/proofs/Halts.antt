@@ -52,6 +52,7 @@ module _ {W : Type 0} (contents : W → Option (List ℕ)) (once : FilesAnswerOn
   ends_in_rows rs come rows are stop.ColumnTooLong h = absurd h
   ends_in_rows rs come rows are stop.Memory h = absurd h
   ends_in_rows rs come rows are stop.NoThread h = absurd h
+  ends_in_rows rs come rows are stop.LogFailed h = absurd h
 
 module _ (once : FilesAnswerOnce) (layout : Layout) (releases : Releases) (most : ℕ) (limit : Option ℕ) (sound : AreSoundReleases releases) (all : List CsvRecord)
     (left : Option (List ℕ)) (n : ℕ) (more : Option ℕ) (old mid : Option (List ℕ)) (log now : Option (List RowNote)) (far : IsSoFar layout releases most limit all left n more (output old mid log now)) where

@@ -68,6 +68,7 @@ module _ {W : Type 0} (contents : W → Option (List ℕ)) where
     halts_before own is stop.ReadFailed ends = absurd ends
     halts_before own is stop.ColumnTooLong ends = absurd ends
     halts_before own is stop.NoThread ends = absurd ends
+    halts_before own is stop.LogFailed ends = absurd ends
 
     -- the column was not begun, and nothing was written
     pub halts_begun : (why : Halt) → HaltsAtBegin layout known why → new ≡ old → HaltsAtHead contents old new layout known why
@@ -79,6 +80,7 @@ module _ {W : Type 0} (contents : W → Option (List ℕ)) where
     halts_begun (halt.Stop stop.ColumnTooLong) begun same = absurd begun
     halts_begun (halt.Stop stop.Memory) begun same = absurd begun
     halts_begun (halt.Stop stop.NoThread) begun same = absurd begun
+    halts_begun (halt.Stop stop.LogFailed) begun same = absurd begun
 
     -- the cause
     pub cause_at_head : (why : Halt) → HaltsAtHead contents old new layout known why → IsCauseOfHalt old new why
@@ -90,6 +92,7 @@ module _ {W : Type 0} (contents : W → Option (List ℕ)) where
     cause_at_head (halt.Stop stop.ReadFailed) ends = absurd ends
     cause_at_head (halt.Stop stop.ColumnTooLong) ends = absurd ends
     cause_at_head (halt.Stop stop.NoThread) ends = absurd ends
+    cause_at_head (halt.Stop stop.LogFailed) ends = absurd ends
 
 -- a column was not begun, whose header could not be passed over
 pub header_halts : (layout : Layout) (known left : Option (List ℕ)) (mode : Records) → mode ≡ layout.records → IfSome known (λ bytes. left ≡ Some (strip_bom bytes)) → records_before layout.header ≡ 1 → (why : Halt)
@@ -107,6 +110,7 @@ header_halts layout known left mode by bytes header (halt.Stop stop.WriteFailed)
 header_halts layout known left mode by bytes header (halt.Stop stop.ColumnTooLong) is = absurd is
 header_halts layout known left mode by bytes header (halt.Stop stop.Memory) is = absurd is
 header_halts layout known left mode by bytes header (halt.Stop stop.NoThread) is = absurd is
+header_halts layout known left mode by bytes header (halt.Stop stop.LogFailed) is = absurd is
 
 -- the first record is as long with the delimiter put back
 long_put : (d : ℕ) (most : Option ℕ) (given : List CsvRecord) → BeginsTooLong most given → BeginsTooLong most (map (exchanged_record d) given)
@@ -185,6 +189,7 @@ module _ (layout : Layout) (most : ℕ) (limit : Option ℕ) (law : RecordsByAre
     ends_at_head (halt.Stop stop.ReadFailed) ends = absurd ends
     ends_at_head (halt.Stop stop.ColumnTooLong) ends = absurd ends
     ends_at_head (halt.Stop stop.NoThread) ends = absurd ends
+    ends_at_head (halt.Stop stop.LogFailed) ends = absurd ends
 
   -- the rest of a column was converted, once its header was written
   module _ (releases : Releases) (left : Option (List ℕ)) (old mid new : Option (List ℕ)) (log last : Option (List RowNote))

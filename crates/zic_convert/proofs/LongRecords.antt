@@ -25,6 +25,7 @@ stop_cause contents old new row kind stop.ReadFailed is = absurd is
 stop_cause contents old new row kind stop.ColumnTooLong is = absurd is
 stop_cause contents old new row kind stop.Memory is = absurd is
 stop_cause contents old new row kind stop.NoThread is = absurd is
+stop_cause contents old new row kind stop.LogFailed is = absurd is
 
 module _ {W : Type 0} (contents : W → Option (List ℕ)) (old new : Counts W) (layout : Layout) (releases : Releases) (most : ℕ) (limit : Option ℕ) (number : ℕ) (given : CsvRecord) (kind : RowKind)
     (ends : ends_by layout releases.zones most number given ≡ Some kind) (log : Option (List RowNote)) where
@@ -65,3 +66,4 @@ module _ {W : Type 0} (contents : W → Option (List ℕ)) (old new : Counts W) 
   long_stops stop.ColumnTooLong is = absurd is
   long_stops stop.Memory is = absurd is
   long_stops stop.NoThread is = absurd is
+  long_stops stop.LogFailed is = absurd is

@@ -142,6 +142,7 @@ module _ {W : Type 0} (contents : W → Option (List ℕ)) (old new : Counts W) 
   alone_ends stop.ColumnTooLong few h = absurd h
   alone_ends stop.Memory few h = absurd h
   alone_ends stop.NoThread few h = absurd h
+  alone_ends stop.LogFailed few h = absurd h
 
   -- a row alone that has one fault too many is the first, and nothing is written
   module _ (row : ℕ) (kind : RowKind) (before : List RowNote) (many : IsOneTooMany limit (joined (rows ∷ [])).faults row kind before) where
@@ -196,6 +197,7 @@ module _ {W : Type 0} (contents : W → Option (List ℕ)) (old new : Counts W) 
     alone_stops stop.ColumnTooLong is = absurd is
     alone_stops stop.Memory is = absurd is
     alone_stops stop.NoThread is = absurd is
+    alone_stops stop.LogFailed is = absurd is
 
 -- the text of an open line that doesn't end the run is its own bytes, unless it is put aside
 pub open_text : (layout : Layout) (files : List File) (most number : ℕ) (kind : RowKind) (own : List ℕ) → fault_by layout files most number (open_record own) ≡ Some kind → ending layout.at_fault layout.records (Some kind) ≡ None

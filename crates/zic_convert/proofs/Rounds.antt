@@ -142,6 +142,7 @@ module _ (layout : Layout) (most : ℕ) (limit : Option ℕ) (rs : List CsvRecor
   rows_end_alike rows stop.ColumnTooLong h = absurd h
   rows_end_alike rows stop.Memory h = absurd h
   rows_end_alike rows stop.NoThread h = absurd h
+  rows_end_alike rows stop.LogFailed h = absurd h
 
   ends_alike : (why : RunStop) → EndsInRecords layout known most limit first rs contents held now log log' why → EndsInRecords layout releases most limit first rs contents held now log log' why
   ends_alike why (inl memory) = inl memory
@@ -177,6 +178,7 @@ module _ {Z : Type 0} (known_of : Z → Releases) (settled : Z → List ℕ → 
   no_round new (halt.Stop stop.WriteFailed) is = absurd is
   no_round new (halt.Stop stop.ColumnTooLong) is = absurd is
   no_round new (halt.Stop stop.NoThread) is = absurd is
+  no_round new (halt.Stop stop.LogFailed) is = absurd is
 
   -- some records were taken, and their zones made ready
   module _ (then : Z) (grows : grown zones then) (rs : List CsvRecord) (next : Option (List ℕ)) (takes : Takes layout left next rs) where

@@ -99,6 +99,7 @@ module _ (alike : PlainColumnsConvertAlike) (layout : Layout) (plain : HasPlainR
   ends_in run column row_records are stop.ColumnTooLong w = lines_part column row_records are stop.ColumnTooLong run w
   ends_in run column row_records are stop.Memory w = lines_part column row_records are stop.Memory run w
   ends_in run column row_records are stop.NoThread w = lines_part column row_records are stop.NoThread run w
+  ends_in run column row_records are stop.LogFailed w = lines_part column row_records are stop.LogFailed run w
 
   -- nothing was written
   module _ (once : FilesAnswerOnce) (sound : AreSoundFiles files) (read : ColumnRecordsAreRead) where

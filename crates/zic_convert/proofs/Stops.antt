@@ -35,3 +35,4 @@ stops_at contents old mid new log last pieces i all first kind some wrote notes 
 stops_at contents old mid new log last pieces i all first kind some wrote notes stop.ColumnTooLong is = absurd is
 stops_at contents old mid new log last pieces i all first kind some wrote notes stop.Memory is = absurd is
 stops_at contents old mid new log last pieces i all first kind some wrote notes stop.NoThread is = absurd is
+stops_at contents old mid new log last pieces i all first kind some wrote notes stop.LogFailed is = absurd is

@@ -47,6 +47,7 @@ WritesAtOf head Converts stop.WriteFailed old new = WritesPartOf head Converts o
 WritesAtOf head Converts stop.ColumnTooLong old new = WritesPartOf head Converts old new
 WritesAtOf head Converts stop.Memory old new = WritesPartOf head Converts old new
 WritesAtOf head Converts stop.NoThread old new = WritesPartOf head Converts old new
+WritesAtOf head Converts stop.LogFailed old new = WritesPartOf head Converts old new
 
 -- what is written of a column that is converted whole
 abbrev pub WritesAll : List File → ℕ → List ℕ → ℕ → Option (List ℕ) → Option (List ℕ) → Type 0
@@ -67,3 +68,4 @@ IsCauseOf most reader reader' writer writer' (stop.Row row kind) = writer'.failu
 IsCauseOf most reader reader' writer writer' stop.Memory = Unit {0}
 IsCauseOf most reader reader' writer writer' (stop.Source fault) = ⊥
 IsCauseOf most reader reader' writer writer' stop.NoThread = ⊥
+IsCauseOf most reader reader' writer writer' stop.LogFailed = ⊥

@@ -192,6 +192,7 @@ pub fn run_failure(stop: RunStop, texts: usize) -> Failure
         RunStop::ColumnTooLong => Failure::ColumnTooLong,
         RunStop::Memory => Failure::Memory,
         RunStop::NoThread => Failure::NoThread,
+        RunStop::LogFailed => Failure::CannotWriteRows,
     }
 }
 

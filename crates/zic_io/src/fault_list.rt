@@ -203,7 +203,7 @@ impl<W: Write> RowLog for FaultList<W> {
         self.add(row);
     }
 
-    fn flush(&mut self)
+    fn flush(&mut self) -> bool
         ensures keeps { Some self.new.noted ≡ Some self.old.noted }
         ensures fields { self.new.fields ≡ self.old.fields }
         ensures faults { IsSameList self.old.faults self.new.faults }
@@ -214,5 +214,6 @@ impl<W: Write> RowLog for FaultList<W> {
             let _ = self.rejects.finish();
             self.holds_back = false;
         }
+        true
     }
 }

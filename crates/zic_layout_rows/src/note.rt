@@ -59,9 +59,11 @@ fn value_at_fault(
         | RowKind::RowRange
         | RowKind::RowSkipped
         | RowKind::RowRepeated => copy_field(alloc, piece, given.time),
-        RowKind::TooManyRows | RowKind::RowTooLong | RowKind::RowQuote | RowKind::RowFields => {
-            Ok(Vec::new(alloc))
-        }
+        RowKind::TooManyRows
+        | RowKind::RowTooLong
+        | RowKind::RowQuote
+        | RowKind::RowFields
+        | RowKind::HeaderIsRow => Ok(Vec::new(alloc)),
     }
 }
 

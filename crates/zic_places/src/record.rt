@@ -30,9 +30,11 @@ impl RecordForm {
             | RowKind::RowLocal
             | RowKind::RowSkipped
             | RowKind::RowRepeated => Some(self.time),
-            RowKind::RowFields | RowKind::TooManyRows | RowKind::RowQuote | RowKind::RowTooLong => {
-                None
-            },
+            RowKind::RowFields
+            | RowKind::TooManyRows
+            | RowKind::RowQuote
+            | RowKind::RowTooLong
+            | RowKind::HeaderIsRow => None,
         }
     }
 

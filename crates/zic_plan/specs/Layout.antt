@@ -7,6 +7,7 @@ use Rattle.zic_plan.specs.declared.layout.FieldCount.TheVariants as fields
 use Rattle.zic_plan.specs.declared.layout.Header.{Header}
 use Rattle.zic_plan.specs.declared.layout.Header.TheVariants as header
 use Rattle.zic_plan.specs.declared.layout.Records.TheVariants as by
+use Rattle.zic_plan.specs.declared.layout.Quotes.TheVariants as quotes
 use Rattle.zic_plan.specs.declared.layout.RowStart.TheVariants as starts
 use Rattle.zic_plan.specs.declared.layout.Style.TheVariants as styles
 use Rattle.zic_plan.specs.declared.layout.TimeFrom.TheVariants as times
@@ -25,7 +26,7 @@ records_before header.Absent = 0
 records_before header.First = 1
 records_before header.Skipped = 1
 
--- A record is one of CSV, of any length, and has two fields, the name of a zone and seconds, with a comma between them. Each row is
+-- A record is one of CSV, of any length and with any double quotes, and has two fields, the name of a zone and seconds, with a comma between them. Each row is
 -- written, begins with these fields, and has local time and UT offset in two more, and the first fault ends the conversion.
 pub record HasPlainRows (layout : Layout) : Type 0 where
   pub zone : layout.zone ≡ from.Field 0
@@ -35,6 +36,7 @@ pub record HasPlainRows (layout : Layout) : Type 0 where
   pub unit : layout.unit ≡ units.Second
   pub delimiter : layout.delimiter ≡ 44
   pub records : layout.records ≡ by.Csv
+  pub quotes : layout.quotes ≡ quotes.Lenient
   pub max_record : layout.max_record ≡ None
   pub start : layout.start ≡ starts.Fields
   pub style : layout.style ≡ styles.Fields

@@ -66,6 +66,16 @@ pub enum Records {
     Lines,
 }
 
+/// Which double quotes a record may have, besides those that RFC 4180 has.
+#[derive(Clone, Copy, Debug, PartialEq, Eq)]
+pub enum Quotes {
+    /// None: a record has a fault whose double quotes are open at its end, or in which a byte follows the
+    /// double quote that ends a field, and is neither a delimiter, a double quote nor a line end.
+    Strict,
+    /// All: a field goes on after its double quotes, and the end of the column ends a record between them.
+    Lenient,
+}
+
 /// Whether the first record of a column is a header, which makes no row and isn't counted, and
 /// whether a header is written before the rows.
 #[derive(Clone, Copy, Debug, PartialEq, Eq)]
@@ -147,6 +157,8 @@ pub struct Layout {
     pub delimiter: Delimiter,
     /// Where a record ends.
     pub records: Records,
+    /// Which double quotes a record may have.
+    pub quotes: Quotes,
     /// Whether there is a header.
     pub header: Header,
     /// The most bytes that a record may have, without its line end; `None` sets no limit.
@@ -165,8 +177,9 @@ pub struct Layout {
 
 impl Layout {
     /// Returns the layout of plain columns: two fields, the name of a zone and seconds, with a
-    /// comma between them, and records of CSV of any length. Each row is written, begins with these
-    /// fields, and has local time and offset in two more, and the first fault ends the conversion.
+    /// comma between them, and records of CSV of any length, with any double quotes. Each row is
+    /// written, begins with these fields, and has local time and offset in two more, and the first fault
+    /// ends the conversion.
     pub fn plain(header: Header) -> Layout
         ensures rows { HasPlainRows result }
         ensures header { result.header ≡ header }
@@ -179,6 +192,7 @@ impl Layout {
             unit: Unit::Second,
             delimiter: Delimiter::comma(),
             records: Records::Csv,
+            quotes: Quotes::Lenient,
             header,
             max_record: None,
             start: RowStart::Fields,

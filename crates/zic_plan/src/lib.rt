@@ -10,8 +10,8 @@ mod row_log;
 pub use delimiter::Delimiter;
 pub use disambiguation::Disambiguation;
 pub use layout::{
-    AtFault, FieldCount, Header, Layout, Notes, Records, RowStart, Style, TimeFrom, Unit, Written,
-    ZoneFrom,
+    AtFault, FieldCount, Header, Layout, Notes, Quotes, Records, RowStart, Style, TimeFrom, Unit,
+    Written, ZoneFrom,
 };
 pub use plan::{MAX_BYTES, MAX_OF_PIECE, MAX_ROWS, MAX_WORKERS, Plan};
 pub use row_log::{FaultDetail, FaultyRow, LineEnd, RowLog, Unnoted};

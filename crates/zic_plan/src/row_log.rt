@@ -42,25 +42,36 @@ impl Model for FaultyRow {
 
 /// Takes note of rows with a fault, in their order.
 pub trait RowLog {
-    ghost use Rattle.std.specs.Prelude.{◌≡◌, [], ◌∷◌, List, Option, None};
+    ghost use Rattle.std.specs.Prelude.{◌≡◌, [], ◌∷◌, ℕ, List, Option, None, IfSome, IsFalse};
     ghost use Rattle.zic_base.specs.Growth.{Gains};
     ghost use Rattle.zic_plan.specs.Noted.{RowNote};
 
     // what was noted, in order, where it is known
     ghost noted: { Self → Option (List RowNote) } = { λ _. None };
 
+    // the own bytes of the header that it began with, where they are known
+    ghost began: { Self → Option (List ℕ) } = { λ _. None };
+
+    // what was noted could not be written
+    ghost failed: { Self → Type 0 } = { λ _. ⊥ };
+
     /// Takes note of the own bytes of the header before the records that are put aside; empty if there
     /// is none.
     fn begin(&mut self, header: &[u8])
-        ensures { noted self.new ≡ noted self.old };
+        ensures noted { noted self.new ≡ noted self.old }
+        ensures began { IfSome (began self.new) (λ own. own ≡ header.now) };
 
     /// Takes note of a row with a fault.
     fn note(&mut self, row: &FaultyRow)
-        ensures { Gains (noted self.old) (noted self.new) (row.now ∷ []) };
+        ensures noted { Gains (noted self.old) (noted self.new) (row.now ∷ []) }
+        ensures began { began self.new ≡ began self.old };
 
-    /// Has files pass on what they hold back, once the rows of a round were written.
-    fn flush(&mut self)
-        ensures { noted self.new ≡ noted self.old };
+    /// Flushes the files, once the rows of a round were written. Returns false only if what was noted
+    /// could not be written: the run then ends.
+    fn flush(&mut self) -> bool
+        ensures noted { noted self.new ≡ noted self.old }
+        ensures began { began self.new ≡ began self.old }
+        ensures failed { IsFalse result → failed self.new };
 }
 
 /// The log that takes no note.
@@ -72,5 +83,7 @@ impl RowLog for Unnoted {
 
     fn note(&mut self, _row: &FaultyRow) {}
 
-    fn flush(&mut self) {}
+    fn flush(&mut self) -> bool {
+        true
+    }
 }
