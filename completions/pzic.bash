@@ -29,10 +29,10 @@ _pzic() {
     fi
     case ${COMP_WORDS[1]} in
     check) options='--workers --zone-piece --explain --help' ;;
-    verify) options='--strict --workers --zone-piece --explain --help' ;;
+    verify) options='--strict --release --tables --workers --zone-piece --explain --help' ;;
     build) options='--links --sync --release --tables --workers --zone-piece --explain --help' ;;
     diff) options='--trees --from --to --ignore --summary --now --show-release --workers --zone-piece --explain --help' ;;
-    convert) options='--workers --zone-piece --row-piece --max-rows --max-bytes --max-record --tree --against --against-tree --header --skip-header --zone --zone-field --time-field --delimiter --unit --from --ambiguous --style --records --append --keep-going --faults --faults-with --rejects --max-faults --progress --show-release --explain --help' ;;
+    convert) options='--workers --zone-piece --row-piece --max-rows --max-bytes --max-record --tree --against --against-tree --header --skip-header --zone --zone-field --time-field --delimiter --unit --from --ambiguous --style --records --quotes --append --keep-going --faults --faults-with --rejects --max-faults --progress --show-release --explain --help' ;;
     show) options='--local --explain --help' ;;
     dump) options='--from --to --explain --help' ;;
     explain)
@@ -73,6 +73,11 @@ _pzic() {
     --records)
         # shellcheck disable=SC2207
         COMPREPLY=($(compgen -W 'csv lines' -- "$current"))
+        return
+        ;;
+    --quotes)
+        # shellcheck disable=SC2207
+        COMPREPLY=($(compgen -W 'strict lenient' -- "$current"))
         return
         ;;
     --from)

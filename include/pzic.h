@@ -446,9 +446,9 @@ static inline int32_t pzic_files_abbreviations(const pzic_handle *files, const u
 
 /* A row of a column that has a fault. */
 typedef struct pzic_row_fault {
-    /* The number of the row, from 1. */
+    /* The number of the row, from 1, or 0 for the header. */
     uint64_t row;
-    /* The number of the kind, 35 to 44. pzic_name_of_fault gives its name. */
+    /* The number of the kind, 35 to 45. pzic_name_of_fault gives its name. */
     uint32_t kind;
 } pzic_row_fault;
 
@@ -482,6 +482,12 @@ enum { PZIC_SECONDS = 0, PZIC_MILLISECONDS = 1, PZIC_MICROSECONDS = 2, PZIC_NANO
 /* Where a record ends: as in CSV, or at each line end. */
 enum { PZIC_RECORDS_CSV = 0, PZIC_RECORDS_LINES = 1 };
 
+/*
+ * A record has the fault RowQuote whose double quotes are open at its end, or in which a byte follows the
+ * double quote that ends a field; or it has none for these, and its field goes on.
+ */
+enum { PZIC_QUOTES_STRICT = 0, PZIC_QUOTES_LENIENT = 1 };
+
 /* No header; the first record is one, and one is written; or it is one, and none is written. */
 enum { PZIC_HEADER_ABSENT = 0, PZIC_HEADER_FIRST = 1, PZIC_HEADER_SKIPPED = 2 };
 
@@ -512,6 +518,7 @@ typedef struct pzic_layout {
     uint32_t start;
     uint32_t at_fault;
     uint32_t style;
+    uint32_t quotes;
     /*
      * The most bytes of a record, without its line end, or 0 for no limit. A longer record has the fault
      * RowTooLong, which ends the run, unless records are lines and at_fault isn't PZIC_FAULT_ENDS: then a row
@@ -520,8 +527,8 @@ typedef struct pzic_layout {
     uint64_t max_record;
 } pzic_layout;
 
-/* The layout of pzic_rows: zone,seconds. */
-#define PZIC_LAYOUT_INIT {0, 1, 2, 0, 0, 0, ',', 0, 0, 0, 0, 0, 0}
+/* Records zone,seconds: the layout of pzic_rows, but for its quotes, which are lenient. */
+#define PZIC_LAYOUT_INIT {0, 1, 2, 0, 0, 0, ',', 0, 0, 0, 0, 0, 0, 0}
 
 /*
  * Converts a column by a layout, on the calling thread: the bytes that `pzic convert` writes, with the
@@ -607,7 +614,7 @@ static inline int32_t pzic_files_diff(const pzic_handle *old_files, const pzic_h
                                       const pzic_diff_options *options, pzic_handle *rows);
 
 /*
- * Copies the name of a fault's kind, 1 to 44, or of a reason, 1 to 14, as the program prints it: as
+ * Copies the name of a fault's kind, 1 to 45, or of a reason, 1 to 14, as the program prints it: as
  * much as there is room for, without a NUL. Gives the whole length, at most 17.
  *
  * PZIC_OK       *length is the whole length, and the first bytes are copied

@@ -79,6 +79,7 @@ class CLayout(ctypes.Structure):
         ("start", ctypes.c_uint32),
         ("at_fault", ctypes.c_uint32),
         ("style", ctypes.c_uint32),
+        ("quotes", ctypes.c_uint32),
         ("max_record", ctypes.c_uint64),
     )
 

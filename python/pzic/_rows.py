@@ -13,6 +13,7 @@ _SOURCES = {"count": 0, "rfc3339": 1}
 _UNITS = {"s": 0, "ms": 1, "us": 2, "ns": 3}
 _RECORDS = {"csv": 0, "lines": 1}
 _STYLES = {"fields": 0, "iso": 1}
+_QUOTES = {"strict": 0, "lenient": 1}
 #: The most bytes of a column.
 MOST_BYTES = 1 << 32
 
@@ -36,7 +37,10 @@ class Layout(NamedTuple):
     with their records by ``append``, and rows with faults are written by ``keep_going``. By the
     ``style`` ``"iso"`` local time and the UT offset are one field, and else two. A record has at most
     ``max_record`` bytes, without its line end; a longer one has the fault ``RowTooLong``, which ends the run
-    unless records are lines and ``keep_going`` is set, and a longer header raises :class:`MemoryError`.
+    unless records are lines and ``keep_going`` is set, and a longer header raises :class:`MemoryError`. By the
+    ``quotes`` ``"strict"`` a record has the fault ``RowQuote`` whose double quotes are open at its end, or in which a
+    byte follows those of a field, and by ``"lenient"`` the field goes on; ``None`` is lenient for the layout of no
+    words, and else strict.
     """
 
     zone: Optional[str] = None
@@ -54,6 +58,7 @@ class Layout(NamedTuple):
     keep_going: bool = False
     style: str = "fields"
     max_record: Optional[int] = None
+    quotes: Optional[str] = None
 
     @property
     def time(self) -> int:
@@ -66,6 +71,11 @@ class Layout(NamedTuple):
     def place(self) -> int:
         """The index of the field of the zone's name."""
         return 0 if self.zone_field is None else self.zone_field - 1
+
+    def _quotes(self) -> str:
+        if self.quotes is not None:
+            return self.quotes
+        return "lenient" if self == Layout() else "strict"
 
     def numbers(self) -> c.CLayout:
         """Return the layout as the library has it, or raise :class:`ValueError`."""
@@ -101,6 +111,7 @@ class Layout(NamedTuple):
             int(self.append),
             int(self.keep_going),
             _number(self.style, _STYLES, "style"),
+            _number(self._quotes(), _QUOTES, "quotes"),
             self.max_record or 0,
         )
 

@@ -316,6 +316,7 @@ def _words() -> argparse.ArgumentParser:
     command.add_argument("--ambiguous", choices=("reject", "earlier", "later", "compatible"))
     command.add_argument("--unit", choices=("s", "ms", "us", "ns"))
     command.add_argument("--records", choices=("csv", "lines"))
+    command.add_argument("--quotes", choices=("strict", "lenient"))
     command.add_argument("--style", choices=("fields", "iso"))
     for name in ("header", "skip-header", "append", "keep-going"):
         command.add_argument(f"--{name}", action="store_true")

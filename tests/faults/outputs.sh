@@ -57,41 +57,75 @@ if strace -o /dev/null true 2>/dev/null; then
         told "pzic diff --trees, where ${call% *} gives ${call#* }" 3 '' 'cannot read new.tree/Z/EST'
         hurt ${call% *} "${call#* }" new.tree/Z/EST diff --trees --summary new.tree old.tree
         told "pzic diff --trees --summary, where ${call% *} gives ${call#* }" 3 '' 'cannot read new.tree/Z/EST'
+        hurt ${call% *} "${call#* }" new.tree/Z/EST verify new.tree two
+        told "pzic verify, where ${call% *} gives ${call#* }" 3 '' 'cannot read new.tree/Z/EST'
+        echo old >list
+        hurt ${call% *} "${call#* }" new.tree/Z/EST convert --keep-going --faults list --tree new.tree
+        told "pzic convert --tree, where ${call% *} gives ${call#* }" 3 '' 'cannot read new.tree/Z/EST'
+        [ "$(cat list)" = old ] || differ "the list of a run that made no row holds '$(cat list)'"
+        rm list
+        for words in '--zone Z/EST --tree new.tree' '--against-tree new.tree two' '--against-tree new.tree --tree old.tree'; do
+            hurt ${call% *} "${call#* }" new.tree/Z/EST convert $words
+            told "pzic convert $words, where ${call% *} gives ${call#* }" 3 '' 'cannot read new.tree/Z/EST'
+        done
     done
+    mkdir tables
+    echo table >tables/zone.tab
+    cp tables/zone.tab new.tree
+    hurt open,openat EMFILE new.tree/zone.tab verify --tables tables new.tree two
+    told 'pzic verify --tables, of a table that is not opened' 3 '' 'cannot read new.tree/zone.tab'
+    rm -r tables new.tree/zone.tab
     hurt open,openat EMFILE new.tree/Z/ diff --trees old.tree new.tree
     told 'pzic diff --trees, of a folder that is not opened' 3 '' 'cannot read new.tree/Z/'
 else
     echo "skipped: trees that can't be read: there is no strace that can trace here"
 fi
 
-# What may not be read. A column may name anything, so there it is no zone.
+# What may not be read.
 chmod 755 . ..
 run=()
 if [ "$(id -u)" = 0 ]; then run=(setpriv --reuid 65534 --regid 65534 --clear-groups); fi
 chmod 000 new.tree/Z/EST
-status=0
-"${run[@]}" "$program" diff --trees old.tree new.tree >../out 2>../err || status=$?
-told 'pzic diff --trees, of a file that may not be read' 3 '' 'cannot read new.tree/Z/EST'
-status=0
-"${run[@]}" "$program" convert --keep-going --tree new.tree <zones.csv >../out 2>../err || status=$?
-told 'pzic convert --tree, of a file that may not be read' 1 $'Etc/UTC,0,1970-01-01T00:00:00,+00:00:00,0,UTC\nZ/EST,0,,,,' $'row 2: RowZone\n1 row with a fault'
+for command in 'diff --trees old.tree new.tree' 'verify new.tree two' 'convert --keep-going --tree new.tree'; do
+    status=0
+    "${run[@]}" "$program" $command <zones.csv >../out 2>../err || status=$?
+    told "pzic $command, of a file that may not be read" 3 '' 'cannot read new.tree/Z/EST'
+done
 chmod 644 new.tree/Z/EST
 for mode in 000 444; do
     chmod $mode new.tree/Z
-    for command in 'diff --trees old.tree new.tree' 'verify --strict new.tree two'; do
+    for command in 'diff --trees old.tree new.tree' 'verify --strict new.tree two' 'convert --keep-going --tree new.tree'; do
         status=0
-        "${run[@]}" "$program" $command >../out 2>../err || status=$?
-        path=new.tree/Z/
-        if [ "$mode" = 444 ]; then path=new.tree/Z/EST; fi
+        "${run[@]}" "$program" $command <zones.csv >../out 2>../err || status=$?
+        path=new.tree/Z/EST
+        if [ "$mode $command" = '000 diff --trees old.tree new.tree' ]; then path=new.tree/Z/; fi
         told "pzic $command, of a folder of mode $mode" 3 '' "cannot read $path"
     done
     chmod 755 new.tree/Z
 done
+# What leads to no file is missing: a link in a circle, a file in the place of a folder, and a name longer than a file's.
+ln -s loop new.tree/loop
+long=$(printf 'Z%.0s' {1..300})
+printf '%s\n' Etc/UTC,0 loop,0 Z/EST/x,0 "$long,0" >lost.csv
+input=lost.csv
+expect 1 "Etc/UTC,0,1970-01-01T00:00:00,+00:00:00,0,UTC
+loop,0,,,,
+Z/EST/x,0,,,,
+$long,0,,,," $'row 2: RowZone\n3 rows with faults' convert --keep-going --tree new.tree
+input=/dev/null
+rm new.tree/loop
 
 # A name with a line end makes no line of its own, and a path beyond the limit of the system isn't passed over.
 : >$'new.tree/a\nextra b'
 expect 1 'extra a\x0aextra b' 'tree differs' verify --strict new.tree two
 rm $'new.tree/a\nextra b'
+# A name that isn't UTF-8 is listed, of a file or a folder.
+: >$'new.tree/Z/b \xc3('
+mkdir $'new.tree/a\xff'
+expect 1 'extra Z/b\x20\xc3(
+extra a\xff' 'tree differs' verify --strict new.tree two
+expect 0 '' '' verify new.tree two
+rm -r $'new.tree/Z/b \xc3(' $'new.tree/a\xff'
 part=$(printf 'd%.0s' {1..250})
 deep=new.tree
 (
@@ -237,16 +271,22 @@ for option in --faults --rejects; do
     expect 3 "$two" "$full"$'\nrow 4: RowInstant\n'"$noted" convert --keep-going $option /dev/full --max-faults 1 plain
     expect 3 "$one" "$full"$'\nrow 3: TooManyRows\n'"$noted" convert --keep-going $option /dev/full --max-rows 2 plain
     expect 3 "$two" "$full"$'\nrow 4: RowTooLong\n'"$noted" convert --keep-going $option /dev/full --max-record 9 plain
-    expect 3 "$one" "$full"$'\ncolumn: ColumnTooLong\n'"$noted" convert --keep-going $option /dev/full --max-bytes 15 plain
-    # The first round of rows is written, and the next can't be.
+    # The rows before the column is too long are a round, after which the list ends the run.
+    expect 3 "$one" "$full"$'\n'"$noted" convert --keep-going $option /dev/full --max-bytes 15 plain
+    # No row can be written, so no fault is noted, and the list has nothing to write.
     status=0
-    (head -n 2 column && sleep 1 && yes Etc/UTC,0 | head -n 1000) 2>../log | (
+    (
         trap '' XFSZ
-        ulimit -f 1
+        ulimit -f 0
         exec "$program" convert --keep-going $option /dev/full plain
-    ) >../out 2>../err || status=$?
+    ) <column 2>&1 >../out | cat >../err || status=$?
+    told "pzic convert $option /dev/full, with no byte of rows" 3 '' 'cannot write rows'
+    # The list ends the run after its first round, though the column has no end.
+    status=0
+    yes x,0 2>../log | timeout 60 "$program" convert --keep-going $option /dev/full plain 2>../err >/dev/null || status=$?
+    sed -i 's/^[0-9]* rows with/N rows with/' ../err
     : >../out
-    told "pzic convert $option /dev/full, with at most 1 KiB of rows" 3 '' "$full"$'\ncannot write rows'
+    told "pzic convert $option /dev/full, of a column without end" 3 '' "$full"$'\nrow 1: RowZone\nN rows with faults'
 done
 # Lists that can't be made are found before the first row.
 mkdir folder

@@ -7,6 +7,9 @@
 # given up without memory. If threads are refused, it gives its whole answer. It never leaves files or rows that aren't part of its
 # whole answer. A `convert` of one zone and of a column of one round starts its workers, all but the calling thread, once, and once
 # more for the rows before a fault.
+# Where threads run side by side, growths have other numbers in each run. So each growth is refused twice: first while the threads
+# run one after the other, each to its end where it is started, so that the numbers of the growths for starts are known from a run
+# before; then while they run side by side, where any answer may be whole.
 # Needs: cc
 set -euo pipefail
 cd "$(dirname "${BASH_SOURCE[0]}")/../.."
@@ -90,12 +93,13 @@ printf '%s\n' 'Link B C' 'Link A B' 'Link Etc/UTC A' 'Zone Etc/UTC 0 - UTC' >cha
 for row in 1 2 3 4 5 6 7 8 9; do echo 'Etc/UTC,0'; done >rows
 sed '4s/0$/x/; 8s/.*/No\/Where,0/' rows >stopped
 
-# run REFUSAL WORD...: runs the program, and keeps its output, its files, its status and its
-# messages.
+# run VARIABLES WORD...: runs the program, and keeps its output, its files, its status, its messages, and the numbers of the growths
+# before starts of threads, if they are told.
 run() {
     rm -rf tree
     status=0
-    timeout 60 env "$1" "LD_PRELOAD=$work/refuse.so" "$program" "${@:2}" <"$input" >out 2>said || status=$?
+    # shellcheck disable=SC2086
+    timeout 60 env $1 "LD_PRELOAD=$work/refuse.so" "$program" "${@:2}" <"$input" >out 2>said || status=$?
     mapfile -t lines <said
     refused=()
     starting=()
@@ -103,7 +107,7 @@ run() {
     for line in "${lines[@]}"; do
         case $line in
         refused*) refused+=("${line#refused}") ;;
-        start*) starting+=("${line#start}") ;;
+        start*) starting+=("${line#start }") ;;
         *) words=$words$line$'\n' ;;
         esac
     done
@@ -124,9 +128,9 @@ is_memory() {
         if [ -s out ]; then cmp -s -n "$(stat -c %s out)" out right.out; fi
 }
 
-# Returns whether the growth was requested where a thread was started after it.
+# in_start N: returns whether a thread was started right after the growth of this number.
 in_start() {
-    [[ "${places[*]} " == *"${refused[0]} "* ]]
+    [[ " ${before_starts[*]} " == *" $1 "* ]]
 }
 
 fail() {
@@ -150,18 +154,23 @@ is_spare() {
 # every WORD...: refuses each growth and each start in turn.
 every() {
     local n whole=0 spare=0
-    TELL_STARTS=1 run REFUSE_GROWTH=0 "$@"
-    places=("${starting[@]}")
+    run 'IN_ORDER=1 TELL_STARTS=1' "$@"
+    before_starts=("${starting[@]}")
     rm -rf right.tree
     mv out right.out
     if [ -e tree ]; then mv tree right.tree; fi
     right_status=$status right_words=$words
     for ((n = 1; ; n++)); do
-        run REFUSE_GROWTH=$n "$@"
+        run "IN_ORDER=1 REFUSE_GROWTH=$n" "$@"
         if [ ${#refused[@]} = 0 ]; then break; fi
-        if is_memory; then continue; fi
-        is_whole && { [ "$status" = 1 ] || in_start || is_spare "$1"; } || fail "$*, REFUSE_GROWTH=$n, of${refused[0]}"
-        whole=$((whole + 1))
+        if ! is_memory; then
+            is_whole && { [ "$status" = 1 ] || in_start $n || is_spare "$1"; } ||
+                fail "$*, IN_ORDER=1 REFUSE_GROWTH=$n, of${refused[0]}"
+            whole=$((whole + 1))
+        fi
+        [ ${#before_starts[@]} != 0 ] || continue
+        run REFUSE_GROWTH=$n "$@"
+        is_memory || is_whole || fail "$*, REFUSE_GROWTH=$n, of${refused[0]-}"
     done
     growths=$((growths + n - 1)) answered=$((answered + whole))
     for ((n = 1; ; n++)); do

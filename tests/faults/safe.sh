@@ -70,8 +70,9 @@ told 'pzic convert --faults list <&- >&- 2>&-' 3 '' ''
 
 # ------------------------------------------------------------------ the file of --faults
 
-"$program" build tree utc.zi
-for list in column utc.zi tree/Etc/UTC; do
+"$program" build --release one tree utc.zi
+echo table >tree/zone1970.tab
+for list in column utc.zi tree/Etc/UTC tree/+VERSION tree/zone1970.tab; do
     ln -f "$list" name
     ln -sf "$list" symbolic
     cp "$list" ../before
@@ -98,6 +99,8 @@ for path in /dev/stdin ../out ../err utc.zi tree/Etc/UTC; do
 done
 convert --keep-going --faults utc.zi --against utc.zi --tree tree
 refused 'pzic convert --faults utc.zi --against utc.zi'
+convert --keep-going --rejects tree/+VERSION --against-tree tree utc.zi
+refused 'pzic convert --rejects tree/+VERSION --against-tree tree'
 echo old >list
 ln -f list name
 for path in list name ./list; do

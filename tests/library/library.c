@@ -24,7 +24,7 @@ _Static_assert(offsetof(pzic_local_time, before) == 24 && offsetof(pzic_local_ti
 _Static_assert(offsetof(pzic_local_time, count) == 32, "count");
 _Static_assert(sizeof(pzic_layout) == 72 && offsetof(pzic_layout, more_fields) == 24, "layout");
 _Static_assert(offsetof(pzic_layout, at_fault) == 52 && offsetof(pzic_layout, style) == 56, "style");
-_Static_assert(offsetof(pzic_layout, max_record) == 64 && sizeof(pzic_abbreviation) == 16, "limit");
+_Static_assert(offsetof(pzic_layout, quotes) == 60 && offsetof(pzic_layout, max_record) == 64 && sizeof(pzic_abbreviation) == 16, "limit");
 _Static_assert(sizeof(pzic_civil) == 72 && offsetof(pzic_civil, month) == 8, "civil");
 _Static_assert(offsetof(pzic_civil, second) == 24 && offsetof(pzic_civil, state) == 32, "time of day");
 _Static_assert(sizeof(pzic_diff_options) == 40 && offsetof(pzic_diff_options, present) == 16, "diff");
@@ -824,11 +824,19 @@ static void convert_by_layouts(void) {
     layout.header = PZIC_HEADER_SKIPPED;
     CHECK(convert_by(&files, &layout, "", column, &rows) == PZIC_NO_MEMORY && rows.kind == 0);
     layout = (pzic_layout)PZIC_LAYOUT_INIT;
+    // Double quotes that RFC 4180 doesn't have are a fault, unless the layout is lenient.
+    static const char *const stray = "Test/Fixed,\"-\"1\n";
+    CHECK(convert_by(&files, &layout, "", stray, &rows) == PZIC_BAD_ROW);
+    CHECK(pzic_rows_faults(&rows, faults, 3, &count) == PZIC_OK && count == 1 && faults[0].row == 1 && faults[0].kind == 43);
+    layout.quotes = PZIC_QUOTES_LENIENT;
+    CHECK(convert_by(&files, &layout, "", stray, &rows) == PZIC_OK);
+    expect_rows(&rows, "Test/Fixed,-1,1970-01-01T00:59:59,+01:00:00,0,XYZ\n");
+    layout.quotes = PZIC_QUOTES_STRICT;
     // Numbers of nothing, what can't be a delimiter, and a name that is no text.
-    for (int i = 0; i < 10; i++) {
+    for (int i = 0; i < 11; i++) {
         pzic_layout other = PZIC_LAYOUT_INIT;
         uint32_t *const numbers[] = {&other.more_fields, &other.from, &other.unit, &other.delimiter, &other.delimiter,
-            &other.records, &other.header, &other.start, &other.at_fault, &other.style};
+            &other.records, &other.header, &other.start, &other.at_fault, &other.style, &other.quotes};
         *numbers[i] = i == 3 ? '"' : i == 4 ? 300 : 9;
         CHECK(convert_by(&files, &other, "", column, &rows) == PZIC_NO_SUCH && rows.kind == 0);
     }
@@ -1211,7 +1219,8 @@ static void name_faults(void) {
     expect_name(pzic_name_of_reason, PZIC_REASON_SHORT, "Short");
     expect_name(pzic_name_of_reason, PZIC_REASON_TOO_LARGE, "TooLarge");
     expect_name(pzic_name_of_fault, 44, "RowTooLong");
-    static const uint32_t others[] = {0, 31, 45, UINT32_MAX};
+    expect_name(pzic_name_of_fault, 45, "HeaderIsRow");
+    static const uint32_t others[] = {0, 31, 46, UINT32_MAX};
     for (int i = 0; i < 4; i++) expect_no_name(pzic_name_of_fault, others[i]);
     expect_no_name(pzic_name_of_reason, 0);
     expect_no_name(pzic_name_of_reason, 15);

@@ -159,6 +159,12 @@ def compile_texts(folder):
     check((caught.row, caught.kind) == (2, "RowZone"), caught)
     caught = refuses(pzic.BadRow, lambda: made.convert(b"A,0\nA,10\nA,1\n", max_record=3, keep_going=True))
     check((caught.row, caught.kind, len(caught.rows)) == (2, "RowTooLong", len(b"A,0,1970-01-01T01:00:00,+01:00:00,0,AAA\n")), caught, caught.rows)
+    check(made.convert(b'A,"1"2\n') == made.rows(b'A,"1"2\n').text == b"A,12,1970-01-01T01:00:12,+01:00:00,0,AAA\n", "plain quotes")
+    check(made.convert(b'A,"1"2\n', time_field=2, quotes="lenient") == made.convert(b"A,12\n"), "lenient quotes")
+    for words in {"time_field": 2}, {"quotes": "strict"}, {"records": "lines"}:
+        caught = refuses(pzic.BadRow, lambda: made.convert(b'A,0\nA,"1"2\n', **words))
+        check((caught.row, caught.kind) == (2, "RowQuote"), caught)
+    refuses(ValueError, lambda: made.convert(b"", quotes="none"))
     check(made.convert(b"A,0\n", max_record=3) == b"A,0,1970-01-01T01:00:00,+01:00:00,0,AAA\n", "max_record")
     refuses(MemoryError, lambda: made.convert(b"zone,time\nA,0\n", header=True, max_record=8))
     refuses(ValueError, lambda: made.convert(b"", max_record=0))

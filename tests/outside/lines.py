@@ -1,6 +1,6 @@
 #!/usr/bin/env python3
 """Has the program convert columns in which each line is a record, with stray double quotes, and compares the rows and the faults with what
-Python's csv module gives of each line by itself.
+Python's csv module gives of each line by itself, which is as strict with double quotes as --quotes says.
 
 usage: lines.py PROGRAM FOLDER
 
@@ -23,6 +23,8 @@ SOURCE = "Zone Etc/UTC 0 - UTC\nZone A/B 1:30 - AB+\n"
 ZONES = {"Etc/UTC": (0, "+00:00:00,0,UTC"), "A/B": (5400, "+01:30:00,0,AB+")}
 FIRST, LAST = -62135510400, 253402214399
 ENDS = ["\n", "\n", "\n", "\r\n", "\r", "\n\n", "\r\n\r\n"]
+# the readings of double quotes, and the options for them
+QUOTES = {"strict": [], "lenient": ["--quotes", "lenient"]}
 
 
 def line_of():
@@ -45,16 +47,19 @@ def line_of():
     return line
 
 
-def record(line):
-    """the fields of a line, or None where its double quotes are open at its end: then the reader reads on"""
-    reader = csv.reader([line, "x"])
-    fields = next(reader)
+def record(line, quotes):
+    """the fields of a line, or None where its double quotes are open at its end, so that the reader reads on, or aren't strict"""
+    reader = csv.reader([line, "x"], strict=quotes == "strict")
+    try:
+        fields = next(reader)
+    except csv.Error:
+        return None
     return fields if reader.line_num == 1 else None
 
 
-def row(line):
+def row(line, quotes):
     """what stands after a line, and its fault"""
-    fields = record(line)
+    fields = record(line, quotes)
     if fields is None:
         return "", "RowQuote"
     if len(fields) < 2:
@@ -70,11 +75,11 @@ def row(line):
     return f",{local.replace(tzinfo=None).isoformat()},{rest}", None
 
 
-def wanted(lines, most=None):
+def wanted(lines, quotes, most=None):
     """the rows of lines, and their faults, where a line may have so many bytes"""
     rows, faults = [], []
     for number, line in enumerate(lines, 1):
-        rest, fault = row(line)
+        rest, fault = row(line, quotes)
         if most is not None and len(line.encode()) > most:
             line, rest, fault = decoded(line.encode()[:most + 4]), "", "RowTooLong"
         rows.append(line + rest + "\n")
@@ -117,24 +122,24 @@ def converted(words, text, burst):
         return status, decoded(file.read()), error
 
 
-def compare(program, folder, what, lines, text):
-    rows, faults = wanted(lines)
+def compare(program, folder, what, lines, text, quotes):
+    rows, faults = wanted(lines, quotes)
     status, error = told(faults)
     for workers in 1, 4:
         for piece, burst in (1024, 0), (3, 0), (3, 7), (1024, 4099):
-            words = [program, "convert", "--records", "lines", "--append", "--keep-going", "--faults", f"{folder}/faults",
+            words = [program, "convert", "--records", "lines", "--append", "--keep-going", "--faults", f"{folder}/faults", *QUOTES[quotes],
                      "--workers", str(workers), "--row-piece", str(piece), f"{folder}/source"]
             if burst == 7 and len(text) > 100000:
                 continue
             got = converted(words, text, burst)
-            call = f"{what}, {workers} workers, pieces of {piece}, bursts of {burst}"
+            call = f"{what}, {quotes}, {workers} workers, pieces of {piece}, bursts of {burst}"
             if got != (status, rows, error):
                 first = next((i for i, (a, b) in enumerate(zip(got[1].split("\n"), rows.split("\n")), 1) if a != b), None)
                 files.differ(f"{call}: status {got[0]}, {got[2]!r}, not {(status, error)!r}; first other row {first}")
             with open(f"{folder}/faults") as file:
                 if file.read() != "".join(faults):
                     files.differ(f"{call}: other faults")
-    files.report(f"{len(lines)} lines of {what}, {len(faults)} with faults, by 1 and 4 workers, pieces of 1,024 and 3, and in bursts")
+    files.report(f"{len(lines)} lines of {what}, {quotes}, {len(faults)} with faults, by 1 and 4 workers, pieces of 1,024 and 3, and in bursts")
 
 
 def in_parts(program, folder, lines):
@@ -143,7 +148,7 @@ def in_parts(program, folder, lines):
     rows = []
     for at in range(0, len(lines), 997):
         rows.append(converted(words, "".join(line + "\n" for line in lines[at:at + 997]), 0)[1])
-    if "".join(rows) != wanted(lines)[0]:
+    if "".join(rows) != wanted(lines, "strict")[0]:
         files.differ("parts: other rows than the whole")
     files.report(f"{len(rows)} parts, cut between lines")
 
@@ -156,17 +161,19 @@ def of_a_length(program, folder, lines):
         some = [line.replace('"', "") if plain else line for line in some]
         most = random.choice([1, len(some[0].encode()), max(len(line.encode()) for line in some), random.randint(8, 30)])
         short = next((i for i, line in enumerate(some) if len(line.encode()) > most), None)
-        rows, faults = wanted(some[:short])
+        quotes = random.choice([*QUOTES])
+        rows, faults = wanted(some[:short], quotes)
         status, error = told(faults)
         answers = {"csv": (status, rows, error) if short is None else (1, rows, f"row {short + 1}: RowTooLong\n{error}")}
-        rows, faults = wanted(some, most)
+        rows, faults = wanted(some, quotes, most)
         answers["lines"] = (told(faults)[0], rows, told(faults)[1])
         text = "".join(line + random.choice(ENDS) for line in some)
         for kind in ("lines", "csv") if plain else ("lines",):
-            words = [program, "convert", "--records", kind, "--append", "--keep-going", "--max-record", str(most), f"{folder}/source"]
+            words = [program, "convert", "--records", kind, "--append", "--keep-going", "--max-record", str(most), *QUOTES[quotes],
+                     f"{folder}/source"]
             for burst in 0, 1:
                 if converted(words, text, burst) != answers[kind]:
-                    files.differ(f"{text!r} with lines of at most {most} bytes: other rows or faults")
+                    files.differ(f"{text!r} with lines of at most {most} bytes, {quotes}: other rows or faults")
     files.report("200 short columns with a limit of lines, whole and byte by byte")
 
 
@@ -190,18 +197,21 @@ def main():
         if random.randrange(3) == 0:
             text = text.rstrip("\r\n")
         lines = [line for line in re.split("[\r\n]", text) if line]
-        rows, faults = wanted(lines)
-        words = [program, "convert", "--records", "lines", "--append", "--keep-going", "--row-piece", str(random.randint(1, 4)), f"{folder}/source"]
+        quotes = random.choice([*QUOTES])
+        rows, faults = wanted(lines, quotes)
+        words = [program, "convert", "--records", "lines", "--append", "--keep-going", "--row-piece", str(random.randint(1, 4)), *QUOTES[quotes],
+                 f"{folder}/source"]
         for burst in 0, 1:
             if converted(words, text, burst) != (told(faults)[0], rows, told(faults)[1]):
-                files.differ(f"{text!r}: other rows or faults")
+                files.differ(f"{text!r}, {quotes}: other rows or faults")
     files.report("200 short columns, whole and byte by byte")
     lines = [line_of() for _ in range(60000)]
     text = "".join(line + random.choice(ENDS) for line in lines)
     lines = [line for line in re.split("[\r\n]", text) if line]
-    compare(program, folder, "a long column", lines, text)
     short = lines[:2000]
-    compare(program, folder, "a short column", short, "\n".join(short))
+    for quotes in QUOTES:
+        compare(program, folder, "a long column", lines, text, quotes)
+        compare(program, folder, "a short column", short, "\n".join(short), quotes)
     of_a_length(program, folder, short)
     in_parts(program, folder, lines)
     without_quotes(program, folder, lines)

@@ -118,6 +118,10 @@ ask convert --header --keep-going --progress --against later plain
 expect_progress 'pzic convert --progress --against later plain' '2 of 5' $'row 4: RowZone\n1 row with a fault'
 ask convert --header --progress --against later plain
 expect_progress 'pzic convert --progress --against later plain, up to a fault' 1 'row 4: RowZone'
+# The last row, whose double quotes are open as those of its record.
+printf 'Etc/UTC,0\nEtc/UTC,0,"\n' >column
+ask convert --append --quotes lenient --progress plain
+expect_progress 'pzic convert --append --quotes lenient --progress plain' 2 ''
 input=/dev/null
 # On a terminal, to which the rows go too.
 status=0

@@ -61,6 +61,27 @@ impl RowLog for Notebook {
     }
 }
 
+/// A log that can't be written from its second flush on.
+#[derive(Drop)]
+struct Unwritable {
+    flushes: u64,
+}
+
+impl RowLog for Unwritable {
+    ghost use Rattle.std.specs.Prelude.{⊤};
+
+    ghost failed = { λ _. ⊤ };
+
+    fn begin(&mut self, _header: &[u8]) {}
+
+    fn note(&mut self, _row: &FaultyRow) {}
+
+    fn flush(&mut self) -> bool {
+        self.flushes = self.flushes.saturating_add(1);
+        self.flushes < 2
+    }
+}
+
 /// Returns the layout of columns with details, whose rows with faults are put aside.
 fn layout_of(header: Header, records: Records) -> Layout {
     let mut layout = Layout::plain(header);
@@ -257,4 +278,32 @@ fn a_long_header_is_row_0(rt: HostRuntime) {
             expect_text(&rt, &notes, b"", "no note");
         }
     }
+}
+
+#[test]
+fn a_failed_log_ends_the_run(rt: HostRuntime) {
+    let alloc = rt.alloc();
+    let files = must(&rt, built(&rt, alloc, "Zone Etc/UTC 0 - UTC\n", 1, &Open));
+    let plan = must(&rt, Plan::new(1, 1, 1, 100, 1000).ok_or(()));
+    let layout = Layout::plain(Header::Absent);
+    let conversion = Conversion {
+        rt: &rt,
+        alloc,
+        plan: &plan,
+        layout: &layout,
+        gate: &Open,
+        max_faults: None,
+    };
+    let mut zones = must(&rt, SourceZones::new(alloc, &files));
+    // Each read gives a row, which is a round.
+    let column = b"Etc/UTC,0\nEtc/UTC,1\nEtc/UTC,2\n";
+    let mut reader = Counted::new(Device::new(column, 10, Ok(())));
+    let mut writer = Counted::new(Vec::new(alloc));
+    let mut log = Unwritable { flushes: 0 };
+    let answer = convert_column(&conversion, &mut zones, &mut reader, &mut writer, &mut log);
+    let rows =
+        b"Etc/UTC,0,1970-01-01T00:00:00,+00:00:00,0,UTC\nEtc/UTC,1,1970-01-01T00:00:01,+00:00:00,0,UTC\n";
+    expect(&rt, answer == Err(RunStop::LogFailed), "a failed log");
+    expect(&rt, reader.taken() == 20, "the third row is not read");
+    expect_text(&rt, &writer.into_inner(), rows, "the rows of two rounds");
 }

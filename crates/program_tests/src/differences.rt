@@ -2,12 +2,13 @@
 //! tests/program/diff.txt.
 
 use crate::files::built;
-use crate::samples::{expect_text, must};
+use crate::samples::{Defect, Sink, expect, expect_text, must};
 use std::alloc::Global;
 use std::process::Abort;
 use std::sync::Wait;
 use std::thread::Threads;
-use zic_compare::{Compared, Listed, Sides, Survey, diff_by_workers};
+use zic_compare::{Compared, DiffStop, Listed, Sides, Survey, write_diff};
+use zic_counted::Counted;
 use zic_files::Files;
 use zic_pieces::Open;
 use zic_plan::Plan;
@@ -23,6 +24,16 @@ Zone A 1 - AAA\nZone E 1 - AAA\n";
 const LINES: &[u8] = b"zone,from,until,kind\n\
 B,,946681200,past\nC,,,removed\nD,,,forever\nF,,,added\nE,,,added\n";
 
+/// What is listed: until when zones differ.
+const HOW: Listed = Listed::Summaries(Survey {
+    compared: Compared {
+        daylight: true,
+        abbreviation: true,
+    },
+    since: i64::MIN,
+    present: 946_681_200,
+});
+
 /// Lists the differences by a number of workers, in pieces of a number of names.
 fn listed<R: Threads + Wait + Sync + Abort>(
     rt: &R,
@@ -30,15 +41,9 @@ fn listed<R: Threads + Wait + Sync + Abort>(
     sides: &Sides<'_>,
     plan: &Plan,
 ) -> Vec<u8> {
-    let how = Listed::Summaries(Survey {
-        compared: Compared {
-            daylight: true,
-            abbreviation: true,
-        },
-        since: i64::MIN,
-        present: 946_681_200,
-    });
-    must(rt, diff_by_workers(rt, alloc, plan, &Open, sides, &how))
+    let mut text = Counted::new(Vec::new(alloc));
+    must(rt, write_diff(rt, alloc, plan, sides, &HOW, &mut text));
+    text.into_inner()
 }
 
 /// Builds the files of a text.
@@ -58,5 +63,23 @@ fn workers_list_what_one_lists(rt: HostRuntime) {
         let plan = must(&rt, Plan::new(workers, piece, 1, 0, 0).ok_or(()));
         let lines = listed(&rt, rt.alloc(), &sides, &plan);
         expect_text(&rt, &lines, LINES, "the differences");
+    }
+}
+
+#[test]
+fn full_writer_has_a_beginning(rt: HostRuntime) {
+    let old = files_of(&rt, rt.alloc(), OLD);
+    let new = files_of(&rt, rt.alloc(), NEW);
+    let sides = Sides {
+        old: &old,
+        new: &new,
+    };
+    for room in [0, 5, 21, 30] {
+        let plan = must(&rt, Plan::new(2, 1, 1, 0, 0).ok_or(()));
+        let mut writer = Counted::new(Sink::new(rt.alloc(), Defect::Full(room)));
+        let ended = write_diff(&rt, rt.alloc(), &plan, &sides, &HOW, &mut writer);
+        expect(&rt, ended == Err(DiffStop::WriteFailed), "a full writer");
+        let sink = writer.into_inner();
+        expect_text(&rt, sink.held(), &LINES[..room], "the beginning");
     }
 }

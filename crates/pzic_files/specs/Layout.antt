@@ -9,6 +9,8 @@ use Rattle.zic_plan.specs.declared.layout.FieldCount.TheVariants as fields
 use Rattle.zic_plan.specs.declared.layout.Header.{Header}
 use Rattle.zic_plan.specs.declared.layout.Header.TheVariants as header
 use Rattle.zic_plan.specs.declared.layout.Layout.{Layout}
+use Rattle.zic_plan.specs.declared.layout.Quotes.{Quotes}
+use Rattle.zic_plan.specs.declared.layout.Quotes.TheVariants as quotes
 use Rattle.zic_plan.specs.declared.layout.Records.{Records}
 use Rattle.zic_plan.specs.declared.layout.Records.TheVariants as by
 use Rattle.zic_plan.specs.declared.layout.Notes.TheVariants as notes
@@ -47,6 +49,11 @@ unit_number units.Nanosecond = 3
 abbrev pub records_number : Records → ℕ
 records_number by.Csv = 0
 records_number by.Lines = 1
+
+-- which double quotes a record may have
+abbrev pub quotes_number : Quotes → ℕ
+quotes_number quotes.Strict = 0
+quotes_number quotes.Lenient = 1
 
 -- whether there is a header
 abbrev pub header_number : Header → ℕ
@@ -93,6 +100,7 @@ pub record HaveNumbers (given : ColumnLayout) (layout : Layout) : Type 0 where
   pub unit : given.unit ≡ unit_number layout.unit
   pub delimiter : given.delimiter ≡ layout.delimiter
   pub records : given.records ≡ records_number layout.records
+  pub quotes : given.quotes ≡ quotes_number layout.quotes
   pub header : given.header ≡ header_number layout.header
   pub start : given.start ≡ start_number layout.start
   pub written : layout.written ≡ written.All

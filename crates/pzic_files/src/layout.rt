@@ -3,7 +3,7 @@
 ghost use Rattle.std.specs.Prelude.{◌≡◌, false, IsUtf8, MatchOption, IfOk, IfErr};
 ghost use Rattle.zic_plan.specs.Delimiter.{is_delimiter};
 ghost use Rattle.pzic_files.specs.Layout.{HasNoLayout, IsFieldCount, IsLayoutOf, IsLimit, IsRefusal, IsZoneFrom};
-ghost use Rattle.pzic_files.specs.Layout.{fault_number, from_number, header_number, records_number, start_number, style_number, unit_number};
+ghost use Rattle.pzic_files.specs.Layout.{fault_number, from_number, header_number, quotes_number, records_number, start_number, style_number, unit_number};
 
 use std::alloc::{AllocError, Global};
 use std::str::from_utf8;
@@ -40,6 +40,8 @@ pub struct ColumnLayout {
     pub at_fault: u32,
     /// The number of how a row has its local time and its UT offset.
     pub style: u32,
+    /// The number of which double quotes a record may have.
+    pub quotes: u32,
     /// The most bytes of a record, without its line end; 0 sets no limit.
     pub max_record: u64,
 }
@@ -102,6 +104,18 @@ fn records_of(number: u32) -> Option<Records>
     match number {
         0 => Some(Records::Csv),
         1 => Some(Records::Lines),
+        _ => None,
+    }
+}
+
+/// Returns which double quotes records of a number may have, if any have it.
+fn quotes_of(number: u32) -> Option<Quotes>
+    ensures { MatchOption result ((quotes : Quotes) → number ≡ quotes_number quotes → ⊥)
+        (λ quotes. number ≡ quotes_number quotes) }
+{
+    match number {
+        0 => Some(Quotes::Strict),
+        1 => Some(Quotes::Lenient),
         _ => None,
     }
 }
@@ -217,6 +231,7 @@ pub(crate) fn layout_of(
     let unit = unit_of(given.unit).ok_or(LayoutStop::None)?;
     let delimiter = delimiter_of(given.delimiter).ok_or(LayoutStop::None)?;
     let records = records_of(given.records).ok_or(LayoutStop::None)?;
+    let quotes = quotes_of(given.quotes).ok_or(LayoutStop::None)?;
     let header = header_of(given.header).ok_or(LayoutStop::None)?;
     let start = start_of(given.start).ok_or(LayoutStop::None)?;
     let at_fault = at_fault_of(given.at_fault).ok_or(LayoutStop::None)?;
@@ -231,7 +246,7 @@ pub(crate) fn layout_of(
         unit,
         delimiter,
         records,
-        quotes: Quotes::Lenient,
+        quotes,
         header,
         max_record: limit_of(given.max_record),
         start,

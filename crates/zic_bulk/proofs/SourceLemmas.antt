@@ -1,10 +1,14 @@
 -- A conversion by the zones of the files of a source.
-use Rattle.std.proofs.Common.{◌≡◌, ◌∙◌, ◌⊎◌, ℕ, List, Option, Result, Ok, Err, inl, inr, sym, subst, ap}
+use Rattle.std.proofs.Common.{◌≡◌, ◌∙◌, ◌⊎◌, ◌==◌, ℕ, length, List, Option, Result, Ok, Err, inl, inr, sym, subst, ap}
 use Rattle.std.specs.Prelude.{IfOk, IfErr}
-use Rattle.zic_compile.specs.Build.{AreFilesOfTexts}
+use Rattle.std.proofs.lemmas.Bool.{cond_both}
+use Rattle.zic_base.specs.declared.run_stop.RunStop.{RunStop}
+use Rattle.zic_base.specs.declared.run_stop.RunStop.TheVariants as stops
+use Rattle.zic_compile.specs.Build.{AreFilesOfTexts, IsStopOfBuild}
 use Rattle.zic_convert.specs.Run.{Run}
 use Rattle.zic_files.specs.File.{File}
 use Rattle.zic_files.specs.Sound.{AreSoundFiles}
+use Rattle.zic_io.specs.Failing.{run_failure}
 use Rattle.zic_io.specs.declared.failure.Failure.{Failure}
 use Rattle.zic_io.specs.declared.failure.Failure.TheVariants as failures
 use Rattle.zic_plan.specs.Plan.{Limits}
@@ -13,7 +17,7 @@ use Rattle.zic_plan.specs.declared.layout.ZoneFrom.{ZoneFrom}
 use Rattle.zic_plan.specs.declared.layout.ZoneFrom.TheVariants as zone
 use Rattle.zic_zones.specs.Zones.{alone}
 use Rattle.zic_zones.specs.declared.releases.Releases.{Releases}
-use Rattle.zic_bulk.specs.Converting.{ConvertsBySource, IsFailureAfterTexts, IsFailureByFiles}
+use Rattle.zic_bulk.specs.Converting.{ConvertsBySource, IsFailureAfterTexts, IsFailureByFiles, IsFailureOfKeyed}
 use Rattle.zic_file_commands.specs.Converting.{Converts, IsFailureOfConvert, IsFailureOfZone, IsFailureOfZones, zones_of}
 
 -- the files of a source stay
@@ -56,3 +60,20 @@ module _ (files : List File) (sound : AreSoundFiles files) where
         → IfErr result (λ failure. (IsFailureAfterTexts texts plan limit layout run failure))
     fails_after_texts texts of (Ok n) fails = tt
     fails_after_texts texts of (Err e) fails = record { files = files; are_files = of; by_files = by_files e fails }
+
+-- texts that have no files don't fail for a list
+stop_no_list : (texts : List (List ℕ)) (stop : RunStop) (n : ℕ) → IsStopOfBuild texts stop → run_failure stop n ≡ failures.CannotWriteList → ⊥
+stop_no_list texts (stops.Source fault) n is =
+    cond_both (n == 1) (failures.Line fault.place.line fault.kind) (failures.TextLine fault.place.text fault.place.line fault.kind) (λ (f : Failure). f ≡ failures.CannotWriteList → ⊥) (λ _ list. cc list)
+    (λ _ list. cc list)
+stop_no_list texts stops.Memory n is = λ list. cc list
+stop_no_list texts (stops.Row row kind) n is = absurd is
+stop_no_list texts stops.ReadFailed n is = absurd is
+stop_no_list texts stops.WriteFailed n is = absurd is
+stop_no_list texts stops.ColumnTooLong n is = absurd is
+stop_no_list texts stops.NoThread n is = absurd is
+stop_no_list texts stops.LogFailed n is = absurd is
+
+pub keyed_no_list : (texts : List (List ℕ)) (failure : Failure) → IsFailureOfKeyed texts failure → failure ≡ failures.CannotWriteList → ⊥
+keyed_no_list texts failure (inl none) list = stop_no_list texts none.stop (length texts) none.is_stop (sym none.is ∙ list)
+keyed_no_list texts failure (inr memory) list = cc (sym memory.0 ∙ list)

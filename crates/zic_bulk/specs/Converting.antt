@@ -22,12 +22,12 @@ pub record ConvertsBySource {R W : Type 0} (texts : List (List ℕ)) (layout : L
   pub are_files : AreFilesOfTexts texts files
   pub converts : Converts layout most limit n run (alone files)
 
--- the conversion of the column by these files ended early
+-- the conversion of the column by these files ended early, for one of its own causes or for the log
 pub record IsFailureOfRowsBy {R W : Type 0} (plan : Limits) (limit : Option ℕ) (layout : Layout) (run : Run R W) (files : List File) (failure : Failure) : Type 0 where
   pub has_zone : HasZone files layout.zone
   pub stop : RunStop
   pub is : failure ≡ run_failure stop 1
-  pub cause : IsCauseOf plan.max_bytes run.reader run.reader' run.writer run.writer' stop
+  pub cause : IsCauseOf plan.max_bytes run.reader run.reader' run.writer run.writer' stop ⊎ (failure ≡ failures.CannotWriteList)
   pub ends : EndsBy layout plan.max_rows limit stop run (alone files)
 
 -- why these files don't convert a column by a layout: memory ran out or they lack the zone for all rows, and nothing is touched, or the

@@ -1,6 +1,6 @@
 //! `convert` by texts: compiles them, and converts a column by their files.
 
-ghost use Rattle.std.specs.Prelude.{◌≤◌, ◌+◌, ◌≡◌, IfOk, IfErr};
+ghost use Rattle.std.specs.Prelude.{◌≤◌, ◌+◌, ◌≡◌, IfOk, IfErr, IsErrOf};
 ghost use Rattle.zic_bulk.specs.Converting.{ConvertsAgainst, ConvertsBySource, against};
 ghost use Rattle.zic_bulk.specs.Converting.{IsFailureOfConvertAgainst, IsFailureOfConvertSource, IsFailureOfKeyed};
 ghost use Rattle.zic_compile.specs.Build.{AreFilesOfTexts};
@@ -82,6 +82,7 @@ pub fn convert_source<T: Threads + Wait + Sync, G: Gate + Sync, R: Read, W: Writ
         conversion.now.plan.now conversion.now.max_faults conversion.now.layout.now
         (run_of R.remaining W.contents L.noted reader.old reader.new writer.old writer.new
         log.old log.new)) }
+    ensures log { IsErrOf result Failure.CannotWriteList → L.failed log.new }
 {
     let files = keyed_files(conversion, KeyedTexts { texts, key })?;
     let mut zones = SourceZones::new(conversion.alloc, &files)?;
@@ -124,6 +125,7 @@ pub fn convert_source_against<
         (run_of R.remaining W.contents L.noted reader.old reader.new writer.old writer.new
         log.old log.new)
         (λ files then. against files O.grown O.broken O.requests O.may_be old then)) }
+    ensures log { IsErrOf result Failure.CannotWriteList → L.failed log.new }
 {
     let files = keyed_files(conversion, source)?;
     let zones = SourceZones::new(conversion.alloc, &files)?;

@@ -7,7 +7,8 @@ use Rattle.std.proofs.lemmas.List.Elements.{All-append, All-cons, All-filter, Al
 use Rattle.std.proofs.lemmas.List.Splits.{length-slice_split, slice_split-cons_no, slice_split-cons_yes, slice_split_none}
 use Rattle.zic_columns.specs.Column.{AreWholeRecords, HasNoQuote, ends_line, has_byte, lines_of}
 use Rattle.zic_columns.specs.Laws.{LinesAreCut, LinesWithoutQuotesAreCsv}
-use Rattle.zic_columns.specs.Lines.{is_open, line_record, line_records, open_record}
+use Rattle.zic_columns.specs.Lines.{line_record, line_records, open_record}
+use Rattle.zic_columns.specs.Quotes.{is_open}
 use Rattle.zic_columns.specs.Own.{CsvRecord, csv_records, own_texts}
 use Rattle.zic_columns.specs.Record.{own_record}
 use Rattle.zic_columns.specs.code.Line.{AreWholeLines}

@@ -10,11 +10,12 @@ use Rattle.csv.specs.declared.parser.Action.{Action}
 use Rattle.csv.specs.declared.parser.Action.TheVariants as act
 use Rattle.csv.specs.declared.parser.State.{State}
 use Rattle.csv.specs.declared.parser.State.TheVariants as st
-use Rattle.zic_columns.specs.Column.{HasNoQuote, column_records, ends_line}
+use Rattle.zic_columns.specs.Column.{HasNoQuote, column_records, ends_line, state_after}
 use Rattle.zic_columns.specs.Own.{first_text}
+use Rattle.zic_columns.specs.Quotes.{goes_past}
 use Rattle.zic_columns.specs.Record.{first_fields, text_alone}
 use Rattle.zic_columns.specs.code.Block.{ends_field}
-use Rattle.zic_columns.specs.code.Field.{EndsField, IsField, IsOfField, IsOutside, Spells}
+use Rattle.zic_columns.specs.code.Field.{EndsField, HasQuotes, IsField, IsOutside, IsRead, Spells}
 use Rattle.zic_columns.specs.code.Line.{IsAfterLineEnds}
 use Rattle.zic_columns.specs.code.Machine.{BeginsRecord, EndsRecord, ReadsTo, state_at}
 use Rattle.zic_columns.specs.declared.machine.FieldByte.{FieldByte}
@@ -24,6 +25,7 @@ use Rattle.zic_columns.proofs.MachineFacts.{at_end, before_record, from_start}
 use Rattle.zic_columns.proofs.OwnFacts.{took}
 use Rattle.zic_columns.proofs.OwnLens.{next_goes}
 use Rattle.zic_columns.proofs.OwnRecords.{read_on}
+use Rattle.zic_columns.proofs.QuoteFacts.{quotes_none}
 use Rattle.zic_columns.proofs.SomeRecords.{Leaves, are_read, column_records-end, column_records-nil, leaves, only}
 use Rattle.zic_columns.proofs.StepFacts.{field-comma, field-end, field-start, field-within, records-cons}
 
@@ -57,7 +59,7 @@ read_byte p q byte false is fields field more =
     ∙ ap (λ (to : State × Action). next_record default_config to.0 (fields_after to.1 fields field) (field_after to.1 byte field) more) is
     ∙ ap (λ (f : List ℕ). next_record default_config (state_at q) fields f more) (sym (append-nil field))
 
-pub spells_byte : (bytes text : List ℕ) (p : Place) (byte : ℕ) (given : FieldByte) → Spells bytes text p → IsOfField p byte given
+pub spells_byte : (bytes text : List ℕ) (p : Place) (byte : ℕ) (given : FieldByte) → Spells bytes text p → IsRead p byte given
     → Spells (bytes ++ byte ∷ []) (text ++ text_of byte given.is_text) given.next
 spells_byte bytes text p byte given spells is = λ fields field more.
     ap (next_record default_config st.StartField fields field) (append_assoc bytes (byte ∷ []) more) ∙ spells fields field (byte ∷ more)
@@ -79,13 +81,30 @@ plain_run (byte ∷ text) more fields field none =
     ∙ plain_run text more fields (field ++ byte ∷ []) (All-tail P byte text none)
     ∙ ap (λ (f : List ℕ). next_record default_config st.InField fields f more) (append_assoc field (byte ∷ []) text)
 
+run_quotes : (text : List ℕ) → All (λ byte. ends_field byte ≡ false) text → (state_after default_config st.InField text ≡ st.InField) × (goes_past 44 st.InField text ≡ false)
+unfolding state_after goes_past
+run_quotes [] none = (refl, refl)
+run_quotes (byte ∷ text) none =
+    let P = λ (b : ℕ). ends_field b ≡ false in
+    let apart = neither (byte == 44) (ends_line byte) (All-head P byte text none) in
+    rw (apart.0, apart.1) (run_quotes text (All-tail P byte text none))
+
+plain_quotes : (byte : ℕ) (text : List ℕ) → All (λ byte. ends_field byte ≡ false) (byte ∷ text) → byte ≢ 34 → HasQuotes (byte ∷ text) place.Plain false
+unfolding state_after goes_past
+plain_quotes byte text none other =
+    let P = λ (b : ℕ). ends_field b ≡ false in
+    let apart = neither (byte == 44) (ends_line byte) (All-head P byte text none) in
+    let rest = run_quotes text (All-tail P byte text none) in
+    rw (ne_eqb byte 34 other, apart.0, apart.1) (rest.0, sym rest.1)
+
 pub plain_spells : (text : List ℕ) → All (λ byte. ends_field byte ≡ false) text → (0 < length text → slice_index text 0 ≢ 34)
-    → (p : Place) × IsOutside p × Spells text text p
-plain_spells [] none first = (place.Start, tt, spells_none)
+    → (p : Place) × IsOutside p × Spells text text p × HasQuotes text p false
+plain_spells [] none first = (place.Start, tt, spells_none, quotes_none)
 plain_spells (byte ∷ text) none first = (
   place.Plain,
   tt,
   λ fields field more. field-start byte (text ++ more) fields field (first (omega arith)) ∙ plain_run (byte ∷ text) more fields field none,
+  plain_quotes byte text none (first (omega arith)),
 )
 
 -- ---- a field between double quotes
@@ -125,6 +144,27 @@ quoted_spells text none = λ fields field more.
     opens ((text ++ 34 ∷ []) ++ more) fields field
     ∙ ap (next_record default_config st.InQuoted fields field) (append_assoc text (34 ∷ []) more)
     ∙ quoted_run text more fields field none
+
+stays_quoted : (byte : ℕ) → byte ≢ 34 → (step default_config st.InQuoted byte).0 ≡ st.InQuoted
+stays_quoted byte other = rw (ne_eqb byte 34 other) refl
+
+text_state : (text : List ℕ) → HasNoQuote text → state_after default_config st.InQuoted (text ++ 34 ∷ []) ≡ st.AfterQuote
+unfolding state_after
+text_state [] none = refl
+text_state (byte ∷ text) none =
+    let P = λ (b : ℕ). b ≢ 34 in
+    ap (λ (s : State). state_after default_config s (text ++ 34 ∷ [])) (stays_quoted byte (All-head P byte text none)) ∙ text_state text (All-tail P byte text none)
+
+text_past : (text : List ℕ) → HasNoQuote text → goes_past 44 st.InQuoted (text ++ 34 ∷ []) ≡ false
+unfolding goes_past
+text_past [] none = refl
+text_past (byte ∷ text) none =
+    let P = λ (b : ℕ). b ≢ 34 in
+    rw (ne_eqb byte 34 (All-head P byte text none)) (text_past text (All-tail P byte text none))
+
+pub quoted_quotes : (text : List ℕ) → HasNoQuote text → HasQuotes (34 ∷ (text ++ 34 ∷ [])) place.QuoteSeen false
+unfolding state_after goes_past
+quoted_quotes text none = (text_state text none, sym (text_past text none))
 
 -- ---- the end of a field
 

@@ -11,6 +11,7 @@ pub mod Ranges
 pub mod Cuts
 pub mod Scanned
 pub mod Taking
+pub mod Buffered
 pub mod LineStates
 pub mod ClosedLines
 pub mod LineScans
@@ -18,10 +19,13 @@ pub mod ByMode
 pub mod ScannedBy
 pub mod Begun
 pub mod LinesExchanged
+pub mod StrayLaws
+pub mod RfcRecords
 pub mod CutLaw
 pub mod Masks
 pub mod RecordCounts
 pub mod Passing
+pub mod QuoteFacts
 pub mod FieldFacts
 pub mod Exchanges
 pub mod OwnFacts

@@ -6,7 +6,8 @@ use Rattle.std.proofs.lemmas.List.{append-nil, drop-append-le, drop-drop, drop_a
 use Rattle.std.proofs.lemmas.List.Elements.{All-append}
 use Rattle.memchr.specs.Find.{IsFirstByte}
 use Rattle.zic_columns.specs.Column.{ends_line}
-use Rattle.zic_columns.specs.Lines.{is_open, line_records, open_record}
+use Rattle.zic_columns.specs.Lines.{line_records, open_record}
+use Rattle.zic_columns.specs.Quotes.{is_open}
 use Rattle.zic_columns.specs.code.Hand.{BeginWithLines}
 use Rattle.zic_columns.specs.code.LineScan.{AreClosedLines, HasNoLineEnd, IsFirstLine, IsLineScan, IsOpenLine}
 use Rattle.zic_columns.specs.declared.line_scan.FirstLine.TheVariants as first

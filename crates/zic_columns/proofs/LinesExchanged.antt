@@ -14,7 +14,8 @@ use Rattle.zic_plan.specs.declared.layout.Records.TheVariants as by
 use Rattle.zic_columns.specs.Column.{column_records, ends_line, has_byte, lines_of, state_after}
 use Rattle.zic_columns.specs.Exchange.{AreDelimitedRecords, CanDelimit, config_of, exchanged}
 use Rattle.zic_columns.specs.Laws.{RecordsByAreExchanged, RecordsByAreOne, TextsByAreExchanged}
-use Rattle.zic_columns.specs.Lines.{AreLineFields, AreLineRecords, IsLineRecord, exchanged_record, is_open, is_quoted, line_record}
+use Rattle.zic_columns.specs.Lines.{AreLineFields, AreLineRecords, IsLineRecord, exchanged_record, line_record}
+use Rattle.zic_columns.specs.Quotes.{is_open, is_quoted}
 use Rattle.zic_columns.specs.Own.{CsvRecord, paired, csv_records, delimited_texts, own_texts}
 use Rattle.zic_columns.specs.Record.{first_fields, own_record}
 use Rattle.zic_columns.specs.code.LineScan.{HasNoLineEnd}
@@ -65,7 +66,7 @@ one_record line is =
 -- ---- exchanged
 
 module _ (d : ℕ) (can : CanDelimit d) where
-  end_unchanged : (byte : ℕ) → ends_line (exchange d byte) ≡ ends_line byte
+  pub end_unchanged : (byte : ℕ) → ends_line (exchange d byte) ≡ ends_line byte
   end_unchanged byte = ap₂ (λ (a b : Bool). a || b) (as_other d 13 byte (omega arith) (λ e. can.return (sym e))) (as_other d 10 byte (omega arith) (λ e. can.feed (sym e)))
 
   onto_exchanged : (byte : ℕ) (parts : List (List ℕ)) → onto_first (exchange d byte) (map (exchanged d) parts) ≡ map (exchanged d) (onto_first byte parts)
@@ -97,7 +98,7 @@ module _ (d : ℕ) (can : CanDelimit d) where
   state_exchanged s (byte ∷ line) =
       ap (λ (t : State). state_after (config_of d) t (exchanged d line)) (ap (λ p. p.0) (step_exchanged d can s byte)) ∙ state_exchanged (step default_config s byte).0 line
 
-  open_exchanged : (line : List ℕ) → is_open d (exchanged d line) ≡ is_open 44 line
+  pub open_exchanged : (line : List ℕ) → is_open d (exchanged d line) ≡ is_open 44 line
   open_exchanged line = ap is_quoted (state_exchanged st.StartRecord line)
 
   fields_exchanged : (opened : Bool) (line : List ℕ) → IsLine line

@@ -7,7 +7,8 @@ use Rattle.csv.specs.declared.parser.State.TheVariants as st
 use Rattle.zic_plan.specs.declared.layout.Records.{Records}
 use Rattle.zic_plan.specs.declared.layout.Records.TheVariants as by
 use Rattle.zic_columns.specs.Column.{AreWholeRecords, column_records}
-use Rattle.zic_columns.specs.Lines.{is_open, line_records, open_record, records_by}
+use Rattle.zic_columns.specs.Lines.{line_records, open_record, records_by}
+use Rattle.zic_columns.specs.Quotes.{is_open}
 use Rattle.zic_columns.specs.code.Hand.{AreBegun, CanBeCut, ClosedBy, IsScannedBy, OpensWith, UnendedBy, mode_of, open_of_scan, whole_of_scan}
 use Rattle.zic_columns.specs.code.LineScan.{HasNoLineEnd, IsOpenLine}
 use Rattle.zic_columns.specs.code.Machine.{BeginsRecord, ReadsTo, state_at}

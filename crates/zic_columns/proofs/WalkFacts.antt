@@ -10,9 +10,10 @@ use Rattle.csv.specs.declared.parser.State.TheVariants as st
 use Rattle.memchr.specs.Find.{IsFirst, IsFirstByte, Nowhere, Passes, is_byte3}
 use Rattle.zic_columns.specs.Column.{HasNoQuote, column_records, ends_line}
 use Rattle.zic_columns.specs.Own.{own_texts}
+use Rattle.zic_columns.specs.Quotes.{has_stray}
 use Rattle.zic_columns.specs.Record.{IsSplit, IsWithinPiece, bytes_at, field_text, first_fields, record_at, wanted_text}
 use Rattle.zic_columns.specs.code.Block.{ends_field}
-use Rattle.zic_columns.specs.code.Field.{EndsField, IsField, IsFieldAt, Spells}
+use Rattle.zic_columns.specs.code.Field.{EndsField, HasQuotes, IsField, IsFieldAt, Spells}
 use Rattle.zic_columns.specs.code.Machine.{BeginsRecord, EndsWith, IsEndOfRecord, ReadsTo, state_at}
 use Rattle.zic_columns.specs.code.Own.{IsOwnLen}
 use Rattle.zic_columns.specs.code.Walk.{HasFields, HasWalked, IsFieldEnd, IsQuoteAt, IsRecordFrom}
@@ -22,11 +23,12 @@ use Rattle.zic_columns.specs.declared.fields.Record.{Record}
 use Rattle.zic_columns.specs.declared.fields.Wanted.{Wanted}
 use Rattle.zic_columns.specs.declared.machine.Place.TheVariants as place
 use Rattle.zic_columns.specs.declared.walk.FoundField.{FoundField}
-use Rattle.zic_columns.proofs.FieldFacts.{either, ends_record, first_read, outside, plain_spells, quoted_spells, spells_read}
+use Rattle.zic_columns.proofs.FieldFacts.{either, ends_record, first_read, outside, plain_spells, quoted_quotes, quoted_spells, spells_read}
 use Rattle.zic_columns.proofs.FoundBytes.{quote_found}
 use Rattle.zic_columns.proofs.LineCuts.{not_at_once}
 use Rattle.zic_columns.proofs.MachineFacts.{at_end, ends_both, ends_byte, from_start, reads_both}
 use Rattle.zic_columns.proofs.OwnLens.{quoted_ended, quoted_unended}
+use Rattle.zic_columns.proofs.QuoteFacts.{own_stray, quotes_both, quotes_comma, quotes_none}
 use Rattle.zic_columns.proofs.SomeRecords.{only}
 use Rattle.zic_columns.proofs.Spans.{span_at, span_both, span_fails, span_first, span_length, span_none, span_push, span_rest}
 use Rattle.zic_columns.proofs.StepFacts.{field-comma, records-cons, records-nil}
@@ -80,7 +82,7 @@ module _ (bytes rest : List ℕ) (at : ℕ) (within : at ≤ length bytes) (is :
 
 module _ (piece : List ℕ) (at : ℕ) where
   pub plain_at : (stop : ℕ) → IsFieldEnd piece at stop → (at < length piece → get_or piece at 0 ≢ 34)
-      → IsFieldAt piece at (record { field = Plain (record { start = at; end = stop }); stop = stop })
+      → IsFieldAt piece at (record { field = Plain (record { start = at; end = stop }); stop = stop; stray = false })
   plain_at stop is other =
       let raw = slice_range piece at stop in
       let long = span_length piece at stop is.low is.high in
@@ -93,13 +95,14 @@ module _ (piece : List ℕ) (at : ℕ) where
         field = (is.low, is.high);
         place_now = spelled.0;
         spells = spelled.2;
+        quotes = spelled.3;
         ends = ⊎_elim (λ all. inl all) (λ ends. inr (ends, spelled.1)) is.ends;
       }
 
   module _ (quote : IsQuoteAt piece at) where
     pub near_at : (rest : List ℕ) (len : ℕ) → rest ≡ drop (at + 1) piece → IsFirst (Passes (λ byte. byte == 34) rest) 0 (length rest) (Some len)
         → (at + 1 + len + 1 ≡ length piece) ⊎ (ends_field (get_or piece (at + 1 + len + 1) 0) ≡ true)
-        → IsFieldAt piece at (record { field = Plain (record { start = at + 1; end = at + 1 + len }); stop = at + 1 + len + 1 })
+        → IsFieldAt piece at (record { field = Plain (record { start = at + 1; end = at + 1 + len }); stop = at + 1 + len + 1; stray = false })
     near_at rest len is found ends =
         let start = at + 1 in
         let stop = at + 1 + len in
@@ -119,12 +122,13 @@ module _ (piece : List ℕ) (at : ℕ) where
           field = (omega arith, omega (arith, within));
           place_now = place.QuoteSeen;
           spells = subst (λ (l : List ℕ). Spells l text place.QuoteSeen) (sym raw) (quoted_spells text (subst HasNoQuote front first.before));
+          quotes = subst (λ (l : List ℕ). HasQuotes l place.QuoteSeen false) (sym raw) (quoted_quotes text (subst HasNoQuote front first.before));
           ends = ⊎_elim (λ all. inl all) (λ ends. inr (ends, tt)) ends;
         }
 
-    pub quoted_at : (rest text : List ℕ) (len : ℕ) → rest ≡ drop at piece → IsField rest text len
-        → IsFieldAt piece at (record { field = Quoted (record { start = at; end = at + len }); stop = at + len })
-    quoted_at rest text len is found =
+    pub quoted_at : (rest text : List ℕ) (len : ℕ) (stray : Bool) → rest ≡ drop at piece → (found : IsField rest text len) → HasQuotes (take len rest) found.place_now stray
+        → IsFieldAt piece at (record { field = Quoted (record { start = at; end = at + len }); stop = at + len; stray = stray })
+    quoted_at rest text len stray is found quotes =
         let stop = at + len in
         let raw = slice_range piece at stop in
         let size : length rest ≡ length piece - at = ap length is ∙ length-drop at piece in
@@ -147,6 +151,7 @@ module _ (piece : List ℕ) (at : ℕ) where
           field = (omega arith, within);
           place_now = found.place_now;
           spells = subst (λ (t : List ℕ). Spells raw t found.place_now) (sym (first_read raw text (length raw) begins alone)) spells;
+          quotes = subst (λ (l : List ℕ). HasQuotes l found.place_now stray) same quotes;
           ends = ⊎_elim
               (λ (all : len ≡ length rest). inl (omega (arith, all, size, quote.within)))
               (λ (ends : EndsField found.place_now (get_or rest len 0)). inr (ap ends_field (sym (ap (λ (l : List ℕ). get_or l len 0) is ∙ get_or-drop at piece len 0)) ∙ ends.0, ends.1))
@@ -155,7 +160,7 @@ module _ (piece : List ℕ) (at : ℕ) where
 
 -- the field of these bytes
 abbrev pub field_to : ℕ → ℕ → FoundField
-field_to at stop = record { field = Plain (record { start = at; end = stop }); stop = stop }
+field_to at stop = record { field = Plain (record { start = at; end = stop }); stop = stop; stray = false }
 
 pub field_ends : (piece : List ℕ) (at stop : ℕ) → IsFieldEnd piece at stop → stop < length piece → ends_field (get_or piece stop 0) ≡ true
 field_ends piece at stop is inside = ⊎_elim (λ all. absurd (omega (arith, all, inside))) (λ ends. ends) is.ends
@@ -164,8 +169,8 @@ field_ends piece at stop is inside = ⊎_elim (λ all. absurd (omega (arith, all
 
 module _ (piece : List ℕ) (start : ℕ) (wanted : Wanted) where
   pub walked_none : (given : Record) → start ≤ length piece → given.own.start ≡ start → given.count ≡ 0 → given.zone ≡ Plain (record { start = start; end = start })
-      → given.time ≡ Plain (record { start = start; end = start }) → HasWalked piece start wanted given start
-  walked_none given within own none zone time =
+      → given.time ≡ Plain (record { start = start; end = start }) → given.stray ≡ false → HasWalked piece start wanted given start
+  walked_none given within own none zone time stray =
       let place_now : (f : Field) → f ≡ Plain (record { start = start; end = start }) → IsWithinPiece piece f = λ f is. subst (IsWithinPiece piece) (sym is) (omega arith, within) in
       let text : (f : Field) → f ≡ Plain (record { start = start; end = start }) → field_text piece f ≡ [] = λ f is. ap (field_text piece) is ∙ span_none piece start in
       record {
@@ -183,6 +188,7 @@ module _ (piece : List ℕ) (start : ℕ) (wanted : Wanted) where
         };
         reads = λ more. ap (λ (l : List ℕ). next_record default_config st.StartField [] [] (l ++ more)) (span_none piece start);
         any = λ fields field. (fields, field, λ more. ap (λ (l : List ℕ). next_record default_config st.StartField fields field (l ++ more)) (span_none piece start));
+        quotes = subst (λ (b : Bool). HasQuotes (slice_range piece start start) place.Start b) (sym stray) (subst (λ (l : List ℕ). HasQuotes l place.Start false) (sym (span_none piece start)) quotes_none);
       }
     where
       nothing : (index : Option ℕ) → wanted_text [] index ≡ []
@@ -207,10 +213,15 @@ module _ (piece : List ℕ) (start : ℕ) (wanted : Wanted) where
         (reads_both st.StartField st.StartField (state_at is.place_now) (slice_range piece start at) (slice_range piece at found.stop) walked.any
         (spells_read (slice_range piece at found.stop) (field_text piece found.field) is.place_now is.spells))
 
+    quotes_front : HasQuotes (slice_range piece start found.stop) is.place_now (given.stray || found.stray)
+    quotes_front =
+        subst (λ (l : List ℕ). HasQuotes l is.place_now (given.stray || found.stray)) front
+        (quotes_both (slice_range piece start at) (slice_range piece at found.stop) is.place_now given.stray found.stray walked.quotes is.quotes)
+
     -- a comma, and another field
     pub walked_on : (next : Record) → found.stop < length piece → get_or piece found.stop 0 ≡ 44 → next.own ≡ given.own → next.count ≡ given.count + 1
-        → HasFields piece wanted (walked.fields ++ field_text piece found.field ∷ []) next → HasWalked piece start wanted next (found.stop + 1)
-    walked_on next inside comma own count has =
+        → HasFields piece wanted (walked.fields ++ field_text piece found.field ∷ []) next → next.stray ≡ (given.stray || found.stray) → HasWalked piece start wanted next (found.stop + 1)
+    walked_on next inside comma own count has stray =
         let byte = get_or piece found.stop 0 in
         let ends : EndsField is.place_now byte = ⊎_elim (λ all. absurd (omega (arith, all, inside))) (λ ends. ends) is.ends in
         let longer = span_push piece start found.stop (omega (arith, walked.low, is.low)) inside in
@@ -235,6 +246,9 @@ module _ (piece : List ℕ) (start : ℕ) (wanted : Wanted) where
                     ∙ ap (next_record default_config st.StartField fields field) (append_assoc (slice_range piece start found.stop) (byte ∷ []) more)
                     ∙ r.2 (byte ∷ more) ∙ at_comma r.0 r.1 more,
               );
+          quotes = subst (λ (b : Bool). HasQuotes (slice_range piece start (found.stop + 1)) place.Start b) (sym stray)
+              (subst (λ (l : List ℕ). HasQuotes l place.Start (given.stray || found.stray)) (sym (longer ∙ ap (λ (b : ℕ). slice_range piece start found.stop ++ b ∷ []) comma))
+              (quotes_comma (slice_range piece start found.stop) is.place_now (given.stray || found.stray) quotes_front ends.1));
         }
 
     module _ (begins : BeginsRecord (drop start piece)) where
@@ -256,7 +270,8 @@ module _ (piece : List ℕ) (start : ℕ) (wanted : Wanted) where
           only own (all ∷ []) (records-cons st.StartRecord st.StartRecord own [] all [] read records-nil)
 
       -- the end, or a line end
-      module _ (next : Record) (own_at : next.own ≡ record { start = start; end = found.stop }) (has : HasFields piece wanted (walked.fields ++ field_text piece found.field ∷ []) next) where
+      module _ (next : Record) (own_at : next.own ≡ record { start = start; end = found.stop }) (has : HasFields piece wanted (walked.fields ++ field_text piece found.field ∷ []) next)
+          (stray : next.stray ≡ (given.stray || found.stray)) where
         split_out : 0 < found.stop - start → IsSplit piece wanted next
         split_out some =
             let own = slice_range piece start found.stop in
@@ -270,6 +285,7 @@ module _ (piece : List ℕ) (start : ℕ) (wanted : Wanted) where
               zone = has.zone ∙ ap (λ (f : List (List ℕ)). wanted_text f wanted.zone) (sym fields);
               time_within = has.time_within;
               time = has.time ∙ ap (λ (f : List (List ℕ)). wanted_text f (Some wanted.time)) (sym fields);
+              stray = stray ∙ own_stray own is.place_now (given.stray || found.stray) quotes_front ∙ ap (λ o. has_stray 44 (bytes_at piece o)) (sym own_at);
             }
 
         owns_out : (len : ℕ) → len ≡ found.stop - start → IsOwnLen (drop start piece) len

@@ -1,5 +1,5 @@
 -- Laws about the records of a column.
-use Rattle.std.specs.Prelude.{◌≡◌, ◌<◌, ℕ, true, List, [], ◌∷◌, ◌++◌, All, Some, length, map, take}
+use Rattle.std.specs.Prelude.{◌≡◌, ◌<◌, ℕ, true, false, List, [], ◌∷◌, ◌++◌, All, Some, length, map, take}
 use Rattle.csv.specs.Reading.{strip_bom}
 use Rattle.csv.specs.Writing.{default_writer, row_text, with_delimiter}
 use Rattle.zic_columns.specs.Column.{AreColumnRecords, AreWholeRecords, HasNoQuote, IsBeforeRecord, column_records, ends_line, lines_of, plain_records}
@@ -7,6 +7,7 @@ use Rattle.zic_columns.specs.Ends.{AreBetweenEnds, BeginsWithin}
 use Rattle.zic_columns.specs.Exchange.{AreDelimitedRecords, CanDelimit, exchanged}
 use Rattle.zic_columns.specs.Lines.{AreRecordsBy, delimited_texts_by, exchanged_record, line_records, records_by, texts_by}
 use Rattle.zic_columns.specs.Own.{CsvRecord, paired, delimited_texts, own_texts, csv_records}
+use Rattle.zic_columns.specs.Quotes.{IsRfcField, delimited, has_stray}
 use Rattle.zic_columns.specs.Record.{own_record}
 use Rattle.zic_columns.specs.Truncated.{truncated}
 use Rattle.zic_plan.specs.declared.layout.Records.{Records}
@@ -123,3 +124,15 @@ RecordsByAreExchanged = (by : Records) (delimiter : ℕ) (column : List ℕ) →
 abbrev pub TextsByAreExchanged : Type 0
 TextsByAreExchanged = (by : Records) (delimiter : ℕ) (column : List ℕ) → CanDelimit delimiter
     → delimited_texts_by by delimiter (strip_bom column) ≡ map (exchanged delimiter) (texts_by by (strip_bom (exchanged delimiter column)))
+
+-- Bytes in which the delimiter and the comma stand in each other's place have a stray double quote if they had one.
+abbrev pub StraysAreExchanged : Type 0
+StraysAreExchanged = (delimiter : ℕ) (own : List ℕ) → CanDelimit delimiter → has_stray delimiter (exchanged delimiter own) ≡ has_stray 44 own
+
+-- Bytes without a double quote have no stray one.
+abbrev pub PlainBytesHaveNoStray : Type 0
+PlainBytesHaveNoStray = (delimiter : ℕ) (own : List ℕ) → CanDelimit delimiter → HasNoQuote own → has_stray delimiter own ≡ false
+
+-- The own bytes of a record as RFC 4180 has it have no stray double quote.
+abbrev pub RfcRecordsHaveNoStray : Type 0
+RfcRecordsHaveNoStray = (delimiter : ℕ) (fields : List (List ℕ)) → CanDelimit delimiter → All (IsRfcField delimiter) fields → has_stray delimiter (delimited delimiter fields) ≡ false

@@ -1,29 +1,13 @@
 -- The records of a column by where a record ends. RFC 4180, 2, lets a field between double quotes have line ends. That a column may be
 -- read line by line instead, and what a line is then, is own choice.
 use Rattle.std.specs.Prelude.{◌≡◌, ℕ, Bool, true, false, List, [], ◌∷◌, map, if◌then◌else◌}
-use Rattle.csv.specs.declared.parser.State.{State}
-use Rattle.csv.specs.declared.parser.State.TheVariants as st
 use Rattle.zic_plan.specs.declared.layout.Records.{Records}
 use Rattle.zic_plan.specs.declared.layout.Records.TheVariants as by
-use Rattle.zic_columns.specs.Column.{column_records, lines_of, state_after}
-use Rattle.zic_columns.specs.Exchange.{AreDelimitedRecords, config_of, exchanged}
+use Rattle.zic_columns.specs.Column.{column_records, lines_of}
+use Rattle.zic_columns.specs.Exchange.{AreDelimitedRecords, exchanged}
 use Rattle.zic_columns.specs.Own.{CsvRecord, paired, csv_records, delimited_texts, own_texts}
+use Rattle.zic_columns.specs.Quotes.{is_open}
 use Rattle.zic_columns.specs.Record.{first_fields}
-
--- a CSV reader's machine stands between double quotes
-abbrev pub is_quoted : State → Bool
-is_quoted st.InQuoted = true
-is_quoted st.StartRecord = false
-is_quoted st.StartField = false
-is_quoted st.InField = false
-is_quoted st.AfterQuote = false
-is_quoted st.InEscape = true
-is_quoted st.InComment = false
-is_quoted st.AfterCr = false
-
--- The double quotes of a line are open at its end: a CSV reader that has read the line stands between double quotes.
-abbrev pub is_open : ℕ → List ℕ → Bool
-is_open delimiter line = is_quoted (state_after (config_of delimiter) st.StartRecord line)
 
 -- The record of a line, with commas: the line, and the fields that a CSV reader gives of the line alone, or no fields where the line is
 -- open.

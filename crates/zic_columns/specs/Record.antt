@@ -2,6 +2,7 @@
 use Rattle.std.specs.Prelude.{◌≡◌, ◌≤◌, ℕ, List, [], ◌∷◌, Option, None, Some, length, slice_index_or, slice_range}
 use Rattle.zic_columns.specs.Column.{column_records}
 use Rattle.zic_columns.specs.Own.{CsvRecord, first_text}
+use Rattle.zic_columns.specs.Quotes.{has_stray}
 use Rattle.zic_columns.specs.declared.fields.Field.{Field}
 use Rattle.zic_columns.specs.declared.fields.Field.TheVariants.{Plain, Quoted}
 use Rattle.zic_columns.specs.declared.fields.Record.{Record}
@@ -56,6 +57,7 @@ pub record IsSplit (piece : List ℕ) (wanted : Wanted) (given : Record) : Type 
   pub zone : field_text piece given.zone ≡ wanted_text (record_at piece given).fields wanted.zone
   pub time_within : IsWithinPiece piece given.time
   pub time : field_text piece given.time ≡ wanted_text (record_at piece given).fields (Some wanted.time)
+  pub stray : given.stray ≡ has_stray 44 (bytes_at piece given.own)
 
 -- a piece that is split: its bytes, the fields that rows need, and the records to come
 pub record Splitting : Type 0 where

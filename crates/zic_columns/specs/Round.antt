@@ -1,11 +1,12 @@
 -- A column, taken in rounds of pieces.
-use Rattle.std.specs.Prelude.{◌≡◌, ℕ, ◌+◌, nat_le, Bool, true, false, List, [], ◌∷◌, ◌++◌, length, drop, Option, None, Some, IfSome}
+use Rattle.std.specs.Prelude.{◌≡◌, ℕ, ◌+◌, ◌/◌, ◌≤◌, nat_le, Bool, true, false, List, [], ◌∷◌, ◌++◌, length, drop, max, Option, None, Some, IfSome}
 use Rattle.std.specs.Int.{IsInRange}
 use Rattle.std.specs.List.{flat_map}
 use Rattle.std.specs.Io.KnownBytes.{Consumes, prepend_known}
 use Rattle.zic_columns.specs.Column.{column_records}
 use Rattle.zic_columns.specs.Lines.{open_record, records_by}
 use Rattle.zic_columns.specs.Own.{CsvRecord, csv_records}
+use Rattle.zic_columns.specs.declared.buffer.TheConstants.{FIRST_ROOM}
 use Rattle.zic_columns.specs.declared.columns.Taken.{Taken}
 use Rattle.zic_columns.specs.declared.columns.Taken.TheVariants as taken
 use Rattle.zic_plan.specs.declared.layout.Records.{Records}
@@ -16,12 +17,13 @@ with_past None known = known
 with_past (Some byte) known = prepend_known (byte ∷ []) known
 
 -- A column, as far as it was taken: where its records end, the pieces of the round that was taken last,
--- the bytes in hand that no round had, the byte beyond the limit, if there was one, the number of bytes
--- that the reader may still give, and the reader.
+-- the bytes in hand that no round had, the length of the buffer in which these stand, the byte beyond the
+-- limit, if there was one, the number of bytes that the reader may still give, and the reader.
 pub record ColumnOf (R : Type 0) : Type 0 where
   pub by : Records
   pub round : List (List ℕ)
   pub held : List ℕ
+  pub buffer : ℕ
   pub past : Option ℕ
   pub left : ℕ
   pub reader : R
@@ -55,6 +57,16 @@ records_of_pieces pieces = flat_map csv_records pieces
 abbrev pub may_have : Option ℕ → ℕ → Bool
 may_have None len = true
 may_have (Some most) len = nat_le len most
+
+-- The greatest length of a buffer that reads of `wanted` bytes are for, and records of `most` bytes: an eighth more than such a record has, or
+-- what a read asks for, or the first length.
+abbrev pub buffer_for : ℕ → ℕ → ℕ
+buffer_for wanted most = max FIRST_ROOM (max wanted (most + most / 8))
+
+-- Where there is a greatest number of bytes that a record may have, the buffer grew no further than for such records.
+abbrev pub GrowsFor : {R : Type 0} → ℕ → Option ℕ → ColumnOf R → ColumnOf R → Type 0
+GrowsFor wanted None old new = Unit {0}
+GrowsFor wanted (Some most) old new = new.buffer ≤ max old.buffer (buffer_for wanted most)
 
 -- there is a record, and the first has more bytes of its own than it may have
 abbrev pub BeginsTooLong : Option ℕ → List CsvRecord → Type 0

@@ -9,8 +9,8 @@ use crate::limit::Bounded;
 use std::alloc::{AllocError, Global};
 use std::io::{self, Read};
 
-/// The number of bytes that there is room for at first.
-const FIRST_ROOM: usize = 64 * 1024;
+/// The number of bytes that a column's buffer has room for at first.
+pub const FIRST_ROOM: usize = 64 * 1024;
 
 /// Returns the new length of a full buffer: four times its length, up to `wanted`, and beyond that an
 /// eighth more. It is at least `FIRST_ROOM`.
@@ -49,7 +49,8 @@ impl Window {
 
     /// Makes a window without a byte.
     pub(crate) fn new(alloc: Global) -> Window
-        ensures { held_bytes result ≡ [] }
+        ensures held { held_bytes result ≡ [] }
+        ensures len { vec_len result.bytes ≡ 0 }
     {
         Window {
             bytes: Vec::new(alloc),
@@ -78,6 +79,7 @@ impl Window {
         requires { count ≤ length (held_bytes self.old) }
         ensures taken { taken_bytes self.new ≡ take count (held_bytes self.old) }
         ensures held { held_bytes self.new ≡ drop count (held_bytes self.old) }
+        ensures len { vec_len self.new.bytes ≡ vec_len self.old.bytes }
     {
         self.last = self.start;
         self.start += count;
@@ -142,6 +144,7 @@ impl Window {
         ensures err { OnErr result ((held_bytes self.new ≡ held_bytes self.old)
             × Keeps (bytes_left R.remaining reader.old) (bytes_left R.remaining reader.new)) }
         ensures limit { GivesWithin R.remaining reader.old reader.new }
+        ensures len { vec_len self.new.bytes ≡ vec_len self.old.bytes }
     {
         let end = self.end;
         let count = reader.read(&mut self.bytes[end..])?;

@@ -1,11 +1,12 @@
 //! A column that is read in rounds.
 
-ghost use Rattle.std.specs.Prelude.{◌≡◌, ◌↔◌, ◌⊎◌, ◌+◌, ◌<◌, ◌≤◌, ◌++◌, [], List, ℕ, true, None, Some, length, take, drop, IfErr, IfOk, IfSome};
+ghost use Rattle.std.specs.Prelude.{◌≡◌, ◌↔◌, ◌⊎◌, ◌+◌, ◌<◌, ◌≤◌, ◌++◌, [], List, ℕ, true, None, Some, length, max, take, drop, IfErr, IfOk, IfSome, OnOk};
 ghost use Rattle.std.specs.Io.KnownBytes.{IsAtEnd, Keeps};
 ghost use Rattle.csv.specs.Reading.{strip_bom};
 ghost use Rattle.zic_columns.specs.Lines.{texts_by};
 ghost use Rattle.zic_columns.specs.Own.{first_text};
-ghost use Rattle.zic_columns.specs.Round.{ArePiecesOf, HasNoRecord, IsNextTooLong, PassesRecord, StaysWithin, Takes, TakesOf, may_have, may_take, taken_records, unread};
+ghost use Rattle.zic_columns.specs.Round.{ArePiecesOf, GrowsFor, HasNoRecord, IsNextTooLong, PassesRecord, StaysWithin, Takes, TakesOf, buffer_for, may_have, may_take, taken_records, unread};
+ghost use Rattle.zic_columns.specs.declared.buffer.TheConstants.{FIRST_ROOM};
 ghost use Rattle.zic_columns.specs.declared.pieces.TheConstants.{MAX_ROUND_PIECES};
 ghost use Rattle.zic_columns.specs.code.Range.{AreWithin, pieces_at};
 ghost use Rattle.zic_columns.specs.code.Mark.{ShowsMark};
@@ -114,8 +115,8 @@ enum AtHand {
 }
 
 /// A column that is read in rounds. Clauses see it as where its records end, the round that was taken last, the bytes in
-/// hand that no round had, and the reader that gives the others, with the number of bytes that it
-/// may still give.
+/// hand that no round had, the length of the buffer in which these stand, and the reader that gives the
+/// others, with the number of bytes that it may still give.
 ///
 /// A round is what one read gave, together with what was in hand: all whole records of these bytes.
 /// Where they have no whole record, they are read on.
@@ -132,7 +133,7 @@ pub struct Column<R: Read> {
 }
 
 impl<R: Read> Model for Column<R> {
-    ghost use Rattle.std.specs.Prelude.{length};
+    ghost use Rattle.std.specs.Prelude.{length, vec_len};
     ghost use Rattle.zic_columns.specs.Round.{ColumnOf};
 
     ghost Value = { ColumnOf R };
@@ -145,6 +146,7 @@ impl<R: Read> Model for Column<R> {
       by = mode_of column.scan;
       round = pieces_at (taken_bytes column.window) column.ranges.items;
       held = held_bytes column.window;
+      buffer = vec_len column.window.bytes;
       past = column.reader.past;
       left = column.reader.left;
       reader = column.reader.inner;
@@ -178,6 +180,8 @@ impl<R: Read + Drop> Column<R> {
             (λ bytes. unread R.remaining column ≡ Some (strip_bom bytes))) }
         ensures limit { IfOk result (λ column. TakesOf (R.remaining reader)
             (R.remaining column.reader) (most + 1) (may_take column.past column.left)) }
+        ensures held { IfOk result (λ column. length column.held ≤ column.buffer) }
+        ensures buffer { IfOk result (λ column. column.buffer ≤ FIRST_ROOM) }
     {
         let mut column = Column {
             reader: Bounded::new(reader, most),
@@ -207,6 +211,9 @@ impl<R: Read> Column<R> {
     /// bytes. A read asks for up to `wanted` bytes: at first for 64 KiB, and for more where reads give
     /// all that was requested, or a record is longer.
     ///
+    /// Where there is a number `longest`, the buffer grows no longer than 64 KiB, than `wanted`, or than an
+    /// eighth more than `longest`, whichever is the most.
+    ///
     /// # Errors
     ///
     /// Fails where the reader fails or gives more bytes than the column may have, or memory is
@@ -230,6 +237,8 @@ impl<R: Read> Column<R> {
         ensures few { IfOk result (λ _. length self.new.round ≤ MAX_ROUND_PIECES) }
         ensures cut { IfOk result (λ _. ArePiecesOf size self.new.round) }
         ensures limit { StaysWithin R.remaining self.old self.new }
+        ensures held { OnOk result (length self.new.held ≤ self.new.buffer) }
+        ensures buffer { GrowsFor wanted longest self.old self.new }
     {
         match self.gather(alloc, wanted, longest)? {
             AtHand::Records(count) => self.take_round(alloc, count, size),
@@ -276,6 +285,8 @@ impl<R: Read> Column<R> {
         ensures long { IfErr result (λ why. why ≡ PassStop.TooLong
             → IsNextTooLong longest self.old.by (unread R.remaining self.old)) }
         ensures limit { StaysWithin R.remaining self.old self.new }
+        ensures held { OnOk result (length self.new.held ≤ self.new.buffer) }
+        ensures buffer { GrowsFor wanted longest self.old self.new }
     {
         let own = self.pass_next(alloc, wanted, longest)?;
         if may_have(longest, own.len()) {
@@ -302,6 +313,7 @@ impl<R: Read> Column<R> {
         ensures shows { IfOk result
             (λ _. ShowsMark self.new.held ⊎ IsAtEnd (to_come R.remaining self.new)) }
         ensures limit { StaysWithin R.remaining self.old self.new }
+        ensures buffer { self.new.buffer ≤ max self.old.buffer FIRST_ROOM }
     {
         for _ in 0..MARK_LEN {
             if shows_mark(self.window.held()) {
@@ -328,6 +340,8 @@ impl<R: Read> Column<R> {
         ensures few { IfOk result (λ _. length self.new.round ≤ MAX_ROUND_PIECES) }
         ensures cut { IfOk result (λ _. ArePiecesOf size self.new.round) }
         ensures limit { StaysWithin R.remaining self.old self.new }
+        ensures held { OnOk result (length self.new.held ≤ self.new.buffer) }
+        ensures buffer { self.new.buffer ≡ self.old.buffer }
     {
         let cut = cut_pieces(alloc, &self.window.held()[..count], size, self.lines)?;
         let none = cut.ranges.is_empty();
@@ -355,6 +369,8 @@ impl<R: Read> Column<R> {
         ensures long { IfErr result (λ why. why ≡ PassStop.TooLong
             → IsNextTooLong longest self.old.by (unread R.remaining self.old)) }
         ensures limit { StaysWithin R.remaining self.old self.new }
+        ensures held { OnOk result (length self.new.held ≤ self.new.buffer) }
+        ensures buffer { GrowsFor wanted longest self.old self.new }
     {
         match self.gather(alloc, wanted, longest)? {
             AtHand::Records(count) => Ok(self.pass_first(alloc, count)?),
@@ -377,6 +393,8 @@ impl<R: Read> Column<R> {
             (λ bytes. own.items ≡ first_text (texts_by self.old.by bytes))) }
         ensures none { IfOk result (λ _. self.new.round ≡ []) }
         ensures limit { StaysWithin R.remaining self.old self.new }
+        ensures held { OnOk result (length self.new.held ≤ self.new.buffer) }
+        ensures buffer { self.new.buffer ≡ self.old.buffer }
     {
         let (record, _) = split_records(&self.window.held()[..count], 1);
         let own = first_own_bytes(alloc, record)?;
@@ -399,6 +417,7 @@ impl<R: Read> Column<R> {
         ensures hand { IfOk result
             (IsAtHand longest self.new.by self.new.held (to_come R.remaining self.new)) }
         ensures limit { StaysWithin R.remaining self.old self.new }
+        ensures buffer { GrowsFor wanted longest self.old self.new }
     {
         for _ in 0..u64::MAX {
             if let Some(hand) = self.at_hand(alloc, longest) {
@@ -423,6 +442,7 @@ impl<R: Read> Column<R> {
         ensures none { result ≡ None → UnendedBy self.new.by self.new.held }
         ensures short { result ≡ None → may_have longest (length self.new.held) ≡ true }
         ensures limit { StaysWithin R.remaining self.old self.new }
+        ensures buffer { self.new.buffer ≡ self.old.buffer }
     {
         let whole = self.scan.whole();
         if first_record(&self.window.held()[..whole]).is_some() {
@@ -464,6 +484,8 @@ impl<R: Read> Column<R> {
             × (self.new.held ≡ self.old.held ++ more)) }
         ensures end { IfOk result (λ n. n ≡ 0 → IsAtEnd (to_come R.remaining self.new)) }
         ensures limit { StaysWithin R.remaining self.old self.new }
+        ensures buffer { self.new.buffer
+            ≤ max self.old.buffer (buffer_for wanted (length self.old.held)) }
     {
         self.ranges.clear();
         self.window.make_room(wanted)?;
@@ -477,14 +499,16 @@ impl<R: Read> Column<R> {
     fn pass(&mut self, count: usize, ranges: Vec<PieceRange>)
         requires within { count ≤ length self.old.held }
         requires ranges { AreWithin ranges.items count }
-        ensures { self.new ≡ record {
+        ensures passed { self.new ≡ record {
           by = self.old.by;
           round = pieces_at (take count self.old.held) ranges.items;
           held = drop count self.old.held;
+          buffer = self.old.buffer;
           past = self.old.past;
           left = self.old.left;
           reader = self.old.reader;
         } }
+        ensures held { length self.new.held ≤ self.new.buffer }
     {
         let scan = self.scan.rest(self.window.held(), count);
         self.lines = lines_after(self.lines, &self.window.held()[..count]);

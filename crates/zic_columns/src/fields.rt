@@ -43,6 +43,9 @@ pub struct Record {
     pub zone: Field,
     /// The field of the time: no bytes where the record has too few fields.
     pub time: Field,
+    /// Whether a double quote is open at the record's end, or a byte follows one that ends a field and is
+    /// neither a delimiter, a double quote nor a line end. RFC 4180, 2, has no such record.
+    pub stray: bool,
 }
 
 impl Span {

@@ -6,7 +6,7 @@ ghost use Rattle.zic_columns.specs.Laws.{RowsAreExchanged};
 ghost use Rattle.zic_columns.specs.Laws.{PairsAreMapped, OwnTextsAreOfRecords, PiecesHaveRecords};
 ghost use Rattle.zic_columns.specs.Laws.{ColumnIsOwnBytes, OwnBytesAreRecords, OwnBytesAreTrimmed, RecordsAreOfOwnBytes};
 ghost use Rattle.zic_columns.specs.Laws.{LinesAreCut, LinesAreTruncated, LinesWithoutQuotesAreCsv};
-ghost use Rattle.zic_columns.specs.Laws.{RecordsByAreExchanged};
+ghost use Rattle.zic_columns.specs.Laws.{PlainBytesHaveNoStray, RecordsByAreExchanged, RfcRecordsHaveNoStray, StraysAreExchanged};
 ghost use Rattle.zic_columns.specs.Laws.{RecordsByAreOne, TextsByAreExchanged, TextsByAreOfRecords};
 ghost use Rattle.zic_columns.specs.Laws.{TextsAreCounted, TextsAreExchanged, WholeRecordsAreCut};
 
@@ -134,4 +134,20 @@ pub fn records_by_are_exchanged()
 /// delimiter and the comma stand in each other's place, wherever records end.
 pub fn texts_by_are_exchanged()
     ensures { TextsByAreExchanged }
+{}
+
+/// States that bytes in which the delimiter and the comma stand in each other's place have a stray double
+/// quote if they had one.
+pub fn strays_are_exchanged()
+    ensures { StraysAreExchanged }
+{}
+
+/// States that bytes without a double quote have no stray one.
+pub fn plain_bytes_have_no_stray()
+    ensures { PlainBytesHaveNoStray }
+{}
+
+/// States that a record as RFC 4180 has it has no stray double quote.
+pub fn rfc_records_have_no_stray()
+    ensures { RfcRecordsHaveNoStray }
 {}

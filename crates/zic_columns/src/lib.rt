@@ -36,6 +36,7 @@ mod splits;
 mod truncate;
 mod walk;
 
+pub use buffer::FIRST_ROOM;
 pub use columns::{Column, PassStop, Taken, TakenLine, Unread};
 pub use delimiter::{Exchanged, exchange};
 pub use fields::{Field, Record, Span, Wanted, push_field};
@@ -43,6 +44,7 @@ pub use lines::{line_end_at, line_feeds};
 pub use longest::may_have;
 pub use mark::without_mark;
 pub use pieces::MAX_ROUND_PIECES;
+pub use quote::has_stray_quote;
 pub use rounds::Round;
 pub use splits::{BATCH, Splitter};
 pub use truncate::Truncated;

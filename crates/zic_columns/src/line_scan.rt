@@ -2,7 +2,7 @@
 
 ghost use Rattle.std.specs.Prelude.{◌≡◌, ◌≤◌, All, drop, false, length, take};
 ghost use Rattle.zic_columns.specs.Column.{ends_line};
-ghost use Rattle.zic_columns.specs.Lines.{is_open};
+ghost use Rattle.zic_columns.specs.Quotes.{is_open};
 ghost use Rattle.zic_columns.specs.code.LineScan.{AreClosedLines, HasNoLineEnd, IsFirstLine, IsLineScan};
 
 use crate::hand::lines_before_quote;

@@ -1,7 +1,7 @@
 //! The machine by which a CSV reader reads a field or a record.
 
-ghost use Rattle.std.specs.Prelude.{◌≡◌, ℕ, List, MatchOption, MatchResult};
-ghost use Rattle.zic_columns.specs.code.Field.{EndsField, IsField, IsOfField};
+ghost use Rattle.std.specs.Prelude.{◌≡◌, ℕ, List, MatchOption, MatchResult, take};
+ghost use Rattle.zic_columns.specs.code.Field.{EndsField, HasQuotes, IsField, IsOfField};
 ghost use Rattle.zic_columns.specs.code.Machine.{EndsRecord, GoesOn, IsEndOfRecord, ReadsTo, state_at};
 
 use crate::line::ends_line;
@@ -26,6 +26,15 @@ pub(crate) struct FieldByte {
     pub(crate) next: Place,
     /// Whether it joins the text of the field.
     pub(crate) is_text: bool,
+    /// Whether it follows the double quote that ends the field, and isn't another one.
+    pub(crate) is_past: bool,
+}
+
+/// The number of bytes of a field, and whether it has a stray double quote.
+#[derive(Clone, Copy, Drop)]
+pub(crate) struct FieldLen {
+    pub(crate) len: usize,
+    pub(crate) stray: bool,
 }
 
 /// Returns what a double quote is to a field: text after text that has no quotes round it, and after
@@ -39,7 +48,11 @@ fn quote_byte(place: Place) -> FieldByte
         Place::Quoted => (Place::QuoteSeen, false),
         Place::QuoteSeen => (Place::Quoted, true),
     };
-    FieldByte { next, is_text }
+    FieldByte {
+        next,
+        is_text,
+        is_past: false,
+    }
 }
 
 /// Returns what a byte is to a field, or `None` where it ends the field.
@@ -57,22 +70,34 @@ pub(crate) fn field_byte(place: Place, byte: u8) -> Option<FieldByte>
     Some(FieldByte {
         next,
         is_text: true,
+        is_past: matches!(place, Place::QuoteSeen),
     })
 }
 
-/// Returns the number of bytes of the field at the start of the bytes: up to its comma or line end,
-/// or all.
-pub(crate) fn field_len(bytes: &[u8]) -> usize
-    ensures { (text : List ℕ) × IsField bytes.now text result }
+/// Returns the number of bytes of the field at the start of the bytes, up to its comma or line end, or
+/// all, and whether it has a stray double quote.
+pub(crate) fn field_len(bytes: &[u8]) -> FieldLen
+    ensures { (text : List ℕ) × (field : IsField bytes.now text result.len)
+        × HasQuotes (take result.len bytes.now) field.place_now result.stray }
 {
     let mut place_now = Place::Start;
+    let mut stray = false;
     for (index, byte) in bytes.iter().enumerate() {
         match field_byte(place_now, *byte) {
-            Some(read) => place_now = read.next,
-            None => return index,
+            None => return FieldLen { len: index, stray },
+            Some(read) => {
+                if read.is_past {
+                    stray = true;
+                }
+                place_now = read.next;
+            }
         }
     }
-    bytes.len()
+    let len = bytes.len();
+    match place_now {
+        Place::Quoted => FieldLen { len, stray: true },
+        _ => FieldLen { len, stray },
+    }
 }
 
 /// Returns the place after a byte of a record, or `None` where the byte ends the record.

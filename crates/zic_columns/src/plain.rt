@@ -47,6 +47,7 @@ fn record_of(start: usize, end: usize, fields: PlainFields) -> Record
         count: fields.count,
         zone: Field::Plain(fields.zone),
         time: Field::Plain(fields.time),
+        stray: false,
     }
 }
 

@@ -1,6 +1,6 @@
 //! A record of a piece, field by field.
 
-ghost use Rattle.std.specs.Prelude.{◌≡◌, ◌+◌, ◌^◌, ◌<◌, ◌≤◌, ◌==◌, ◌∷◌, ◌++◌, ℕ, List, [], drop, length, Some, IfSome, MatchResult};
+ghost use Rattle.std.specs.Prelude.{◌≡◌, ◌+◌, ◌^◌, ◌<◌, ◌≤◌, ◌==◌, ◌||◌, ◌∷◌, ◌++◌, ℕ, List, [], drop, length, Some, IfSome, MatchResult};
 ghost use Rattle.memchr.specs.Find.{IsFirst, Passes};
 ghost use Rattle.zic_columns.specs.Record.{IsWithinPiece, field_text};
 ghost use Rattle.zic_columns.specs.code.Field.{IsFieldAt};
@@ -16,11 +16,13 @@ use crate::machine::{Place, field_len, record_end};
 use crate::plain::split_quoted_pair;
 use memchr::{memchr, memchr3};
 
-/// A field of a piece, and the index of the comma or line end after it, or of the piece's end.
+/// A field of a piece, the index of the comma or line end after it, or of the piece's end, and whether it
+/// has a stray double quote.
 #[derive(Clone, Copy, Drop)]
 pub(crate) struct FoundField {
     field: Field,
     stop: usize,
+    stray: bool,
 }
 
 /// The text of a field between two double quotes, as it stands in a piece, and the index of the comma or
@@ -101,16 +103,23 @@ fn quoted_field(piece: &[u8], at: usize) -> FoundField
     ensures { IsFieldAt piece.now at result }
 {
     if let Some(text) = near_quoted(piece, at) {
-        let field = Field::Plain(text.span);
-        let stop = text.stop;
-        return FoundField { field, stop };
+        return FoundField {
+            field: Field::Plain(text.span),
+            stop: text.stop,
+            stray: false,
+        };
     }
-    let stop = at + field_len(&piece[at..]);
+    let found = field_len(&piece[at..]);
+    let stop = at + found.len;
     let field = Field::Quoted(Span {
         start: at,
         end: stop,
     });
-    FoundField { field, stop }
+    FoundField {
+        field,
+        stop,
+        stray: found.stray,
+    }
 }
 
 /// Returns the field from an index on. One that begins with no double quote has its text up to a
@@ -128,25 +137,30 @@ fn next_field(piece: &[u8], at: usize) -> FoundField
         start: at,
         end: stop,
     });
-    FoundField { field, stop }
+    FoundField {
+        field,
+        stop,
+        stray: false,
+    }
 }
 
 /// Adds a field to a record, and keeps it if rows need it.
 #[inline(always)]
-fn with_field(given: Record, field: Field, wanted: Wanted) -> Record
+fn with_field(given: Record, found: FoundField, wanted: Wanted) -> Record
     requires { given.count + 1 < 2 ^ 64 }
     ensures own { result.own ≡ given.own }
     ensures count { result.count ≡ given.count + 1 }
+    ensures stray { result.stray ≡ (given.stray || found.stray) }
     ensures has { (piece : List ℕ) (fields : List (List ℕ)) → HasFields piece wanted fields given
-        → IsWithinPiece piece field
-        → HasFields piece wanted (fields ++ field_text piece field ∷ []) result }
+        → IsWithinPiece piece found.field
+        → HasFields piece wanted (fields ++ field_text piece found.field ∷ []) result }
 {
     let zone = match wanted.zone {
-        Some(index) if index == given.count => field,
+        Some(index) if index == given.count => found.field,
         _ => given.zone,
     };
     let time = if wanted.time == given.count {
-        field
+        found.field
     } else {
         given.time
     };
@@ -155,6 +169,7 @@ fn with_field(given: Record, field: Field, wanted: Wanted) -> Record
         count: given.count + 1,
         zone,
         time,
+        stray: given.stray || found.stray,
     }
 }
 
@@ -169,7 +184,7 @@ pub(crate) fn split_rest(piece: &[u8], begun: Begun, wanted: Wanted) -> Record
     let mut at = begun.at;
     loop {
         let found = next_field(piece, at);
-        given = with_field(given, found.field, wanted);
+        given = with_field(given, found, wanted);
         if found.stop == piece.len() || piece[found.stop] != b',' {
             given.own.end = found.stop;
             return given;
@@ -190,6 +205,7 @@ pub(crate) fn split_record(piece: &[u8], start: usize, wanted: Wanted) -> Record
         count: 0,
         zone: Field::Plain(own),
         time: Field::Plain(own),
+        stray: false,
     };
     split_rest(piece, Begun { given, at: start }, wanted)
 }

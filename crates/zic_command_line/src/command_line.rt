@@ -40,6 +40,15 @@ pub enum Release {
     FromSource,
 }
 
+/// The files of a release that a folder has besides those of zones.
+#[derive(Debug, Drop)]
+pub struct ReleaseFiles {
+    /// The release that the folder is said to be of, if one is said.
+    pub release: Option<Release>,
+    /// The folder whose tables are copied, if there is one.
+    pub tables: Option<String>,
+}
+
 /// What is listed of the zones of two sources, or of two folders.
 #[derive(Debug, Drop)]
 pub enum Differences {
@@ -61,10 +70,8 @@ pub struct Building {
     pub links: Links,
     /// Whether the files are on the disk when the command ends.
     pub sync: bool,
-    /// The release that the folder is said to be of, if one is said.
-    pub release: Option<Release>,
-    /// The folder whose tables are copied, if there is one.
-    pub tables: Option<String>,
+    /// What is placed besides the files of zones.
+    pub release_files: ReleaseFiles,
 }
 
 /// What the words ask for.
@@ -90,6 +97,8 @@ pub enum Request {
         folder: String,
         sources: Vec<String>,
         plan: Plan,
+        /// What the folder is to have besides the files of zones.
+        release_files: ReleaseFiles,
         /// Whether other files of the folder count.
         strict: bool,
     },
@@ -343,17 +352,22 @@ fn build(alloc: Global, matches: &ArgMatches<'_>) -> Result<Request, NoRequest> 
     let links = links_of(alloc, matches)?;
     let sources = sources(alloc, matches)?;
     let folder = word(alloc, matches, "DIR")?;
-    let tables = optional(alloc, matches, "tables")?;
-    let release = release_of(alloc, matches)?;
+    let release_files = release_files(alloc, matches)?;
     Ok(Request::Build(Building {
         folder,
         sources,
         plan,
         links,
         sync: matches.get_flag("sync"),
-        release,
-        tables,
+        release_files,
     }))
+}
+
+/// Returns the files of a release that a folder has besides those of zones.
+fn release_files(alloc: Global, matches: &ArgMatches<'_>) -> Result<ReleaseFiles, NoRequest> {
+    let tables = optional(alloc, matches, "tables")?;
+    let release = release_of(alloc, matches)?;
+    Ok(ReleaseFiles { release, tables })
 }
 
 /// Returns the release that a folder is said to be of.
@@ -375,10 +389,12 @@ fn verify(alloc: Global, matches: &ArgMatches<'_>) -> Result<Request, NoRequest>
     let plan = plan(alloc, matches)?;
     let sources = sources(alloc, matches)?;
     let folder = word(alloc, matches, "DIR")?;
+    let release_files = release_files(alloc, matches)?;
     Ok(Request::Verify {
         folder,
         sources,
         plan,
+        release_files,
         strict: matches.get_flag("strict"),
     })
 }

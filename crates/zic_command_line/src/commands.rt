@@ -39,6 +39,9 @@ const DETAIL_WORDS: [&str; 3] = ["line", "value", "line,value"];
 /// The words for what a record is.
 const RECORD_WORDS: [&str; 2] = ["csv", "lines"];
 
+/// The words for which double quotes a record may have.
+const QUOTE_WORDS: [&str; 2] = ["strict", "lenient"];
+
 /// What a command takes.
 enum Form {
     /// A word that must be given.
@@ -81,6 +84,8 @@ enum Form {
     Style,
     /// An option that is one of `RECORD_WORDS`, the first by default.
     Records,
+    /// An option that is one of `QUOTE_WORDS`.
+    Quotes,
     /// An option that is a number of bytes, from 1.
     Bytes,
     /// An option that is a number of rows, from 0.
@@ -192,7 +197,7 @@ static BUILD: [Word; 9] = [
     EXPLAIN,
 ];
 
-static VERIFY: [Word; 6] = [
+static VERIFY: [Word; 8] = [
     Word {
         name: "DIR",
         help: "The folder that is to have the files",
@@ -207,6 +212,16 @@ static VERIFY: [Word; 6] = [
         name: "strict",
         help: "Lists other files of DIR too",
         form: Form::Flag,
+    },
+    Word {
+        name: "release",
+        help: "Compares +VERSION with what build --release writes",
+        form: Form::Release,
+    },
+    Word {
+        name: "tables",
+        help: "Compares tables with what build --tables copies",
+        form: Form::Folder,
     },
     WORKERS,
     ZONE_PIECE,
@@ -274,7 +289,7 @@ static DIFF: [Word; 12] = [
     EXPLAIN,
 ];
 
-static CONVERT: [Word; 30] = [
+static CONVERT: [Word; 31] = [
     Word {
         name: "SOURCE",
         help: "A file of Rule, Zone and Link lines",
@@ -386,6 +401,11 @@ static CONVERT: [Word; 30] = [
         name: "records",
         help: "What a record is: csv or lines",
         form: Form::Records,
+    },
+    Word {
+        name: "quotes",
+        help: "How double quotes are read: strict or lenient",
+        form: Form::Quotes,
     },
     Word {
         name: "append",
@@ -643,6 +663,7 @@ impl Form {
             Form::Choice => choice(&["C"], &CHOICE_WORDS, &[]),
             Form::Style => choice(&["STYLE"], &STYLE_WORDS, &["fields"]),
             Form::Records => choice(&["KIND"], &RECORD_WORDS, &["csv"]),
+            Form::Quotes => choice(&["KIND"], &QUOTE_WORDS, &[]),
             Form::Ignore => choice(&["WHAT"], &IGNORE_WORDS, &[]),
             Form::Details => choice(&["WHAT"], &DETAIL_WORDS, &[]),
             Form::Bytes => whole(&["N"], 1, MAX_BYTES),

@@ -26,12 +26,13 @@ pub(crate) fn layout(
     let from = time_from(alloc, matches)?;
     let style = style(alloc, matches)?;
     let records = records(alloc, matches)?;
+    let quotes = quotes(alloc, matches)?;
     let header = header(alloc, matches)?;
     let (zone, time) = indices(alloc, matches, fields)?;
     let at_fault = at_fault(alloc, matches)?;
     expect_fields(alloc, header, fields, zone, time)?;
     let start = row_start(matches);
-    Ok(Layout {
+    let mut layout = Layout {
         zone: zone_from(alloc, matches, zone)?,
         time,
         from,
@@ -47,7 +48,12 @@ pub(crate) fn layout(
         written: written(matches),
         at_fault,
         notes: notes(matches),
-    })
+    };
+    layout.quotes = match quotes {
+        Some(quotes) => quotes,
+        None => default_quotes(&layout),
+    };
+    Ok(layout)
 }
 
 /// Returns the index of the field of a row's zone, unless it is the zone of all rows, and the index of the
@@ -308,4 +314,54 @@ fn records(alloc: Global, matches: &ArgMatches<'_>) -> Result<Records, NoRequest
         Some("lines") => Ok(Records::Lines),
         _ => Err(usage(alloc, "--records is csv or lines")),
     }
+}
+
+/// Returns which double quotes a record may have, where an option says it.
+fn quotes(alloc: Global, matches: &ArgMatches<'_>) -> Result<Option<Quotes>, NoRequest> {
+    match matches.get_str("quotes") {
+        None => Ok(None),
+        Some("strict") => Ok(Some(Quotes::Strict)),
+        Some("lenient") => Ok(Some(Quotes::Lenient)),
+        Some(_) => Err(usage(alloc, "--quotes is strict or lenient")),
+    }
+}
+
+/// Returns which double quotes a record may have where no option says it: all in a plain column, and by any
+/// other layout those of RFC 4180.
+fn default_quotes(layout: &Layout) -> Quotes {
+    if is_plain(layout) {
+        Quotes::Lenient
+    } else {
+        Quotes::Strict
+    }
+}
+
+/// Returns whether a layout is, but for its quotes, that of plain columns without a header.
+fn is_plain(layout: &Layout) -> bool {
+    let is_read_plainly = matches!(
+        layout,
+        Layout {
+            zone: ZoneFrom::Field(0),
+            time: 1,
+            from: TimeFrom::Count,
+            count: FieldCount::Exactly(2),
+            unit: Unit::Second,
+            records: Records::Csv,
+            header: Header::Absent,
+            max_record: None,
+            ..
+        }
+    );
+    let has_plain_rows = matches!(
+        layout,
+        Layout {
+            start: RowStart::Fields,
+            style: Style::Fields,
+            written: Written::All,
+            at_fault: AtFault::End,
+            notes: Notes::Faults,
+            ..
+        }
+    );
+    is_read_plainly && has_plain_rows && layout.delimiter.byte() == b','
 }

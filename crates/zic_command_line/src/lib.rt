@@ -10,8 +10,8 @@ mod no_request;
 mod release;
 
 pub use command_line::{
-    Building, CommandLine, Conversion, Differences, Links, Release, Request, Zones, parse,
-    requested, usage_of,
+    Building, CommandLine, Conversion, Differences, Links, Release, ReleaseFiles, Request, Zones,
+    parse, requested, usage_of,
 };
 pub use fields::FieldNames;
 pub use instant::parse_instant_word;

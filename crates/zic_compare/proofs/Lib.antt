@@ -6,3 +6,4 @@ pub mod LineLemmas
 pub mod ReadingLemmas
 pub mod SummaryLemmas
 pub mod Joining
+pub mod WritingLemmas

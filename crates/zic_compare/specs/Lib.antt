@@ -8,4 +8,5 @@ pub mod Summary
 pub mod SummaryText
 pub mod Text
 pub mod Verifying
+pub mod Written
 pub mod code

@@ -49,7 +49,7 @@ pub fn diff(alloc: Global, old: &Files, new: &Files, how: &Listed) -> Result<Vec
 }
 
 /// Returns the names of the fields of lines.
-fn names_of(how: &Listed) -> &'static [u8]
+pub(crate) fn names_of(how: &Listed) -> &'static [u8]
     ensures { result.now ≡ names_of how.now }
 {
     match how {

@@ -10,7 +10,7 @@ use Rattle.zic_columns.specs.Exchange.{exchanged}
 use Rattle.zic_columns.specs.Laws.{RecordsByAreExchanged, TextsByAreExchanged}
 use Rattle.zic_columns.specs.Lines.{records_by, exchanged_record}
 use Rattle.zic_columns.specs.Own.{CsvRecord}
-use Rattle.zic_columns.specs.Round.{IsNextTooLong, may_have}
+use Rattle.zic_columns.specs.Round.{HasNoRecord, IsNextTooLong, may_have}
 use Rattle.zic_zones.specs.declared.releases.Releases.{Releases}
 use Rattle.zic_plan.specs.Delimiter.{is_delimiter}
 use Rattle.zic_plan.specs.Layout.{records_before}
@@ -123,6 +123,15 @@ module _ (layout : Layout) (releases : Releases) (most : ℕ) where
       let are = subst (λ (f : Option RowKind). AreRowsOf layout releases most 1 done (record rows { fault = f })) none so_far in
       subst (λ (l : List CsvRecord). AreRowsOf layout releases most 1 l (record rows { fault = Some kind })) (ap (λ (l : List CsvRecord). done ++ l) (sym (parts ∙ first)) ∙ sym same)
       (one_fault layout releases most 1 done rows.text rows.count rows.faults are given others kind here))
+
+  -- or no record is left
+  pub left_done : (known left next : Option (List ℕ)) (rows : RowsOf) → AreRowsSoFar layout releases most known left rows → Takes layout left next [] → HasNoRecord layout.records next
+      → AreRowsOfLeft layout releases most known rows
+  left_done known left next rows far takes end = if_some known _ (λ bytes e.
+      let (done, rest, at, same, so_far) = for_some known _ bytes far e in
+      let (after, there, parts) = for_some left _ rest takes at in
+      let none : records_in layout after ≡ [] = ap (map (exchanged_record layout.delimiter)) (for_some next _ after end there) in
+      subst (λ (l : List CsvRecord). AreRowsOf layout releases most 1 l rows) (sym (same ∙ ap (λ (l : List CsvRecord). done ++ l) (parts ∙ none) ∙ append-nil done)) so_far)
 
   -- the header and the rows of a column in which the delimiter and commas are exchanged
   pub rows_by : RecordsByAreExchanged → TextsByAreExchanged → is_delimiter layout.delimiter ≡ true → (column : List ℕ) (inside left : Option (List ℕ)) → inside ≡ Some (exchanged layout.delimiter (read_by layout column))

@@ -12,7 +12,7 @@ use Rattle.zic_words.specs.Name.{is_name, is_name_byte, is_name_part}
 use Rattle.zic_words.specs.declared.name.TheConstants.{LONGEST_NAME}
 use Rattle.zic_columns.specs.Exchange.{CanDelimit, exchanged}
 use Rattle.zic_columns.specs.Laws.{RecordsByAreExchanged, TextsByAreExchanged}
-use Rattle.zic_columns.specs.Lines.{texts_by}
+use Rattle.zic_columns.specs.Lines.{delimited_texts_by, texts_by}
 use Rattle.zic_columns.specs.Own.{first_text}
 use Rattle.zic_plan.specs.Delimiter.{is_csv_byte, is_delimiter, is_row_byte, exchange}
 use Rattle.zic_plan.specs.Layout.{records_before}
@@ -20,8 +20,9 @@ use Rattle.zic_plan.specs.declared.layout.Header.{Header}
 use Rattle.zic_plan.specs.declared.layout.Header.TheVariants as headers
 use Rattle.zic_plan.specs.declared.layout.Layout.{Layout}
 use Rattle.zic_zones.specs.Zones.{field_at}
-use Rattle.zic_convert.specs.Column.{AreRowRecords, header_of, names_added, own_header, own_line, read_by}
-use Rattle.zic_convert.specs.code.Progress.{own_line_in}
+use Rattle.zic_layout_rows.specs.LayoutRows.{if_aside}
+use Rattle.zic_convert.specs.Column.{AreRowRecords, header_aside, header_of, names_added, own_header, own_line, read_by}
+use Rattle.zic_convert.specs.code.Progress.{header_aside_in, own_line_in}
 use Rattle.zic_convert.specs.code.Row.{records_in}
 
 -- what a byte that can stand between fields is not
@@ -114,10 +115,21 @@ header_put d headers.First texts = first_put d texts
 header_put d headers.Skipped texts = refl
 
 -- and so is its own header
-pub own_line_delimited : (layout : Layout) → TextsByAreExchanged → is_delimiter layout.delimiter ≡ true → (column : List ℕ)
-    → own_line_in layout (exchanged layout.delimiter (read_by layout column)) ≡ own_line layout column
-own_line_delimited layout own_law is column =
+header_delimited : (layout : Layout) → TextsByAreExchanged → is_delimiter layout.delimiter ≡ true → (column : List ℕ)
+    → exchanged layout.delimiter (own_header layout.header (texts_by layout.records (strip_bom (exchanged layout.delimiter (read_by layout column)))))
+    ≡ own_header layout.header (delimited_texts_by layout.records layout.delimiter (strip_bom (read_by layout column)))
+header_delimited layout own_law is column =
     let d = layout.delimiter in
     let bytes = read_by layout column in
     let texts = texts_by layout.records (strip_bom (exchanged d bytes)) in
-    ap (header_of layout.start (names_added layout) d) (header_put d layout.header texts ∙ ap (own_header layout.header) (sym (own_law layout.records d bytes (can_delimit d is))))
+    header_put d layout.header texts ∙ ap (own_header layout.header) (sym (own_law layout.records d bytes (can_delimit d is)))
+
+-- with the names that are added
+pub own_line_delimited : (layout : Layout) → TextsByAreExchanged → is_delimiter layout.delimiter ≡ true → (column : List ℕ)
+    → own_line_in layout (exchanged layout.delimiter (read_by layout column)) ≡ own_line layout column
+own_line_delimited layout own_law is column = ap (header_of layout.start (names_added layout) layout.delimiter) (header_delimited layout own_law is column)
+
+-- and where records are put aside
+pub aside_delimited : (layout : Layout) → TextsByAreExchanged → is_delimiter layout.delimiter ≡ true → (column : List ℕ)
+    → header_aside_in layout (exchanged layout.delimiter (read_by layout column)) ≡ header_aside layout column
+aside_delimited layout own_law is column = ap (if_aside layout.at_fault) (header_delimited layout own_law is column)

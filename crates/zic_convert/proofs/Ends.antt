@@ -11,10 +11,10 @@ use Rattle.zic_columns.specs.Own.{CsvRecord}
 use Rattle.zic_counted.specs.Counts.{Counts}
 use Rattle.zic_zones.specs.declared.releases.Releases.{Releases}
 use Rattle.zic_plan.specs.declared.layout.Layout.{Layout}
-use Rattle.zic_convert.specs.Convert.{IsCauseOf}
+use Rattle.zic_convert.specs.Convert.{IsCauseOf, IsCauseWithLog}
 use Rattle.zic_layout_rows.specs.LayoutRows.{faults_by}
 use Rattle.zic_convert.specs.Run.{AreFew, EndsAfterLines, EndsByZones, Notes, Output, WritesRows}
-use Rattle.zic_convert.specs.code.Halt.{IsCauseOfHalt, IsEnd, IsOwnCause, IsReadingStop, stop_of}
+use Rattle.zic_convert.specs.code.Halt.{IsCauseWith, IsEnd, IsOwnCause, IsReadingStop, stop_of}
 use Rattle.zic_convert.specs.code.Progress.{ConvertsColumn, EndsInColumn}
 use Rattle.zic_convert.specs.declared.halt.Halt.{Halt}
 use Rattle.zic_convert.specs.declared.halt.Halt.TheVariants as halt
@@ -158,8 +158,15 @@ module _ {R W : Type 0} (most : ℕ) (old new : Counts R) (held now : Counts W) 
   own_cause stop.NoThread is = absurd is
   own_cause stop.LogFailed is = absurd is
 
-  pub cause_end : (outcome : Result ℕ Halt) (result : Result ℕ RunStop) → IsEnd new old.failures old.taken most outcome result → IfErr outcome (IsCauseOfHalt held now)
-      → IfErr result (IsCauseOf most old new held now)
-  cause_end outcome result is cause =
-      err_end new old.failures old.taken most outcome result (λ n. Unit {0}) (IsCauseOfHalt held now) (IsCauseOf most old new held now) (λ n u. tt) (λ why read u. reading_cause why read) own_cause is
-      (all_of outcome) cause
+  -- where there is a log
+  with_log : (LogFails : Type 0) (why : RunStop) → IsCauseWith LogFails held now (halt.Stop why) → IsCauseWithLog LogFails most old new held now why
+  with_log LogFails why cause = elim cause [
+    | inl own ↦ inl (own_cause why own)
+    | inr log ↦ inr (cc log.0, log.1)
+  ]
+
+  pub cause_end : (LogFails : Type 0) (outcome : Result ℕ Halt) (result : Result ℕ RunStop) → IsEnd new old.failures old.taken most outcome result → IfErr outcome (IsCauseWith LogFails held now)
+      → IfErr result (IsCauseWithLog LogFails most old new held now)
+  cause_end LogFails outcome result is cause =
+      err_end new old.failures old.taken most outcome result (λ n. Unit {0}) (IsCauseWith LogFails held now) (IsCauseWithLog LogFails most old new held now) (λ n u. inl tt) (λ why read u. inl (reading_cause why read))
+      (with_log LogFails) is (all_of outcome) cause

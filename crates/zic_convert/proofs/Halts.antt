@@ -1,5 +1,7 @@
 -- How many rows there are, and how a conversion ends in a round.
 use Rattle.std.proofs.Common.{◌≡◌, ◌≤◌, ◌+◌, ℕ, List, [], length, Option, None, inl, inr, refl, sym, subst, ◌∙◌, arith}
+use Rattle.std.proofs.Math.Seq.{take-length}
+use Rattle.std.proofs.lemmas.List.{append-nil}
 use Rattle.zic_columns.specs.Own.{CsvRecord}
 use Rattle.zic_counted.specs.Counts.{Counts}
 use Rattle.zic_counted.specs.Written.{FailsWithin}
@@ -35,7 +37,7 @@ few layout releases most n rs rows are = omega (arith, are.count, few_texts layo
 module _ {W : Type 0} (contents : W → Option (List ℕ)) (once : FilesAnswerOnce) (layout : Layout) (releases : Releases) (most : ℕ) (limit : Option ℕ) (sound : AreSoundReleases releases) (all : List CsvRecord)
     (left : Option (List ℕ)) (n : ℕ) (more : Option ℕ) (old : Option (List ℕ)) (mid new : Counts W) (log now last : Option (List RowNote))
     (far : IsSoFar layout releases most limit all left n more (output old (contents mid.inner) log now)) where
-  -- a row ends the run, or the writer failed
+  -- a row ends the run, or the writer or the log failed
   pub ends_in_rows : (rs : List CsvRecord) → ComeNext layout left rs → (rows : RowsOf) → AreRowsOf layout releases most (n + 1) rs rows → (why : RunStop)
       → EndsInRows contents mid new now last layout releases most more (n + 1) rs rows why → EndsIn layout releases most limit [] all why (output old (contents new.inner) log last)
   ends_in_rows rs come rows are (stop.Row row kind) (inl (h, few)) = inl
@@ -52,7 +54,9 @@ module _ {W : Type 0} (contents : W → Option (List ℕ)) (once : FilesAnswerOn
   ends_in_rows rs come rows are stop.ColumnTooLong h = absurd h
   ends_in_rows rs come rows are stop.Memory h = absurd h
   ends_in_rows rs come rows are stop.NoThread h = absurd h
-  ends_in_rows rs come rows are stop.LogFailed h = absurd h
+  ends_in_rows rs come rows are stop.LogFailed h =
+      ends_after layout releases most limit all left n more old (contents mid.inner) (contents new.inner) log now last far rs rows are come once sound rs [] (sym (append-nil rs)) rows are
+      rs [] (sym (append-nil rs)) rows are rows.text (take-length rows.text) (take-length rows.text) stop.LogFailed (inl refl) h.0.2.0 h.0.3 h.1 h.1
 
 module _ (once : FilesAnswerOnce) (layout : Layout) (releases : Releases) (most : ℕ) (limit : Option ℕ) (sound : AreSoundReleases releases) (all : List CsvRecord)
     (left : Option (List ℕ)) (n : ℕ) (more : Option ℕ) (old mid : Option (List ℕ)) (log now : Option (List RowNote)) (far : IsSoFar layout releases most limit all left n more (output old mid log now)) where

@@ -24,17 +24,17 @@ use Rattle.zic_plan.specs.Noted.{RowNote}
 use Rattle.zic_base.specs.declared.row_fault.RowKind.{RowKind}
 use Rattle.zic_base.specs.declared.run_stop.RunStop.{RunStop}
 use Rattle.zic_base.specs.declared.run_stop.RunStop.TheVariants as stop
-use Rattle.zic_convert.specs.Column.{AreRowRecords, header_of, names_added, own_header, own_line, read_by}
-use Rattle.zic_convert.specs.Run.{EndsAfterLines, EndsAtHeader, EndsIn, WritesRows}
+use Rattle.zic_convert.specs.Column.{AreRowRecords, header_aside, header_of, names_added, own_header, own_line, read_by}
+use Rattle.zic_convert.specs.Run.{EndsAfterLines, EndsAtHeader, EndsIn, LogBegan, WritesRows}
 use Rattle.zic_convert.specs.code.Halt.{IsCauseOfHalt, stop_of}
-use Rattle.zic_convert.specs.code.Progress.{BeginsRows, ConvertsColumn, ConvertsRest, EndsInColumn, EndsInRest, HaltsAtBegin, HaltsAtHead, HaltsAtHeader, IsAtLongHeader, output, own_line_in}
+use Rattle.zic_convert.specs.code.Progress.{BeginsRows, ConvertsColumn, ConvertsRest, EndsInColumn, EndsInRest, HaltsAtBegin, HaltsAtHead, HaltsAtHeader, IsAtLongHeader, header_aside_in, output, own_line_in}
 use Rattle.zic_convert.specs.code.Row.{records_in}
 use Rattle.zic_convert.specs.code.Written.{EndsAtHead, Wrote}
 use Rattle.zic_convert.specs.declared.halt.Halt.{Halt}
 use Rattle.zic_convert.specs.declared.halt.Halt.TheVariants as halt
 use Rattle.zic_convert.proofs.Below.{ends_below, rows_below}
 use Rattle.zic_convert.proofs.Bytes.{fails_later, starts_later, wrote_both}
-use Rattle.zic_convert.proofs.Delimited.{can_delimit, own_line_delimited, records_alike}
+use Rattle.zic_convert.proofs.Delimited.{aside_delimited, can_delimit, own_line_delimited, records_alike}
 use Rattle.zic_convert.proofs.Logs.{notes_none}
 use Rattle.zic_convert.proofs.Options.{for_some, if_some}
 use Rattle.zic_convert.proofs.Sounds.{both_known}
@@ -190,6 +190,11 @@ module _ (layout : Layout) (most : ℕ) (limit : Option ℕ) (law : RecordsByAre
     ends_at_head (halt.Stop stop.ColumnTooLong) ends = absurd ends
     ends_at_head (halt.Stop stop.NoThread) ends = absurd ends
     ends_at_head (halt.Stop stop.LogFailed) ends = absurd ends
+
+  -- the log began with the own bytes of its header
+  pub began_as : (began : Option (List ℕ)) → LogBegan (header_aside_in layout) inside began → LogBegan (header_aside layout) known began
+  began_as began is = if_some known _ (λ column e.
+      subst (λ (l : List ℕ). IfSome began (λ own. own ≡ l)) (aside_delimited layout own_law can column) (for_some inside _ (exchanged layout.delimiter (read_by layout column)) is (within column e)))
 
   -- the rest of a column was converted, once its header was written
   module _ (releases : Releases) (left : Option (List ℕ)) (old mid new : Option (List ℕ)) (log last : Option (List RowNote))

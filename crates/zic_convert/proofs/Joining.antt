@@ -124,7 +124,7 @@ module _ {W : Type 0} (contents : W → Option (List ℕ)) (old new : Counts W) 
   pieces_end stop.ColumnTooLong h = absurd h
   pieces_end stop.Memory h = absurd h
   pieces_end stop.NoThread h = absurd h
-  pieces_end stop.LogFailed h = absurd h
+  pieces_end stop.LogFailed h = (h, few)
 
 -- so a round has no more than so many full pieces
 round_few : (size : ℕ) (pieces : List (List ℕ)) → ArePiecesOf size pieces → length (records_of pieces) ≤ length pieces * size
@@ -302,7 +302,7 @@ module _ (p : Pieces) (i : ℕ) (found : RowsOf) (sound : ArePieces p) (lt : i <
     rows_again rows end e stop.ColumnTooLong h = absurd h
     rows_again rows end e stop.Memory h = absurd h
     rows_again rows end e stop.NoThread h = absurd h
-    rows_again rows end e stop.LogFailed h = absurd h
+    rows_again rows end e stop.LogFailed h = absurd (cc (sym h.0.0 ∙ e))
 
     by_fault : (rows : RowsOf) (fault : Option RowKind) → rows.fault ≡ fault → AreRowsOf p.layout p.releases p.most p.first (records_of_all p.layout.delimiter (take (i + 1) p.pieces)) rows → (why : RunStop)
         → EndsInRows contents old new log log' p.layout p.releases p.most limit p.first (records_of_all p.layout.delimiter (take (i + 1) p.pieces)) rows why
@@ -375,7 +375,7 @@ module _ (p : Pieces) (sound : ArePieces p) (fault : RowFault) where
         low_fails stop.ColumnTooLong other h = absurd h
         low_fails stop.Memory other h = absurd h
         low_fails stop.NoThread other h = absurd h
-        low_fails stop.LogFailed other h = absurd h
+        low_fails stop.LogFailed other h = absurd (low_ends h.0)
 
 -- what holds of a value where more does
 pub on_ok : {X E : Type 0} (r : Result X E) (P Q : X → Type 0) → ((x : X) → P x → Q x) → IfOk r P → IfOk r Q

@@ -9,7 +9,8 @@ use Rattle.zic_base.specs.declared.row_fault.RowKind.{RowKind}
 use Rattle.zic_base.specs.declared.run_stop.RunStop.{RunStop}
 use Rattle.zic_base.specs.declared.run_stop.RunStop.TheVariants as stop
 use Rattle.zic_layout_rows.specs.LayoutRows.{ends_by}
-use Rattle.zic_convert.specs.code.Halt.{IsOwnCause}
+use Rattle.zic_convert.specs.code.Halt.{IsCauseWith, IsOwnCause}
+use Rattle.zic_convert.specs.declared.halt.Halt.TheVariants as halt
 use Rattle.zic_layout_rows.specs.PieceRows.{AreRowsOf, RowsOf, empty_rows}
 use Rattle.zic_convert.specs.code.Written.{EndsInRecords, IsStopAt}
 use Rattle.zic_layout_rows.proofs.Coming.{no_rows, one_fault}
@@ -67,3 +68,23 @@ module _ {W : Type 0} (contents : W → Option (List ℕ)) (old new : Counts W) 
   long_stops stop.Memory is = absurd is
   long_stops stop.NoThread is = absurd is
   long_stops stop.LogFailed is = absurd is
+
+-- the cause of an end in some records, where the log has failed if the run ended for it
+module _ {W : Type 0} (contents : W → Option (List ℕ)) (old new : Counts W) (log log' : Option (List RowNote)) (layout : Layout) (releases : Releases) (most : ℕ) (limit : Option ℕ) (first : ℕ)
+    (row_records : List CsvRecord) (LogFails : Type 0) where
+  pub records_cause : (why : RunStop) → (why ≡ stop.LogFailed → LogFails) → EndsInRecords layout releases most limit first row_records contents old new log log' why → IsCauseWith LogFails old new (halt.Stop why)
+  records_cause stop.LogFailed failed ends = inr (refl, failed refl)
+  records_cause stop.Memory failed ends = inl tt
+  records_cause (stop.Row row kind) failed (inl memory) = absurd (cc memory.0)
+  records_cause (stop.Row row kind) failed (inr (rows, are, inl at_row)) = inl at_row.0.2.1
+  records_cause (stop.Row row kind) failed (inr (rows, are, inr at_fault)) = inl at_fault.wrote.1
+  records_cause stop.WriteFailed failed (inl memory) = absurd (cc memory.0)
+  records_cause stop.WriteFailed failed (inr (rows, are, fails)) = inl fails.fails.failed
+  records_cause (stop.Source fault) failed (inl memory) = absurd (cc memory.0)
+  records_cause (stop.Source fault) failed (inr (rows, are, none)) = absurd none
+  records_cause stop.ReadFailed failed (inl memory) = absurd (cc memory.0)
+  records_cause stop.ReadFailed failed (inr (rows, are, none)) = absurd none
+  records_cause stop.ColumnTooLong failed (inl memory) = absurd (cc memory.0)
+  records_cause stop.ColumnTooLong failed (inr (rows, are, none)) = absurd none
+  records_cause stop.NoThread failed (inl memory) = absurd (cc memory.0)
+  records_cause stop.NoThread failed (inr (rows, are, none)) = absurd none

@@ -142,7 +142,7 @@ module _ {W : Type 0} (contents : W → Option (List ℕ)) (old new : Counts W) 
   alone_ends stop.ColumnTooLong few h = absurd h
   alone_ends stop.Memory few h = absurd h
   alone_ends stop.NoThread few h = absurd h
-  alone_ends stop.LogFailed few h = absurd h
+  alone_ends stop.LogFailed few h = (h, few)
 
   -- a row alone that has one fault too many is the first, and nothing is written
   module _ (row : ℕ) (kind : RowKind) (before : List RowNote) (many : IsOneTooMany limit (joined (rows ∷ [])).faults row kind before) where

@@ -3,6 +3,7 @@ use Rattle.zic_plan.specs.Delimiter.{exchange}
 use Rattle.std.proofs.Common.{◌≡◌, ◌+◌, ◌==◌, ℕ, ℤ, Bool, true, false, List, [], ◌∷◌, ◌++◌, length, Option, Some, None, Result, Ok, append_assoc, refl, sym, ap, subst, ◌∙◌, arith, drop}
 use Rattle.std.specs.Prelude.{◌↔◌, is_some, nat_le, option_map}
 use Rattle.std.specs.Fmt.{signed_decimal}
+use Rattle.std.proofs.Math.Bool.{and-true}
 use Rattle.std.proofs.lemmas.Bool.{eqb-true, ne_eqb}
 use Rattle.std.proofs.lemmas.List.{map-append}
 use Rattle.csv.specs.Reading.{strip_bom}
@@ -92,7 +93,7 @@ module _ (layout : Layout) (plain : HasPlainRows layout) (files : List File) whe
   module _ (most : ℕ) where
     -- so does one of other than two fields
     other_fault : (number : ℕ) (own : List ℕ) (fields : List (List ℕ)) → (length fields == 2) ≡ false → fault_by layout files most number (record { own = own; fields = fields }) ≡ fault_of files most number fields
-    other_fault number own fields other = rw (plain.max_record, plain.count, other) refl
+    other_fault number own fields other = rw (plain.max_record, plain.quotes, and-true (is_closed fields), plain.count, other) refl
 
     fault_made : (number : ℕ) (own : List ℕ) (fields : List (List ℕ)) → fault_by layout files most number (record { own = own; fields = fields }) ≡ fault_of files most number fields
     fault_made number own [] = other_fault number own [] (ne_eqb (length {A = List ℕ} []) 2 (λ e. omega (arith, e)))
@@ -100,7 +101,7 @@ module _ (layout : Layout) (plain : HasPlainRows layout) (files : List File) whe
     fault_made number own (a ∷ b ∷ []) =
         let file = file_named files (zone_in layout.zone (a ∷ b ∷ [])) in
         let count = count_in layout (a ∷ b ∷ []) in
-        rw (plain.max_record, plain_count file count, plain_missing file count, plain.count, plain.zone, plain.time, plain.from, plain.unit, count_seconds b, same_seconds (instant_of b)) refl
+        rw (plain.max_record, plain.quotes, plain_count file count, plain_missing file count, plain.count, plain.zone, plain.time, plain.from, plain.unit, count_seconds b, same_seconds (instant_of b)) refl
     fault_made number own (a ∷ b ∷ c ∷ rest) = other_fault number own (a ∷ b ∷ c ∷ rest) (ne_eqb (length (a ∷ b ∷ c ∷ rest)) 2 (λ e. omega (arith, e)))
 
     -- a record has the fault that it has in a plain column

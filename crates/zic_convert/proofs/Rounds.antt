@@ -4,6 +4,8 @@ use Rattle.std.specs.Prelude.{All}
 use Rattle.std.proofs.lemmas.List.{get_or_append_left}
 use Rattle.zic_columns.specs.Own.{CsvRecord}
 use Rattle.zic_columns.specs.Round.{HasNoRecord, IsNextTooLong, may_have}
+use Rattle.zic_columns.specs.declared.columns.Taken.{Taken}
+use Rattle.zic_columns.specs.declared.columns.Taken.TheVariants as takens
 use Rattle.zic_counted.specs.Counts.{Counts}
 use Rattle.zic_counted.specs.Written.{FailsWithin}
 use Rattle.zic_tzif.specs.Laws.{FilesAnswerOnce}
@@ -17,8 +19,8 @@ use Rattle.zic_base.specs.declared.run_stop.RunStop.TheVariants as stop
 use Rattle.zic_zones.specs.Zones.{ReleasesAgree}
 use Rattle.zic_convert.specs.Run.{EndsByZones, EndsIn}
 use Rattle.zic_convert.specs.code.Halt.{stop_of}
-use Rattle.zic_convert.specs.code.Progress.{ComeNext, ConvertsRest, EndsAtTaking, EndsInRest, IsSoFar, Takes, longest_of, output}
-use Rattle.zic_convert.specs.code.Row.{records_in}
+use Rattle.zic_convert.specs.code.Progress.{ComeNext, ConvertsRest, EndsAtTaking, EndsInRest, EndsInTaken, IsSoFar, Takes, longest_of, output}
+use Rattle.zic_convert.specs.code.Row.{records_in, taken_rows}
 use Rattle.zic_layout_rows.specs.PieceRows.{RowsOf}
 use Rattle.zic_convert.specs.code.Written.{EndsInRecords, EndsInRows, WritesRecords, Wrote}
 use Rattle.zic_convert.specs.declared.tally.Tally.{Tally}
@@ -142,7 +144,7 @@ module _ (layout : Layout) (most : ℕ) (limit : Option ℕ) (rs : List CsvRecor
   rows_end_alike rows stop.ColumnTooLong h = absurd h
   rows_end_alike rows stop.Memory h = absurd h
   rows_end_alike rows stop.NoThread h = absurd h
-  rows_end_alike rows stop.LogFailed h = absurd h
+  rows_end_alike rows stop.LogFailed h = h
 
   ends_alike : (why : RunStop) → EndsInRecords layout known most limit first rs contents held now log log' why → EndsInRecords layout releases most limit first rs contents held now log log' why
   ends_alike why (inl memory) = inl memory
@@ -228,6 +230,18 @@ module _ {Z : Type 0} (known_of : Z → Releases) (settled : Z → List ℕ → 
             ends_in_round contents once layout plan limit known left n more held mid log now releases (agree_sound (agrees then releases may)) (far releases (narrows zones then releases grows may)) rs next takes new last why
             (ends_alike layout plan.max_rows more rs (n + 1) (known_of then) releases (kept (agrees then releases may)) (only releases may) contents mid new now last why ends);
       }
+
+  -- what was taken ends the run
+  pub taken_ends : (then : Z) → grown zones then → (taking : Taken) (pieces : List (List ℕ)) (next : Option (List ℕ)) → Takes layout left next (taken_rows layout.delimiter taking pieces)
+      → (taking ≡ takens.TooLong → IsNextTooLong (longest_of layout) layout.records next)
+      → ((releases : Releases) → may_be then releases → All (AreKnownZones layout.zone (known_of then) releases) (taken_rows layout.delimiter taking pieces))
+      → (new : Counts W) (last : Option (List RowNote)) (why : RunStop) → EndsInTaken layout (known_of then) plan.max_rows more (n + 1) taking pieces contents mid new now last why
+      → EndsByZones grown broken may_be begun then why (EndsInRest layout plan.max_rows limit known why (output held (contents new.inner) log last))
+  taken_ends then grows takens.End pieces next takes long only new last why ends = absurd ends
+  taken_ends then grows takens.TooLong pieces next takes long only new last why ends = rw ends.1 (long_ends then grows [] next takes takes (long refl) new why ends.0)
+  taken_ends then grows takens.Round pieces next takes long only new last why ends = round_ends then grows (taken_rows layout.delimiter takens.Round pieces) next takes only new last why ends
+  taken_ends then grows (takens.OpenLine line) pieces next takes long only new last why ends =
+      round_ends then grows (taken_rows layout.delimiter (takens.OpenLine line) pieces) next takes only new last why ends
 
 -- what follows where a conversion ends by zones
 pub ends_map : {Z : Type 0} (grown broken : Z → Z → Type 0) (may_be : Z → Releases → Type 0) (old new : Z) (a b : RunStop) (P Q : Releases → Type 0) → (a ≡ stop.Memory → b ≡ stop.Memory)

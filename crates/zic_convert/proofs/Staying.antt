@@ -10,6 +10,7 @@ use Rattle.zic_base.specs.Check.{check, first_failed}
 use Rattle.zic_columns.specs.Exchange.{exchanged}
 use Rattle.zic_columns.specs.Lines.{open_record, exchanged_record}
 use Rattle.zic_columns.specs.Own.{CsvRecord}
+use Rattle.zic_columns.specs.Quotes.{has_stray}
 use Rattle.zic_columns.specs.Round.{may_have}
 use Rattle.zic_columns.specs.declared.columns.Taken.{Taken}
 use Rattle.zic_columns.specs.declared.columns.Taken.TheVariants as taken
@@ -33,7 +34,7 @@ use Rattle.zic_zones.specs.declared.releases.Releases.{Releases}
 use Rattle.zic_convert.proofs.Sounds.{old_agree}
 use Rattle.zic_zones.specs.Zones.{Agree, ReleasesAgree, field_at, is_named, number_of, zone_in}
 use Rattle.zic_layout_rows.specs.Rows.{is_closed, is_row_instant}
-use Rattle.zic_layout_rows.specs.LayoutRows.{RecordsConvertBy, IsAnswer, IsAnswerAt, IsAnswerBy, IsRowAt, IsRowBy, IsTextBy, IsWrittenAt, old_files, count_in, ending, ends_by, fault_by, faults_by, file_at, file_named, noted, time_by, ok_count, err_fault}
+use Rattle.zic_layout_rows.specs.LayoutRows.{RecordsConvertBy, IsAnswer, IsAnswerAt, IsAnswerBy, IsRowAt, IsRowBy, IsTextBy, IsWrittenAt, admits_stray, old_files, count_in, ending, ends_by, fault_by, faults_by, file_at, file_named, noted, time_by, ok_count, err_fault}
 use Rattle.zic_convert.specs.code.Row.{fields_of_all, taken_rows, records_of_all}
 use Rattle.zic_layout_rows.specs.PieceRows.{AreRowsOf, RowsOf}
 use Rattle.zic_convert.proofs.Delimited.{field_same, name_as_put, outside}
@@ -101,7 +102,7 @@ module _ (known files : List File) (still : (file : File) → Contains known fil
         ap₂ (λ (named : Bool) (time : Result ℤ RowKind). first_failed
         (check (nat_le number most) kind.TooManyRows
         ∷ check (may_have layout.max_record (length own)) kind.RowTooLong
-        ∷ check true kind.RowQuote
+        ∷ check (admits_stray layout.quotes (has_stray layout.delimiter own)) kind.RowQuote
         ∷ check (has_count layout.count (length fields)) kind.RowFields
         ∷ check named kind.RowZone
         ∷ check (is_some (ok_count time)) (err_fault time)

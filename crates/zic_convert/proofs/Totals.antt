@@ -20,7 +20,7 @@ use Rattle.zic_base.specs.declared.row_fault.RowKind.{RowKind}
 use Rattle.zic_base.specs.declared.row_fault.RowKind.TheVariants as kind
 use Rattle.zic_zones.specs.Zones.{is_named, number_of, zone_in}
 use Rattle.zic_layout_rows.specs.Rows.{is_closed, is_row_instant}
-use Rattle.zic_layout_rows.specs.LayoutRows.{RecordsConvertBy, IsAnswer, IsAnswerAt, IsRowAt, IsRowBy, IsTextBy, IsWrittenAt, empty_fields, old_files, with_answer, count_in, ends_by, fault_by, faulty_text, instant_by, rest_by, start_text, time_by, time_in, ok_count, err_fault}
+use Rattle.zic_layout_rows.specs.LayoutRows.{RecordsConvertBy, IsAnswer, IsAnswerAt, IsRowAt, IsRowBy, IsTextBy, IsWrittenAt, empty_fields, old_files, with_answer, count_in, ends_by, fault_by, faulty_text, has_right_quotes, instant_by, rest_by, start_text, time_by, time_in, ok_count, err_fault}
 use Rattle.zic_layout_rows.specs.PieceRows.{AreRowsOf, RowsOf}
 use Rattle.zic_layout_rows.proofs.Coming.{come_after, come_more}
 use Rattle.zic_layout_rows.proofs.PutBack.{among}
@@ -67,7 +67,7 @@ module _ (layout : Layout) (files : List File) (most : ℕ) (known : All IsKnown
   have_text number row_record none =
       let zone = zone_in layout.zone row_record.fields in
       let time = time_in layout files row_record.fields in
-      let (named, says) = passed (nat_le number most) (may_have layout.max_record (length row_record.own)) (is_closed row_record.fields) (has_count layout.count (length row_record.fields)) (is_named files zone) (is_some (ok_count time)) (is_row_instant (option_map (second_of layout.unit) (ok_count time)))
+      let (named, says) = passed (nat_le number most) (may_have layout.max_record (length row_record.own)) (has_right_quotes layout.quotes layout.delimiter row_record) (has_count layout.count (length row_record.fields)) (is_named files zone) (is_some (ok_count time)) (is_row_instant (option_map (second_of layout.unit) (ok_count time)))
       kind.TooManyRows kind.RowTooLong kind.RowQuote kind.RowFields kind.RowZone (err_fault time) kind.RowRange none in
       let (n, number) = numbered files zone named in
       let (file, got, called, is_known) = found files zone n number in

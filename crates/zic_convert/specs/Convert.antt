@@ -1,5 +1,5 @@
 -- The output of a conversion, and why it ends early.
-use Rattle.std.specs.Prelude.{◌≡◌, ℕ, ◌+◌, List, [], ◌++◌, length, Option, Some, None}
+use Rattle.std.specs.Prelude.{◌≡◌, ◌⊎◌, ℕ, ◌+◌, List, [], ◌++◌, length, Option, Some, None}
 use Rattle.std.specs.List.{concat}
 use Rattle.std.specs.Io.{StartsWith}
 use Rattle.std.specs.Io.KnownBytes.{Appends}
@@ -59,7 +59,7 @@ WritesAt files most column = WritesAtOf [] (ConvertsTo files most column)
 
 -- A conversion ends for the reader only where a failure of it was counted, for the writer likewise, and for too long a column only where
 -- more bytes than allowed were taken. It ends at a row only where no failure of the writer was counted. It never ends for a fault of a
--- source, or for lack of a thread.
+-- source, for lack of a thread, or for a log where there is none.
 abbrev pub IsCauseOf : {R W : Type 0} → ℕ → Counts R → Counts R → Counts W → Counts W → RunStop → Type 0
 IsCauseOf most reader reader' writer writer' stop.ReadFailed = HasFailedSince reader' reader.failures
 IsCauseOf most reader reader' writer writer' stop.WriteFailed = HasFailedSince writer' writer.failures
@@ -69,3 +69,7 @@ IsCauseOf most reader reader' writer writer' stop.Memory = Unit {0}
 IsCauseOf most reader reader' writer writer' (stop.Source fault) = ⊥
 IsCauseOf most reader reader' writer writer' stop.NoThread = ⊥
 IsCauseOf most reader reader' writer writer' stop.LogFailed = ⊥
+
+-- A conversion with a log ends for one of these causes too, and for the log only where that failed.
+abbrev pub IsCauseWithLog : {R W : Type 0} → Type 0 → ℕ → Counts R → Counts R → Counts W → Counts W → RunStop → Type 0
+IsCauseWithLog LogFails most reader reader' writer writer' why = IsCauseOf most reader reader' writer writer' why ⊎ ((why ≡ stop.LogFailed) × LogFails)

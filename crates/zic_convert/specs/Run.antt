@@ -142,6 +142,10 @@ EndsBy layout most limit why run releases = IfSome run.column (λ column.
     EndsAtHeader layout column why (names_line layout) run.output
     ⊎ ((row_records : List CsvRecord) × AreRowRecords layout column row_records × EndsIn layout releases most limit (header_text layout column) row_records why run.output × HasNames layout run.output))
 
+-- the log began with the own bytes of such a header of the column, where both are known
+abbrev pub LogBegan : (List ℕ → List ℕ) → Option (List ℕ) → Option (List ℕ) → Type 0
+LogBegan header known began = IfSome known (λ column. IfSome began (λ own. own ≡ header column))
+
 -- The line of names could not be written: nothing was read of the column, and no fault was noted.
 pub record EndsAtNames {R W : Type 0} (layout : Layout) (why : RunStop) (run : Run R W) : Type 0 where
   pub is : why ≡ stop.WriteFailed

@@ -1,6 +1,6 @@
 //! Converts columns.
 
-ghost use Rattle.std.specs.Prelude.{◌≡◌, ◌≤◌, ◌<◌, ◌+◌, ◌⊎◌, List, All, IfOk, IfErr, IfSome, length, map};
+ghost use Rattle.std.specs.Prelude.{◌≡◌, ◌≤◌, ◌<◌, ◌+◌, ◌⊎◌, List, All, IfOk, IfErr, IfSome, IsErr, IsErrOf, length, map};
 ghost use Rattle.std.specs.Io.KnownBytes.{Appends};
 ghost use Rattle.csv.specs.Reading.{strip_bom};
 ghost use Rattle.zic_columns.specs.Lines.{texts_by};
@@ -11,14 +11,14 @@ ghost use Rattle.zic_counted.specs.Counts.{HasFailedSince};
 ghost use Rattle.zic_plan.specs.declared.plan.TheConstants.{MAX_ROWS};
 ghost use Rattle.zic_zones.specs.Zones.{zone_in};
 ghost use Rattle.zic_zones.specs.declared.releases.Releases.{Releases};
-ghost use Rattle.zic_convert.specs.Column.{own_header};
-ghost use Rattle.zic_convert.specs.Convert.{IsCauseOf, WritesAll, WritesAt};
-ghost use Rattle.zic_convert.specs.Run.{ConvertsAllBy, EndsAtNames, EndsBy, EndsByZones};
+ghost use Rattle.zic_convert.specs.Column.{header_aside, own_header};
+ghost use Rattle.zic_convert.specs.Convert.{IsCauseOf, IsCauseWithLog, WritesAll, WritesAt};
+ghost use Rattle.zic_convert.specs.Run.{ConvertsAllBy, EndsAtNames, EndsBy, EndsByZones, LogBegan};
 ghost use Rattle.zic_convert.specs.Run.{output_of, run_of};
-ghost use Rattle.zic_convert.specs.code.Halt.{IsCauseOfHalt, IsEnd, IsReadingStop, stop_of};
+ghost use Rattle.zic_convert.specs.code.Halt.{IsCauseWith, IsEnd, IsReadingStop, stop_of};
 ghost use Rattle.zic_convert.specs.code.Progress.{BeginsRows, ConvertsColumn, ConvertsRest};
 ghost use Rattle.zic_convert.specs.code.Progress.{EndsInColumn, EndsInRest, HaltsAtBegin, HaltsAtHead, HaltsAtHeader};
-ghost use Rattle.zic_convert.specs.code.Progress.{EndsAtTaking, TakesNext, longest_of, own_line_in};
+ghost use Rattle.zic_convert.specs.code.Progress.{EndsAtTaking, EndsInTaken, TakesNext, WritesTaken, header_aside_in, longest_of, own_line_in};
 ghost use Rattle.zic_convert.specs.code.Row.{taken_rows};
 ghost use Rattle.zic_convert.specs.code.Written.{EndsInRecords, WritesRecords};
 
@@ -154,6 +154,8 @@ fn convert_ready<T: Threads + Wait + Sync, G: Gate + Sync, Z: Zones, W: Write, L
         conversion.now.plan.now.max_rows next.now.left next.now.first
         (taken_rows conversion.now.layout.now.delimiter next.now.taken.now round.entry)
         W.contents writer.old writer.new (L.noted log.old) (L.noted log.new)) }
+    ensures began { L.began log.new ≡ L.began log.old }
+    ensures log { IsErrOf result RunStop.LogFailed → L.failed log.new }
 {
     if let Taken::OpenLine(line) = next.taken {
         return write_open_line(conversion, line, next.first, next.left, writer, log);
@@ -168,6 +170,48 @@ fn convert_ready<T: Threads + Wait + Sync, G: Gate + Sync, Z: Zones, W: Write, L
         next.spare,
     );
     convert_round(conversion, &pieces, next.left, writer, log)
+}
+
+/// Converts what was taken, as [`convert_ready`] does. Returns nothing at the end of the column.
+///
+/// # Errors
+///
+/// As [`convert_ready`], or `Row` at a record that has more bytes than the layout allows.
+fn convert_taken<T: Threads + Wait + Sync, G: Gate + Sync, Z: Zones, W: Write, L: RowLog>(
+    conversion: &Conversion<'_, T, G>,
+    zones: &Z,
+    round: Round<'_>,
+    next: &NextRows<'_>,
+    writer: &mut Counted<W>,
+    log: &mut L,
+) -> Result<Option<Tally>, RunStop>
+    requires least { 1 ≤ next.now.first }
+    requires first { next.now.first ≤ MAX_ROWS + 1 }
+    requires few { length round ≤ MAX_ROUND_PIECES }
+    requires cut { ArePiecesOf conversion.now.plan.now.row_piece round }
+    ensures ok { IfOk result (WritesTaken conversion.now.layout.now (Z.known zones.now)
+        conversion.now.plan.now.max_rows next.now.left next.now.first next.now.taken.now round.entry
+        W.contents writer.old writer.new (L.noted log.old) (L.noted log.new)) }
+    ensures stop { IfErr result (EndsInTaken conversion.now.layout.now (Z.known zones.now)
+        conversion.now.plan.now.max_rows next.now.left next.now.first next.now.taken.now round.entry
+        W.contents writer.old writer.new (L.noted log.old) (L.noted log.new)) }
+    ensures began { L.began log.new ≡ L.began log.old }
+    ensures cause { IfErr result (λ stop.
+        IsCauseWith (L.failed log.new) writer.old writer.new (Halt.Stop stop)) }
+{
+    match next.taken {
+        Taken::End => Ok(None),
+        Taken::TooLong => {
+            let most = conversion.plan.max_rows();
+            Err(end_at_long(writer, most, next.first))
+        }
+        Taken::Round | Taken::OpenLine(_) => {
+            match convert_ready(conversion, zones, round, next, writer, log) {
+                Ok(tally) => Ok(Some(tally)),
+                Err(stop) => Err(stop),
+            }
+        }
+    }
 }
 
 /// Converts the rest of a column. The rows of each round are written before it reads on, and an open
@@ -195,7 +239,8 @@ fn convert_rounds<T: Threads + Wait + Sync, G: Gate + Sync, Z: Zones, R: Read, W
         (stop_of halt) (EndsInRest conversion.now.layout.now conversion.now.plan.now.max_rows
         conversion.now.max_faults (unread R.remaining column.old) (stop_of halt)
         (output_of W.contents L.noted writer.old writer.new log.old log.new))) }
-    ensures cause { IfErr result (IsCauseOfHalt writer.old writer.new) }
+    ensures began { L.began log.new ≡ L.began log.old }
+    ensures cause { IfErr result (IsCauseWith (L.failed log.new) writer.old writer.new) }
 {
     // The rest of a column that can't be read on has rows too: each file answers every instant.
     files_answer_once();
@@ -208,22 +253,17 @@ fn convert_rounds<T: Threads + Wait + Sync, G: Gate + Sync, Z: Zones, R: Read, W
     let mut left = conversion.max_faults;
     'rounds: loop {
         let taken = next_round(conversion, zones, column)?;
-        if let Taken::End = taken {
-            break 'rounds;
-        }
-        if let Taken::TooLong = taken {
-            let most = conversion.plan.max_rows();
-            return Err(Halt::Stop(end_at_long(writer, most, count + 1)));
-        }
-        let round = column.round();
         let next = NextRows {
             taken: &taken,
             first: count + 1,
             left,
             spare: &spare,
         };
-        let tally = convert_ready(conversion, zones, round, &next, writer, log)?;
+        let converted = convert_taken(conversion, zones, column.round(), &next, writer, log);
         drop(taken);
+        let Some(tally) = converted? else {
+            break 'rounds;
+        };
         count += tally.rows;
         left = tally.left;
     }
@@ -321,6 +361,8 @@ pub(crate) fn begin_rows<R: Read + Drop, W: Write, L: RowLog>(
     log: &mut L,
 ) -> Result<Column<R>, Halt>
     ensures noted { L.noted log.new ≡ L.noted log.old }
+    ensures began { LogBegan (header_aside_in layout.now) (R.remaining reader) (L.began log.new)
+        ⊎ (IsErr result × (L.began log.new ≡ L.began log.old)) }
     ensures by { IfOk result (λ column. column.by ≡ layout.now.records) }
     ensures begins { IfOk result (λ column. IfSome (R.remaining reader)
         (λ bytes. BeginsRows layout.now bytes (unread R.remaining column))) }
@@ -367,7 +409,10 @@ fn convert_rows<
         (stop_of halt) (EndsInColumn conversion.now.layout.now conversion.now.plan.now.max_rows
         conversion.now.max_faults (R.remaining reader) (stop_of halt)
         (output_of W.contents L.noted writer.old writer.new log.old log.new))) }
-    ensures cause { IfErr result (IsCauseOfHalt writer.old writer.new) }
+    ensures began { LogBegan (header_aside conversion.now.layout.now) (R.remaining reader)
+        (L.began log.new)
+        ⊎ (IsErr result × (L.began log.new ≡ L.began log.old) × (L.noted log.new ≡ L.noted log.old)) }
+    ensures cause { IfErr result (IsCauseWith (L.failed log.new) writer.old writer.new) }
 {
     // Also a column that can't be read has rows: each file answers every instant.
     files_answer_once();
@@ -466,7 +511,7 @@ fn ended<R>(
 /// The column is read in rounds. Before a round is converted, its zones are made ready. The plan's
 /// workers convert the pieces of a round, which have the number of records that the plan says, and
 /// pass the gate before each. The calling thread is one of them. The rows of a round are written and
-/// flushed before the column is read on. None of this changes an answer. Where all is converted, the
+/// flushed, and then the log, before the column is read on. None of this changes an answer. Where all is converted, the
 /// reader's count of bytes rose by no more than the plan allows, and no failure of the writer was
 /// counted.
 ///
@@ -489,6 +534,8 @@ fn ended<R>(
 /// - `ColumnTooLong` where the reader gave more bytes than the plan allows, or its count of bytes
 ///   stands at the greatest `u64`.
 /// - `Memory` where memory is refused. Where it is refused as zones are made ready, these are of no use.
+/// - `LogFailed` where the log could not be written as it was flushed, once the rows of a round were
+///   written and flushed. The column is not read on then.
 ///
 /// `Source` and `NoThread` are never returned. After every error other than `Row`, the lines up to
 /// some line were written, of the header and of the rows; the faults of the rows up to there were
@@ -525,8 +572,11 @@ pub fn convert_column<
         (EndsBy conversion.now.layout.now conversion.now.plan.now.max_rows conversion.now.max_faults
         stop (run_of R.remaining W.contents L.noted reader.old reader.new writer.old writer.new log.old
         log.new))) }
-    ensures cause { IfErr result (IsCauseOf conversion.now.plan.now.max_bytes
-        reader.old reader.new writer.old writer.new) }
+    ensures began { LogBegan (header_aside conversion.now.layout.now)
+        (R.remaining reader.old.inner) (L.began log.new)
+        ⊎ (IsErr result × (L.began log.new ≡ L.began log.old) × (L.noted log.new ≡ L.noted log.old)) }
+    ensures cause { IfErr result (IsCauseWithLog (L.failed log.new)
+        conversion.now.plan.now.max_bytes reader.old reader.new writer.old writer.new) }
 {
     let failures = reader.failures();
     let taken = reader.taken();
@@ -570,8 +620,8 @@ pub fn convert_column<
 ///   stands at the greatest `u64`.
 /// - `Memory` where memory is refused.
 ///
-/// `Source` and `NoThread` are never returned. After every error other than `Row`, what was written
-/// is a part of the text of the rows, from its start on, and how much of the column was read is
+/// `Source`, `NoThread` and `LogFailed` are never returned: there is no log. After every error other
+/// than `Row`, what was written is a part of the text of the rows, from its start on, and how much of the column was read is
 /// open.
 pub fn convert<T: Threads + Wait + Sync, R: Read, W: Write, G: Gate + Sync>(
     rt: &T,

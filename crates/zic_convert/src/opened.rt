@@ -1,6 +1,6 @@
 //! The rows of open lines.
 
-ghost use Rattle.std.specs.Prelude.{◌≡◌, ◌+◌, ◌≤◌, ◌∷◌, ◌++◌, [], List, IfOk, IfErr, Some};
+ghost use Rattle.std.specs.Prelude.{◌≡◌, ◌+◌, ◌≤◌, ◌∷◌, ◌++◌, [], List, IfOk, IfErr, IsErrOf, Some};
 ghost use Rattle.zic_columns.specs.Exchange.{exchanged};
 ghost use Rattle.zic_columns.specs.Lines.{exchanged_record, open_record};
 ghost use Rattle.zic_files.specs.File.{File};
@@ -120,7 +120,8 @@ pub(crate) fn open_row(
 ///
 /// # Errors
 ///
-/// `Row` where the fault ends the run or is one too many, `Memory`, or `WriteFailed`.
+/// `Row` where the fault ends the run or is one too many, `Memory`, `WriteFailed`, or `LogFailed` once
+/// the row is written.
 pub(crate) fn write_open_line<T, G, W: Write, L: RowLog>(
     conversion: &Conversion<'_, T, G>,
     line: &TakenLine,
@@ -140,6 +141,8 @@ pub(crate) fn write_open_line<T, G, W: Write, L: RowLog>(
         (exchanged_record conversion.now.layout.now.delimiter (open_record line.now.own.items)
         ∷ [])
         W.contents writer.old writer.new (L.noted log.old) (L.noted log.new) why) }
+    ensures began { L.began log.new ≡ L.began log.old }
+    ensures log { IsErrOf result RunStop.LogFailed → L.failed log.new }
 {
     let most = conversion.plan.max_rows();
     let Ok(row) = open_row(conversion.alloc, conversion.layout, most, number, line) else {

@@ -1,6 +1,6 @@
 //! Writes rows.
 
-ghost use Rattle.std.specs.Prelude.{◌≡◌, ◌+◌, ◌^◌, ◌<◌, [], IfOk, OnOk, IfErr};
+ghost use Rattle.std.specs.Prelude.{◌≡◌, ◌+◌, ◌^◌, ◌<◌, [], IfOk, OnOk, IfErr, IsErrOf};
 ghost use Rattle.zic_columns.specs.Exchange.{exchanged};
 ghost use Rattle.zic_counted.specs.Written.{FailsWithin};
 ghost use Rattle.zic_plan.specs.declared.layout.RowStart.TheVariants as start;
@@ -296,7 +296,7 @@ pub(crate) fn stop_at<W: Write>(writer: &mut Counted<W>, row: u64, kind: RowKind
 /// # Errors
 ///
 /// `Row` with the number and the kind of the fault that ends the run, once the rows before it are
-/// written and flushed, or `WriteFailed`.
+/// written and flushed, `WriteFailed`, or `LogFailed` once all rows are written and flushed.
 pub(crate) fn write_rows<W: Write, L: RowLog>(
     writer: &mut Counted<W>,
     first: u64,
@@ -308,6 +308,8 @@ pub(crate) fn write_rows<W: Write, L: RowLog>(
         (L.noted log.old) (L.noted log.new) (joined pieces.now) count) }
     ensures err { IfErr result (EndsInPieces W.contents writer.old writer.new
         (L.noted log.old) (L.noted log.new) first pieces.now) }
+    ensures began { L.began log.new ≡ L.began log.old }
+    ensures log { IsErrOf result RunStop.LogFailed → L.failed log.new }
 {
     let mut count = 0;
     for rows in pieces {
@@ -319,6 +321,8 @@ pub(crate) fn write_rows<W: Write, L: RowLog>(
         }
     }
     flush(writer)?;
-    log.flush();
+    if !log.flush() {
+        return Err(RunStop::LogFailed);
+    }
     Ok(count)
 }

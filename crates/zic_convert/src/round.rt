@@ -1,6 +1,6 @@
 //! Converts a round, and writes its rows.
 
-ghost use Rattle.std.specs.Prelude.{◌≡◌, ◌≤◌, IfOk, IfErr, Option, ℕ, false, length};
+ghost use Rattle.std.specs.Prelude.{◌≡◌, ◌≤◌, IfOk, IfErr, IsErrOf, Option, ℕ, false, length};
 ghost use Rattle.zic_pieces.specs.Task.{AreValues};
 ghost use Rattle.zic_convert.specs.code.Pieces.{ArePieces, IsOutcomeOf};
 ghost use Rattle.zic_columns.specs.declared.pieces.TheConstants.{MAX_ROUND_PIECES};
@@ -63,8 +63,10 @@ fn end_at_fault<T: Threads + Wait + Sync, W: Write, G: Gate + Sync, L: RowLog>(
 ) -> RunStop
     requires few { length pieces.now.pieces ≤ MAX_ROUND_PIECES }
     requires fault { (limit : Option ℕ) × HasOneTooMany pieces.now limit fault }
-    ensures { (limit : Option ℕ) → HasOneTooMany pieces.now limit fault → EndsInRound pieces.now
-        limit W.contents writer.old writer.new (L.noted log.old) (L.noted log.new) result }
+    ensures stop { (limit : Option ℕ) → HasOneTooMany pieces.now limit fault → EndsInRound
+        pieces.now limit W.contents writer.old writer.new (L.noted log.old) (L.noted log.new) result }
+    ensures began { L.began log.new ≡ L.began log.old }
+    ensures log { result ≡ RunStop.LogFailed → L.failed log.new }
 {
     let first = pieces.first();
     let before = pieces.before(fault.row);
@@ -91,7 +93,7 @@ fn end_at_fault<T: Threads + Wait + Sync, W: Write, G: Gate + Sync, L: RowLog>(
 /// # Errors
 ///
 /// `Row` for the fault that ends the run, or that is one too many, once the rows before it are written,
-/// or `Memory` or `WriteFailed`.
+/// `LogFailed` once all rows are written, or `Memory` or `WriteFailed`.
 fn write_round<T: Threads + Wait + Sync, W: Write, G: Gate + Sync, L: RowLog>(
     conversion: &Conversion<'_, T, G>,
     pieces: &RowPieces<'_, '_>,
@@ -105,6 +107,8 @@ fn write_round<T: Threads + Wait + Sync, W: Write, G: Gate + Sync, L: RowLog>(
         (L.noted log.old) (L.noted log.new)) }
     ensures stop { IfErr result (EndsInRound pieces.now left W.contents writer.old writer.new
         (L.noted log.old) (L.noted log.new)) }
+    ensures began { L.began log.new ≡ L.began log.old }
+    ensures log { IsErrOf result RunStop.LogFailed → L.failed log.new }
 {
     let first = pieces.first();
     match left_after(rows, left) {
@@ -135,6 +139,8 @@ fn convert_again<T: Threads + Wait + Sync, W: Write, G: Gate + Sync, L: RowLog>(
         (L.noted log.old) (L.noted log.new)) }
     ensures stop { IfErr result (EndsInRound pieces.now left W.contents writer.old writer.new
         (L.noted log.old) (L.noted log.new)) }
+    ensures began { L.began log.new ≡ L.began log.old }
+    ensures log { IsErrOf result RunStop.LogFailed → L.failed log.new }
 {
     match rows_of(conversion, pieces) {
         Ok(rows) => write_round(conversion, pieces, &rows, left, writer, log),
@@ -164,6 +170,8 @@ pub(crate) fn convert_round<T: Threads + Wait + Sync, W: Write, G: Gate + Sync, 
         (L.noted log.old) (L.noted log.new)) }
     ensures stop { IfErr result (EndsInRound pieces.now left W.contents writer.old writer.new
         (L.noted log.old) (L.noted log.new)) }
+    ensures began { L.began log.new ≡ L.began log.old }
+    ensures log { IsErrOf result RunStop.LogFailed → L.failed log.new }
 {
     let workers = conversion.plan.workers();
     match run_task(

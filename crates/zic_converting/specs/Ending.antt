@@ -1,6 +1,7 @@
 -- How a conversion ends, and what is told of it: by what ended the rows, by the faults of rows after which the run went on, and by which of
 -- its two lists, that of faults and that of their records, were written whole.
-use Rattle.std.specs.Prelude.{◌≡◌, ◌⊎◌, ◌==◌, ◌-◌, ◌^◌, ℕ, List, Bool, true, false, Option, None, Some, Result, Ok, Err, IsErrAnd, IsTrue, string_bytes, length, min, option_map, slice_get}
+use Rattle.std.specs.Prelude.{◌≡◌, ◌⊎◌, ◌==◌, ◌-◌, ◌^◌, ℕ, List, Bool, true, false, Option, None, Some, Result, Ok, Err, IsErrAnd, IsTrue, String, string_bytes, length, min, option_map, slice_get}
+use Rattle.std.specs.declared.alloc.Global.{Global}
 use Rattle.zic_base.specs.declared.row_fault.RowFault.{RowFault}
 use Rattle.zic_command_line.specs.declared.command_line.Conversion.{Conversion}
 use Rattle.zic_command_line.specs.declared.command_line.Zones.{Zones}
@@ -43,23 +44,31 @@ abbrev pub ended_by : Option Failure → Result (Unit {0}) Failure
 ended_by None = Ok tt
 ended_by (Some failure) = Err failure
 
+-- A folder answers a file that is there and can't be read as it answers lack of memory, and notes the path: that is then what ended the rows.
+abbrev pub by_unread : Option (String Global) → Result ℕ Failure → Result ℕ Failure
+by_unread (Some path) (Err failures.Memory) = Err (failures.CannotRead path)
+by_unread _ converted = converted
+
 -- how a run ends: by what ended the rows, or else by the faults after which it went on
 abbrev pub ended : Faults → Result ℕ Failure → Result (Unit {0}) Failure
 ended faults (Err failure) = Err failure
 ended faults (Ok rows) = ended_by (failure_of faults)
 
--- the failure that is told beside that of a run: the faults of rows before the row that ended it, or before more bytes than there may be
+-- the failure that is told beside that of a run: the faults of rows before the row that ended it, before more bytes than there may be, or up
+-- to the round after which a list could not be written
 abbrev pub told_beside : Faults → Result (Unit {0}) Failure → Option Failure
 told_beside faults (Err failures.ColumnTooLong) = failure_of faults
 told_beside faults (Err (failures.Row row kind)) = failure_of faults
+told_beside faults (Err failures.CannotWriteList) = failure_of faults
 told_beside faults _ = None
 
--- A run without faults of rows ended before rows were made: by a fault of the source, a zone that no file has the name of, lack of memory or
--- of threads, or by a header that is too long, which is the row 0.
+-- A run without faults of rows ended before rows were made: by a fault of the source, a zone that no file has the name of, a file that can't
+-- be read, lack of memory or of threads, or by a header that is too long, which is the row 0.
 abbrev pub is_before_rows : Result (Unit {0}) Failure → Bool
 is_before_rows (Err (failures.Line line kind)) = true
 is_before_rows (Err (failures.TextLine text line kind)) = true
 is_before_rows (Err (failures.UnknownZone name)) = true
+is_before_rows (Err (failures.CannotRead path)) = true
 is_before_rows (Err failures.Memory) = true
 is_before_rows (Err failures.NoThread) = true
 is_before_rows (Err (failures.Row row kind)) = row == 0
@@ -90,9 +99,10 @@ abbrev pub IsReport : Result (Unit {0}) Failure → Option (List ℕ) → Result
 IsReport ended None reported = reported ≡ ended
 IsReport ended (Some path) reported = IsUnwrittenAt path reported
 
--- the failure that ended a run, if one did
+-- the failure that ended a run, if one did, and it wasn't that of a list: that is reported itself
 abbrev pub failure_in : Result (Unit {0}) Failure → Option Failure
 failure_in (Ok done) = None
+failure_in (Err failures.CannotWriteList) = None
 failure_in (Err failure) = Some failure
 
 -- what is told behind the list at this path, if one can't be written: the failure that ended the run, if one did

@@ -68,8 +68,8 @@ fn large_block(alloc: Global) -> Result<Vec<u8>, AllocError> {
 ///
 /// # Errors
 ///
-/// Why the texts aren't read or have no files, `CannotRead` with the path of a folder, `CannotWrite` with
-/// the path of a list, why a conversion ends, `Rows` or `Rejected` for the faults after which it went on,
+/// Why the texts aren't read or have no files, `CannotRead` with the path of a folder or of a file in it,
+/// `CannotWrite` with the path of a list, why a conversion ends, `Rows` or `Rejected` for the faults after which it went on,
 /// or `Memory`.
 pub fn convert<
     R: Files + Input + Print + Clock + RandomSource + AllocGlobal + Threads + Wait + Sync,
@@ -94,8 +94,8 @@ fn progress_line<E: IsTerminal + Drop>(progress: bool, errors: E) -> ProgressLin
 }
 
 /// Converts standard input, and writes the lists of faults and of their records. A fault of the source, an
-/// unknown zone or lack of memory before the first fault leaves earlier lists as they are. A list that can't
-/// be written is reported whatever ended the rows, and before it.
+/// unknown zone, a file that can't be read or lack of memory before the first fault leaves earlier lists as
+/// they are. A list that can't be written is reported whatever ended the rows, and before it.
 fn convert_listed<
     R: Files + Input + Print + Clock + RandomSource + AllocGlobal + Threads + Wait + Sync,
     E: Write + Drop,

@@ -3,7 +3,7 @@
 
 ghost use Rattle.std.specs.Prelude.{◌≡◌, option_map, string_bytes};
 ghost use Rattle.std.specs.Option.{option_copied};
-ghost use Rattle.zic_converting.specs.Ending.{behind_of, ended, failure_in, first_unwritten, is_before_rows, keeps_lists, rows_made, IsReport};
+ghost use Rattle.zic_converting.specs.Ending.{behind_of, by_unread, ended, failure_in, first_unwritten, is_before_rows, keeps_lists, rows_made, IsReport};
 
 use crate::faults::Faults;
 use std::mem;
@@ -17,6 +17,20 @@ pub(crate) enum Unwritten {
     Faults,
     /// That of their records.
     Rejects,
+}
+
+/// Returns how the rows ended, where the path of a file was noted that is there and can't be read, if there was one.
+/// A folder answers such a file as it answers lack of memory.
+pub(crate) fn by_unread(
+    converted: Result<u64, Failure>,
+    unread: Option<String>,
+) -> Result<u64, Failure>
+    ensures { result ≡ by_unread unread converted }
+{
+    match (converted, unread) {
+        (Err(Failure::Memory), Some(path)) => Err(Failure::CannotRead(path)),
+        (converted, _) => converted,
+    }
 }
 
 /// Returns how a run ends: by what ended the rows, or else by the faults after which it went on, if there are
@@ -34,8 +48,8 @@ pub(crate) fn ended(converted: Result<u64, Failure>, faults: &Faults) -> Result<
 }
 
 /// Returns whether a run that ended so leaves the lists of an earlier one as they are: it noted no fault of
-/// a row, and ended before rows were made, by a fault of the source, an unknown zone, a header that is too
-/// long, or lack of memory or threads.
+/// a row, and ended before rows were made, by a fault of the source, an unknown zone, a file that can't be
+/// read, a header that is too long, or lack of memory or threads.
 pub(crate) fn keeps_lists(faults: &Faults, ended: &Result<(), Failure>) -> bool
     ensures { result ≡ keeps_lists faults.now ended.now }
 {
@@ -48,6 +62,7 @@ fn is_before_rows(ended: &Result<(), Failure>) -> bool
 {
     match ended {
         Err(Failure::Line { .. } | Failure::TextLine { .. } | Failure::UnknownZone(_)) => true,
+        Err(Failure::CannotRead(_)) => true,
         Err(Failure::Memory | Failure::NoThread | Failure::Row { row: 0, .. }) => true,
         _ => false,
     }
@@ -86,12 +101,12 @@ pub(crate) fn report(
     Err(Failure::CannotWrite(path.clone()?))
 }
 
-/// Returns the failure that ended a run, if one did.
+/// Returns the failure that ended a run, if one did, and it wasn't that of a list, which is reported itself.
 fn failure_in(ended: Result<(), Failure>) -> Option<Failure>
     ensures { result ≡ failure_in ended }
 {
     match ended {
-        Ok(()) => None,
+        Ok(()) | Err(Failure::CannotWriteList) => None,
         Err(failure) => Some(failure),
     }
 }

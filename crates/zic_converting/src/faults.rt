@@ -31,13 +31,14 @@ impl Faults {
         })
     }
 
-    /// Returns the failure that is told beside that of a run: that of the faults, where a row ended it, or
-    /// more bytes than there may be.
+    /// Returns the failure that is told beside that of a run: that of the faults, where a row ended it, more
+    /// bytes than there may be, or a list that can't be written.
     pub(crate) fn told_beside(&self, ended: &Result<(), Failure>) -> Option<Failure>
         ensures { result ≡ told_beside self.now ended.now }
     {
         match ended {
             Err(Failure::ColumnTooLong | Failure::Row { .. }) => self.failure(),
+            Err(Failure::CannotWriteList) => self.failure(),
             _ => None,
         }
     }

@@ -70,22 +70,30 @@ const GROUP_1: [Entry; 6] = [
         prints: "  row 1: RowTooLong\n",
         right: "  $ echo 'Etc/UTC,0' | pzic convert --max-record 9 utc.zi\n",
         cause: r#"  A stray double quote: the record then goes on over lines, up to the next one;
-  with `--records lines` it costs one row. Or input that isn't a column.
+  with `--records lines` it costs one line. Or input that isn't a column.
 "#,
     },
     Entry {
         name: "RowQuote",
-        meaning: "With `--records lines`: a double quote is still open at the end of a line.",
-        says: r#"  With `--records lines`: a double quote is still open at the end of a line.
-  With `--keep-going`, and without `--rejects`, the line is written as it
-  stands, without empty fields of local time.
+        meaning: "A double quote is stray: it's still open at the end of its record, or a byte other than a delimiter or line end follows the one that ends a field.",
+        says: r#"  A double quote is stray: it's still open at the end of its record, or a byte
+  other than a delimiter or line end follows the one that ends a field. With
+  `--quotes lenient`, the default for a plain column, it's no fault, unless it
+  is open at the end of a line with `--records lines`. With `--keep-going`, and
+  without `--rejects`, the record is written as it stands, without empty fields
+  of local time. A header may have one.
 "#,
-        expected: "  A line that closes each double quote that it opens.\n",
+        expected: r#"  A field that begins with a double quote ends with one, and has each that is
+  in it twice: `"5"" wide"`. In other fields double quotes are text.
+"#,
         setup: SETUP_1,
-        wrong: "  $ printf 'Etc/UTC,\"0\\nEtc/UTC,1\\n' | pzic convert --records lines utc.zi\n",
+        wrong: "  $ echo 'Etc/UTC,0,\"5\" wide' | pzic convert --append utc.zi\n",
         prints: "  row 1: RowQuote\n",
-        right: "  $ printf 'Etc/UTC,\"0\"\\nEtc/UTC,1\\n' | pzic convert --records lines utc.zi\n",
-        cause: "  A stray double quote. If fields may have line ends, leave the option out.\n",
+        right: "  $ echo 'Etc/UTC,0,\"5\"\" wide\"' | pzic convert --append utc.zi\n",
+        cause: r#"  Text with a double quote that isn't written twice. An open one takes the
+  lines after it into its record, up to the next one or to the end of the
+  column; with `--records lines` it costs one line.
+"#,
     },
     Entry {
         name: "RowFields",
@@ -104,8 +112,8 @@ const GROUP_1: [Entry; 6] = [
         right: "  $ echo 'Etc/UTC,0' | pzic convert utc.zi\n",
         cause: r#"  Another separator, which `--delimiter` names, or more fields, of which
   `--zone-field` and `--time-field` name two. In row 1: a header with other
-  columns, which `--header` passes over. Or a stray double quote, which with
-  `--records lines` costs one row.
+  columns, which `--header` passes over. Or, in a plain column, a stray double
+  quote, which `--quotes strict` finds.
 "#,
     },
     Entry {
@@ -142,8 +150,8 @@ const GROUP_1: [Entry; 6] = [
         right: "  $ echo 'Etc/UTC,1970-01-01T00:00:00Z' | pzic convert --from rfc3339 utc.zi\n",
         cause: r#"  A date, which `--from rfc3339` takes with a time and a UT offset, and
   `--from local` without one, a number with a fraction, or the two fields
-  swapped. A leap second, `23:59:60`, is none. Or a stray double quote before
-  the instant, after which line ends are text.
+  swapped. A leap second, `23:59:60`, is none. Or, in a plain column, a stray
+  double quote before the instant, which `--quotes strict` finds.
 "#,
     },
     Entry {

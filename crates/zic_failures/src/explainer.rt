@@ -390,7 +390,7 @@ fn name_of(failure: &Failure) -> &'static str {
         Failure::File(reason) => reason.name(),
         Failure::CannotRead(_) => "cannot read PATH",
         Failure::CannotReadColumn => "cannot read column",
-        Failure::CannotWrite(_) => "cannot write PATH",
+        Failure::CannotWrite(_) | Failure::CannotWriteList => "cannot write PATH",
         Failure::CannotWriteRows => "cannot write rows",
         Failure::CannotWriteOutput => "cannot write output",
         Failure::UnknownZone(_) => "unknown zone NAME",

@@ -84,11 +84,12 @@ pub record IsFailureOfNames {R W Z : Type 0} (layout : Layout) (run : Run R W) (
   pub has_zone : (releases : Releases) → requested.may_be requested.zones' releases → HasZone releases.zones layout.zone
   pub fails : FailsAtNames layout run failure
 
--- The conversion of the column ended early. It never ends for a fault of a source, so the number of texts doesn't matter.
+-- The conversion of the column ended early, for one of its own causes or for the log. It never ends for a fault of a source, so the number of
+-- texts doesn't matter.
 pub record IsFailureOfRows {R W Z : Type 0} (plan : Limits) (limit : Option ℕ) (layout : Layout) (run : Run R W) (requested : ZonesRequested Z) (failure : Failure) : Type 0 where
   pub stop : RunStop
   pub is : failure ≡ run_failure stop 1
-  pub cause : IsCauseOf plan.max_bytes run.reader run.reader' run.writer run.writer' stop
+  pub cause : IsCauseOf plan.max_bytes run.reader run.reader' run.writer run.writer' stop ⊎ (failure ≡ failures.CannotWriteList)
   pub ends : EndsByZones requested.grown requested.broken requested.may_be requested.zones requested.zones' stop (λ releases. HasZone releases.zones layout.zone × EndsBy layout plan.max_rows limit stop run releases)
 
 -- why zones don't convert a column by a layout

@@ -1,7 +1,8 @@
 //! `convert`: converts a column by zones.
 
-ghost use Rattle.std.specs.Prelude.{◌≤◌, ◌+◌, ◌≡◌, List, IfOk, IfErr, OnOk};
-ghost use Rattle.zic_convert.specs.Run.{run_of};
+ghost use Rattle.std.specs.Prelude.{◌≤◌, ◌+◌, ◌≡◌, ◌⊎◌, List, IfOk, IfErr, IsErr, IsErrOf, OnOk};
+ghost use Rattle.zic_convert.specs.Column.{header_aside};
+ghost use Rattle.zic_convert.specs.Run.{LogBegan, run_of};
 ghost use Rattle.zic_counted.specs.Counts.{HasFailedSince};
 ghost use Rattle.zic_file_commands.specs.Converting.{Converts, HasZone};
 ghost use Rattle.zic_file_commands.specs.Converting.{IsFailureOfConvert, IsFailureOfZones, IsZoneRequested, zones_of};
@@ -29,6 +30,7 @@ use zic_zones::Zones;
 /// - `CannotWriteRows` before the column is read where the line of names can't be written.
 /// - The first fault of a row that ends the run; a column that can't be read or is too long; rows that
 ///   can't be written; or memory ran out. All rows before one that has a fault are written.
+/// - `CannotWriteList` where the log failed, once the rows of a round are written.
 pub fn convert<T: Threads + Wait + Sync, G: Gate + Sync, Z: Zones, R: Read, W: Write, L: RowLog>(
     conversion: &Conversion<'_, T, G>,
     zones: &mut Z,
@@ -51,6 +53,10 @@ pub fn convert<T: Threads + Wait + Sync, G: Gate + Sync, Z: Zones, R: Read, W: W
         (run_of R.remaining W.contents L.noted reader.old reader.new writer.old writer.new
         log.old log.new)
         (zones_of Z.grown Z.broken Z.requests Z.may_be zones.old zones.new)) }
+    ensures began { LogBegan (header_aside conversion.now.layout.now)
+        (R.remaining reader.old.inner) (L.began log.new)
+        ⊎ (IsErr result × (L.began log.new ≡ L.began log.old) × (L.noted log.new ≡ L.noted log.old)) }
+    ensures log { IsErrOf result Failure.CannotWriteList → L.failed log.new }
 {
     find_zone(conversion.alloc, zones, &conversion.layout.zone)?;
     match convert_column(conversion, zones, reader, writer, log) {
@@ -74,6 +80,7 @@ fn find_zone<Z: Zones>(alloc: Global, zones: &mut Z, zone: &ZoneFrom) -> Result<
         (zones_of Z.grown Z.broken Z.requests Z.may_be zones.old zones.new)) }
     ensures requested { IsZoneRequested zone.now
         (zones_of Z.grown Z.broken Z.requests Z.may_be zones.old zones.new) }
+    ensures unlogged { IsErrOf result Failure.CannotWriteList → ⊥ }
 {
     let ZoneFrom::Name(name) = zone else {
         return Ok(());

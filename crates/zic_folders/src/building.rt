@@ -24,7 +24,7 @@ pub fn build<R: Files + Input + RandomSource + AllocGlobal + Threads + Wait + Sy
     texts: &mut Vec<Vec<u8>>,
 ) -> Result<Ending, Refusal> {
     read_texts(rt, &order.sources, texts)?;
-    let Some(extras) = Extras::of(rt, order, texts)? else {
+    let Some(extras) = Extras::of(rt, &order.release_files, texts)? else {
         return Ok(Ending::NoRelease);
     };
     let placed = place_with(rt, order, texts, &extras);
@@ -39,9 +39,7 @@ fn place_with<R: Files + RandomSource + AllocGlobal + Threads + Wait + Sync>(
     texts: &[Vec<u8>],
     extras: &Extras,
 ) -> Result<Ending, Refusal> {
-    if order.release.is_some() || order.tables.is_some() {
-        extras.expect_room(rt.alloc(), texts)?;
-    }
+    extras.expect_room(rt.alloc(), "build", texts)?;
     Ok(place(rt, order, texts, extras)?)
 }
 

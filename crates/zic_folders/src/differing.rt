@@ -7,19 +7,17 @@ ghost use Rattle.zic_source.specs.Texts.{texts_of};
 
 use crate::folder::Folder;
 use std::fs::Files;
-use std::io::{Input, Write};
+use std::io::{self, Input, Write};
 use std::random::RandomSource;
 use std::sync::Wait;
 use std::thread::Threads;
 use std::time::Clock;
 use zic_command_line::Differences;
-use zic_compare::{Compared, Comparison, Listed, Sides, Survey};
+use zic_compare::{Compared, Comparison, DiffStop, Listed, Sides, Survey, write_diff};
+use zic_counted::Counted;
 use zic_files::Files as ZoneFiles;
-use zic_host::{
-    OldAndNew, fault_in, old_and_new, read_texts, show_of_folders, show_of_sources, tell,
-};
+use zic_host::{OldAndNew, fault_in, old_and_new, read_texts, show_of_folders, show_of_sources};
 use zic_io::Failure;
-use zic_pieces::Open;
 use zic_plan::Plan;
 use zic_rows::FIRST_INSTANT;
 use zic_source_commands::files_of;
@@ -44,7 +42,7 @@ pub struct Differing<'a> {
 /// # Errors
 ///
 /// Why the texts aren't read or have no files, `CannotRead` with the path of a folder or for the clock,
-/// `CannotWriteOutput`, or `Memory`.
+/// `CannotWriteOutput`, or `Memory`. By then a beginning of the list may be printed.
 pub fn diff<
     R: Files + Input + Print + Clock + RandomSource + AllocGlobal + Threads + Wait + Sync,
     E: Write + Drop,
@@ -237,6 +235,10 @@ fn diff_files<R: Print + AllocGlobal + Threads + Wait + Sync>(
 ) -> Result<(), Failure>
     requires { HasInstants how.now }
 {
-    let lines = zic_compare::diff_by_workers(rt, rt.alloc(), plan, &Open, sides, how)?;
-    tell(rt, &lines)
+    let mut output = Counted::new(io::writer(rt));
+    match write_diff(rt, rt.alloc(), plan, sides, how, &mut output) {
+        Ok(()) => Ok(()),
+        Err(DiffStop::Memory) => Err(Failure::Memory),
+        Err(DiffStop::WriteFailed) => Err(Failure::CannotWriteOutput),
+    }
 }

@@ -6,7 +6,7 @@ use std::io::Write;
 use std::random::RandomSource;
 use zic_explain::shown_word;
 use zic_files::{Files as ZoneFiles, Image, TreeFiles, Unfit, ZoneTree};
-use zic_host::{NamesFrom, UnreadFile, WholeFolder, expect_folder, names_below, random_number};
+use zic_host::{UnreadFile, WholeFolder, expect_folder, names_below, random_number};
 use zic_io::{Failure, ZoneFolder};
 use zic_words::Name;
 
@@ -32,7 +32,7 @@ impl<'a> Folder<'a> {
         path: &'a String,
     ) -> Result<Folder<'a>, Failure> {
         expect_folder(rt, path)?;
-        let names = names_below(rt, path)?;
+        let names = names_below(rt, path)?.files;
         let zones = read_zones(rt, path, &names)?;
         Ok(Folder { path, names, zones })
     }
@@ -106,7 +106,7 @@ fn read_zones<R: Files + RandomSource + AllocGlobal>(
     path: &String,
     names: &[String],
 ) -> Result<TreeFiles, Failure> {
-    let unread = UnreadFile::none(NamesFrom::Folder);
+    let unread = UnreadFile::none();
     let mut folder = WholeFolder::new(rt, path.as_str(), &unread);
     match zic_compare::read_tree(rt.alloc(), random_number(rt), &mut folder, names) {
         Ok(zones) => Ok(zones),

@@ -10,9 +10,9 @@ mod release;
 mod sources;
 mod system;
 
-pub use folder::{expect_folder, is_missing, names_below};
-pub use reading::{NamesFrom, UnreadFile, WholeFolder};
+pub use folder::{NamesBelow, expect_folder, is_missing, names_below};
+pub use reading::{UnreadFile, WholeFolder, open_regular};
 pub use refusal::Refusal;
-pub use release::{VERSION, release_of, show_of_folders, show_of_sources};
+pub use release::{TABLES, VERSION, release_of, show_of_folders, show_of_sources};
 pub use sources::{OldAndNew, fault_in, old_and_new, read_texts};
 pub use system::{random_number, tell};

@@ -8,49 +8,31 @@ use zic_files::ZoneTree;
 use zic_io::{Failure, ZoneFolder};
 use zic_words::Name;
 
-/// Whose names the files of a folder are requested by.
-#[derive(Clone, Copy, Debug, PartialEq, Eq)]
-pub enum NamesFrom {
-    /// The folder itself, which was listed.
-    Folder,
-    /// A column, which may name anything: what may not be read counts as missing, so that no row ends a run
-    /// by its name alone.
-    Column,
-}
-
 /// The path of a file that is there and can't be read, as an error of the disk or a lack of descriptors
 /// makes one. A tree ends the reading there as for lack of memory, since it can give no other reason, and
 /// the path is noted here.
 #[derive(Drop)]
 pub struct UnreadFile {
-    names: NamesFrom,
     path: Cell<Option<String>>,
 }
 
 impl UnreadFile {
-    /// Returns the note of a folder of which each file could be read until now.
-    pub fn none(names: NamesFrom) -> UnreadFile {
+    /// Returns the note of folders of which each file could be read until now.
+    pub fn none() -> UnreadFile {
         UnreadFile {
-            names,
             path: Cell::new(None),
         }
     }
 
-    /// Returns whether a file that gives this error is there, and ends a run.
-    fn counts(&self, kind: ErrorKind) -> bool {
-        match kind {
-            ErrorKind::NotFound | ErrorKind::NotADirectory => false,
-            // Such a link leads to no file, and no file has so long a path.
-            ErrorKind::FilesystemLoop | ErrorKind::InvalidFilename => false,
-            ErrorKind::PermissionDenied => self.names == NamesFrom::Folder,
-            _ => true,
-        }
+    /// Returns the path that was noted, if one was, and removes it from the note.
+    pub fn take(&self) -> Option<String> {
+        self.path.replace(None)
     }
 
     /// Returns the failure of a run that ended as for lack of memory: `CannotRead` with the path that was
     /// noted, or else `Memory`.
     pub fn failure(&self) -> Failure {
-        match self.path.replace(None) {
+        match self.take() {
             Some(path) => Failure::CannotRead(path),
             None => Failure::Memory,
         }
@@ -80,9 +62,10 @@ impl<'a, F: Files> WholeFolder<'a, F> {
     fn expect_missing(&self, alloc: Global, name: &Name) -> Result<(), AllocError> {
         let name = str::from_utf8(name.octets()).unwrap_or("");
         let path = format!(in alloc; "{}/{name}", self.path)?;
-        let is_there = match is_regular(self.system, path.as_str()) {
-            Ok(is_regular) => is_regular,
-            Err(e) => self.unread.counts(e.kind()),
+        let is_there = match open_regular(self.system, path.as_str()) {
+            Ok(file) => file.is_some(),
+            Err(e) if e.kind() == ErrorKind::OutOfMemory => return Err(AllocError),
+            Err(_) => true,
         };
         if is_there {
             self.unread.path.set(Some(path));
@@ -103,11 +86,34 @@ impl<F: Files> ZoneTree for WholeFolder<'_, F> {
     }
 }
 
-/// Returns whether a path is that of a regular file that can be opened. No other is opened.
-fn is_regular<F: Files>(system: &F, path: &str) -> io::Result<bool> {
-    if !fs::metadata(system, path)?.is_file() {
-        return Ok(false);
+/// Opens the regular file at a path, or the one that a symbolic link there leads to. Returns `None` where
+/// there is none. What is no regular file, such as a pipe or a device, is not opened.
+///
+/// # Errors
+///
+/// It is there, or may be, and can't be opened.
+pub fn open_regular<F: Files>(system: &F, path: &str) -> io::Result<Option<F::File>> {
+    match opened(system, path) {
+        Ok(file) => Ok(file),
+        Err(e) if is_of_none(e.kind()) => Ok(None),
+        Err(e) => Err(e),
     }
-    File::open(system, path)?;
-    Ok(true)
+}
+
+/// Opens the regular file at a path. No other is opened.
+fn opened<F: Files>(system: &F, path: &str) -> io::Result<Option<F::File>> {
+    if !fs::metadata(system, path)?.is_file() {
+        return Ok(None);
+    }
+    Ok(Some(File::open(system, path)?))
+}
+
+/// Returns whether a path that gives this error is that of no file.
+fn is_of_none(kind: ErrorKind) -> bool {
+    match kind {
+        ErrorKind::NotFound | ErrorKind::NotADirectory => true,
+        // Such a link leads to no file, and no file has so long a path.
+        ErrorKind::FilesystemLoop | ErrorKind::InvalidFilename => true,
+        _ => false,
+    }
 }

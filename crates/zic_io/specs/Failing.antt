@@ -28,7 +28,7 @@ run_failure stops.WriteFailed texts = failures.CannotWriteRows
 run_failure stops.ColumnTooLong texts = failures.ColumnTooLong
 run_failure stops.Memory texts = failures.Memory
 run_failure stops.NoThread texts = failures.NoThread
-run_failure stops.LogFailed texts = failures.CannotWriteRows
+run_failure stops.LogFailed texts = failures.CannotWriteList
 
 -- the failure for bytes that are no file
 abbrev pub read_failure : ReadStop → Failure

@@ -33,16 +33,29 @@ abbrev pub AreLines : (RowNote → List ℕ → Type 0) → List RowNote → Lis
 AreLines IsLine [] text = text ≡ []
 AreLines IsLine (note ∷ noted) text = (line : List ℕ) × (rest : List ℕ) × (text ≡ line ++ rest) × IsLine note line × AreLines IsLine noted rest
 
+-- the line of a header, by its own bytes; without bytes there is none
+abbrev pub header_line : List ℕ → List ℕ
+header_line [] = []
+header_line (byte ∷ own) = (byte ∷ own) ++ 10 ∷ []
+
+-- What stands before the records that are put aside: the line of the header, and nothing where there is no record. It is open where the
+-- header isn't known, since memory to keep it was refused or it came after a record.
+abbrev pub IsHead : Option (List ℕ) → List RowNote → List ℕ → Type 0
+IsHead None noted head = Unit {0}
+IsHead (Some header) [] head = head ≡ []
+IsHead (Some header) (first ∷ noted) head = head ≡ header_line header
+
 -- A file, if there is one, with the count of its failed writes and flushes, and what it held before the first line of the list, where that
--- is known. Before records that are put aside stands the header too.
+-- is known.
 pub record ListNotes (W : Type 0) : Type 0 where
   pub file : Option (Counts W)
   pub start : Option (List ℕ)
 
--- which fields a line has besides the number and the name of a fault, the rows with a fault that were noted, the file for the lines of
--- their faults, and that for their records
+-- which fields a line has besides the number and the name of a fault, the own bytes of the header before the records, where they are known,
+-- the rows with a fault that were noted, the file for the lines of their faults, and that for their records
 pub record FaultNotes (W : Type 0) : Type 0 where
   pub fields : FaultFields
+  pub header : Option (List ℕ)
   pub noted : List RowNote
   pub faults : ListNotes W
   pub rejects : ListNotes W
@@ -64,17 +77,14 @@ list_for contents file = record { file = option_map unwritten file; start = held
 abbrev pub HasText : {W : Type 0} → (W → Option (List ℕ)) → Option (List ℕ) → Option (Counts W) → List ℕ → Type 0
 HasText contents start file text = IfSome file (λ f. Appends start (contents f.inner) text)
 
--- what the file of a list holds grew by just a line for each row that was noted
-abbrev pub HasLinesFor : {W : Type 0} → (W → Option (List ℕ)) → (RowNote → List ℕ → Type 0) → List RowNote → ListNotes W → Type 0
-HasLinesFor contents IsLine noted list = (text : List ℕ) × AreLines IsLine noted text × HasText contents list.start list.file text
-
 -- what the file of faults holds grew by the lines of just the faults that were noted
 abbrev pub HasLines : {W : Type 0} → (W → Option (List ℕ)) → FaultNotes W → Type 0
-HasLines contents notes = HasLinesFor contents (IsFaultLine notes.fields) notes.noted notes.faults
+HasLines contents notes = (text : List ℕ) × AreLines (IsFaultLine notes.fields) notes.noted text × HasText contents notes.faults.start notes.faults.file text
 
--- what the file of records holds grew by the lines of just the records that were put aside
+-- what the file of records holds grew by the line of the header, once, and by the lines of just the records that were put aside
 abbrev pub HasRejects : {W : Type 0} → (W → Option (List ℕ)) → FaultNotes W → Type 0
-HasRejects contents notes = HasLinesFor contents (λ note. IsRecordLine note.own) notes.noted notes.rejects
+HasRejects contents notes = (head : List ℕ) × (text : List ℕ) × IsHead notes.header notes.noted head × AreLines (λ note. IsRecordLine note.own) notes.noted text
+    × HasText contents notes.rejects.start notes.rejects.file (head ++ text)
 
 -- there is a file, and a failure of it was counted
 abbrev pub HasFailed : {W : Type 0} → Option (Counts W) → Type 0
@@ -83,8 +93,3 @@ HasFailed file = MatchOption file ⊥ (λ f. 0 < f.failures)
 -- a file just where there was one, and the same that it held at first
 abbrev pub IsSameList : {W : Type 0} → ListNotes W → ListNotes W → Type 0
 IsSameList old new = (new.start ≡ old.start) × (is_some new.file ≡ is_some old.file)
-
--- The same once rows were noted. Before the first record the header may be written, and what the file then holds is where its list begins.
-abbrev pub IsListAfter : {W : Type 0} → List RowNote → ListNotes W → ListNotes W → Type 0
-IsListAfter [] old new = is_some new.file ≡ is_some old.file
-IsListAfter (first ∷ noted) old new = IsSameList old new

@@ -39,6 +39,9 @@ pub enum Failure {
     CannotWrite(String),
     /// `cannot write rows`.
     CannotWriteRows,
+    /// A list of rows with a fault, where the run ended for it: `cannot write list`. The program reports
+    /// the path of the list in its place.
+    CannotWriteList,
     /// `cannot write output`.
     CannotWriteOutput,
     /// All rows are to be in a zone that no file has the name of: `unknown zone NAME`.
@@ -63,7 +66,8 @@ impl Failure {
             Failure::ColumnTooLong | Failure::File(_) => 1,
             Failure::UnknownZone(_) => 2,
             Failure::CannotRead(_) | Failure::CannotReadColumn => 3,
-            Failure::CannotWrite(_) | Failure::CannotWriteRows | Failure::CannotWriteOutput => 3,
+            Failure::CannotWrite(_) | Failure::CannotWriteRows => 3,
+            Failure::CannotWriteList | Failure::CannotWriteOutput => 3,
             Failure::Memory | Failure::NoThread => 4,
         }
     }
@@ -79,8 +83,8 @@ impl Failure {
             Failure::ColumnTooLong => "column: ",
             Failure::File(_) => "file: ",
             Failure::CannotRead(_) | Failure::CannotReadColumn => "cannot read ",
-            Failure::CannotWrite(_) => "cannot write ",
-            Failure::CannotWriteRows | Failure::CannotWriteOutput => "cannot write ",
+            Failure::CannotWrite(_) | Failure::CannotWriteRows => "cannot write ",
+            Failure::CannotWriteList | Failure::CannotWriteOutput => "cannot write ",
             Failure::UnknownZone(_) => "unknown zone ",
             Failure::Memory => "out of ",
             Failure::NoThread => "no ",
@@ -101,6 +105,7 @@ impl Failure {
             Failure::UnknownZone(name) => name,
             Failure::CannotReadColumn => "column",
             Failure::CannotWriteRows => "rows",
+            Failure::CannotWriteList => "list",
             Failure::CannotWriteOutput => "output",
             Failure::Memory => "memory",
             Failure::NoThread => "thread",
@@ -192,7 +197,7 @@ pub fn run_failure(stop: RunStop, texts: usize) -> Failure
         RunStop::ColumnTooLong => Failure::ColumnTooLong,
         RunStop::Memory => Failure::Memory,
         RunStop::NoThread => Failure::NoThread,
-        RunStop::LogFailed => Failure::CannotWriteRows,
+        RunStop::LogFailed => Failure::CannotWriteList,
     }
 }
 

@@ -1,12 +1,13 @@
 //! The lines of lists of faults.
 
-ghost use Rattle.std.specs.Prelude.{◌≡◌, ◌∷◌, [], List, is_some, ℕ};
-ghost use Rattle.zic_io.specs.Faults.{IsFaultLine, IsRecordLine, field_if};
-ghost use Rattle.zic_io.specs.code.FaultList.{Gets};
+ghost use Rattle.std.specs.Prelude.{◌≡◌, ◌∷◌, [], List, is_some, ℕ, None};
+ghost use Rattle.zic_io.specs.Faults.{IsFaultLine, IsRecordLine, field_if, header_line};
+ghost use Rattle.zic_io.specs.code.FaultList.{Gets, GetsHeader, kept};
 
 use crate::list_output::ListOutput;
 use itoa::Buffer;
 use std::io::Write;
+use zic_base::RowFault;
 use zic_plan::{FaultyRow, LineEnd};
 
 /// Which fields the line of a fault has after the number of its row and the name of the fault.
@@ -113,5 +114,34 @@ pub(crate) fn push_record<W: Write>(list: &mut ListOutput<W>, own: &[u8], line_e
     match line_end {
         LineEnd::Lf => list.push(b"\n"),
         LineEnd::CrLf => list.push(b"\r\n"),
+    }
+}
+
+/// Adds the line of a header, by its own bytes; nothing if it has none.
+pub(crate) fn push_header<W: Write>(list: &mut ListOutput<W>, header: &[u8])
+    ensures grows { Gets W.contents (header_line header.now) list.old list.new }
+    ensures file { is_some list.new.file ≡ is_some list.old.file }
+{
+    if header.is_empty() {
+        return;
+    }
+    list.push(header);
+    list.push(b"\n");
+}
+
+/// Adds the line of a header that is kept, unless there is a first fault already.
+pub(crate) fn push_header_at_first<W: Write>(
+    list: &mut ListOutput<W>,
+    first: Option<RowFault>,
+    header: &Option<Vec<u8>>,
+)
+    ensures grows { GetsHeader W.contents first (kept header.now) list.old list.new }
+    ensures file { is_some list.new.file ≡ is_some list.old.file }
+{
+    if first.is_some() {
+        return;
+    }
+    if let Some(header) = header {
+        push_header(list, header);
     }
 }

@@ -1,8 +1,8 @@
 //! The faults of rows, where a run goes on after them.
 
-ghost use Rattle.std.specs.Prelude.{◌≡◌};
+ghost use Rattle.std.specs.Prelude.{◌≡◌, IfSome};
 
-use crate::fault_line::{FaultFields, push_fault, push_record};
+use crate::fault_line::{FaultFields, push_fault, push_header, push_header_at_first, push_record};
 use crate::list_output::ListOutput;
 use crate::noted::Noted;
 use std::alloc::Global;
@@ -10,18 +10,20 @@ use std::io::Write;
 use std::marker::Model;
 use std::mem;
 use zic_base::RowFault;
-use zic_plan::{FaultyRow, LineEnd, RowLog};
+use zic_plan::{FaultyRow, RowLog};
 
 /// Takes note of rows with a fault: counts them, keeps the first fault, and writes each into two files,
 /// where there are such. Into the one goes a line with the number of the row, the name of the fault
 /// and the requested fields, with commas between them, and into the other the record with its own
-/// line end. Before the first record stands the header, so a file without records has none.
+/// line end. Before the first record stands the header, so a file without records has none, unless
+/// memory to keep the header was refused.
 #[derive(Drop)]
 pub struct FaultList<W: Write> {
     alloc: Global,
     fields: FaultFields,
-    /// The header that is written before the first record; empty if there is none.
-    header: Vec<u8>,
+    /// The header that is written before the first record; empty if there is none. `None` where memory
+    /// to keep it was refused, or it came after records.
+    header: Option<Vec<u8>>,
     first: Option<RowFault>,
     count: u64,
     /// Whether a row was noted that the files may hold back.
@@ -30,29 +32,28 @@ pub struct FaultList<W: Write> {
     rejects: ListOutput<W>,
     /// What was noted, and what the file of faults held before.
     noted: Noted,
-    /// What the file of records held before these, with the header.
+    /// What the file of records held before these and the header.
     held: Noted,
 }
 
 impl<W: Write> Model for FaultList<W> {
-    ghost use Rattle.zic_io.specs.Faults.{FaultNotes, IsFaultLine, IsRecordLine};
-    ghost use Rattle.zic_io.specs.code.FaultList.{list_of, notes_of, AreFieldsOf, IsFileFor};
+    ghost use Rattle.zic_io.specs.Faults.{FaultNotes, IsFaultLine};
+    ghost use Rattle.zic_io.specs.code.FaultList.{kept, list_of, notes_of, AreFieldsOf, IsFileFor, IsFileOfRecords};
 
     ghost Value = { FaultNotes W };
 
-    ghost view = { λ l. notes_of l.fields l.noted.faults (list_of l.noted.start l.faults)
-        (list_of l.held.start l.rejects) };
+    ghost view = { λ l. notes_of l.fields (kept l.header) l.noted.faults
+        (list_of l.noted.start l.faults) (list_of l.held.start l.rejects) };
 
     ghost invariant = { λ l. AreFieldsOf l.noted.faults l.first l.count
         × IsFileFor W.contents (IsFaultLine l.fields) l.noted.faults l.noted.start l.faults
-        × IsFileFor W.contents (λ note. IsRecordLine note.own) l.noted.faults l.held.start
-        l.rejects };
+        × IsFileOfRecords W.contents (kept l.header) l.noted.faults l.held.start l.rejects };
 }
 
 impl<W: Write> FaultList<W> {
-    ghost use Rattle.std.specs.Prelude.{◌≡◌, ◌-◌, ◌^◌, [], ◌∷◌, ◌++◌, length, min, option_map, slice_get, IsTrue, IsFalse};
+    ghost use Rattle.std.specs.Prelude.{◌≡◌, ◌-◌, ◌^◌, [], ◌∷◌, ◌++◌, Some, length, min, option_map, slice_get, IsTrue, IsFalse};
     ghost use Rattle.zic_counted.specs.Counts.{Counts};
-    ghost use Rattle.zic_io.specs.Faults.{fault_of, list_for, HasFailed, HasLines, HasRejects, IsListAfter, IsSameList};
+    ghost use Rattle.zic_io.specs.Faults.{fault_of, list_for, HasFailed, HasLines, HasRejects, IsSameList};
 
     /// Returns a list without rows, with a file for faults and one for records, and these fields in the
     /// lines of faults.
@@ -64,6 +65,7 @@ impl<W: Write> FaultList<W> {
     ) -> FaultList<W>
         ensures { result ≡ record {
           fields = fields;
+          header = Some [];
           noted = [];
           faults = list_for W.contents faults;
           rejects = list_for W.contents rejects;
@@ -74,7 +76,7 @@ impl<W: Write> FaultList<W> {
         FaultList {
             alloc,
             fields,
-            header: Vec::new(alloc),
+            header: Some(Vec::new(alloc)),
             first: None,
             count: 0,
             holds_back: false,
@@ -105,6 +107,7 @@ impl<W: Write> FaultList<W> {
         ensures lines { IsTrue result → HasLines W.contents self.new }
         ensures failed { IsFalse result → HasFailed self.new.faults.file }
         ensures noted { self.new.noted ≡ self.old.noted }
+        ensures header { self.new.header ≡ self.old.header }
         ensures fields { self.new.fields ≡ self.old.fields }
         ensures faults { IsSameList self.old.faults self.new.faults }
         ensures rejects { self.new.rejects ≡ self.old.rejects }
@@ -113,56 +116,18 @@ impl<W: Write> FaultList<W> {
     }
 
     /// Has the file of records pass on what it holds back. Returns true only if all records were
-    /// written, where there is a file, and false only if a failure of the file was counted.
+    /// written below their header, where there is a file, and false only if a failure of the file was
+    /// counted.
     pub fn finish_rejects(&mut self) -> bool
         ensures rejected { IsTrue result → HasRejects W.contents self.new }
         ensures failed { IsFalse result → HasFailed self.new.rejects.file }
         ensures noted { self.new.noted ≡ self.old.noted }
+        ensures header { self.new.header ≡ self.old.header }
         ensures fields { self.new.fields ≡ self.old.fields }
         ensures rejects { IsSameList self.old.rejects self.new.rejects }
         ensures faults { self.new.faults ≡ self.old.faults }
     {
         self.rejects.finish()
-    }
-
-    /// Writes the header that is kept, if there is one, before the first record.
-    fn put_header(&mut self)
-        ensures noted { self.new.noted ≡ self.old.noted }
-        ensures fields { self.new.fields ≡ self.old.fields }
-        ensures faults { self.new.faults ≡ self.old.faults }
-        ensures rejects { IsListAfter self.old.noted self.old.rejects self.new.rejects }
-    {
-        let header = mem::replace(&mut self.header, Vec::new(self.alloc));
-        self.put(&header);
-    }
-
-    /// Writes a header, if there is one and no record stands before it.
-    fn put(&mut self, header: &[u8])
-        ensures noted { self.new.noted ≡ self.old.noted }
-        ensures fields { self.new.fields ≡ self.old.fields }
-        ensures faults { self.new.faults ≡ self.old.faults }
-        ensures rejects { IsListAfter self.old.noted self.old.rejects self.new.rejects }
-    {
-        if self.first.is_some() || header.is_empty() {
-            return;
-        }
-        push_record(&mut self.rejects, header, LineEnd::Lf);
-        self.held = Noted::new(&self.rejects);
-    }
-
-    /// Adds a row, its line and its record.
-    fn add(&mut self, row: &FaultyRow)
-        ensures noted { self.new.noted ≡ self.old.noted ++ row.now ∷ [] }
-        ensures fields { self.new.fields ≡ self.old.fields }
-        ensures faults { IsSameList self.old.faults self.new.faults }
-        ensures rejects { IsSameList self.old.rejects self.new.rejects }
-    {
-        self.first = self.first.or(Some(row.fault));
-        self.count = self.count.saturating_add(1);
-        self.holds_back = true;
-        self.noted = self.noted.and(row);
-        push_fault(&mut self.faults, self.fields, row);
-        push_record(&mut self.rejects, &row.own, row.line_end);
     }
 
     /// Returns the files.
@@ -175,36 +140,57 @@ impl<W: Write> FaultList<W> {
 }
 
 impl<W: Write> RowLog for FaultList<W> {
-    ghost use Rattle.std.specs.Prelude.{◌≡◌, ◌++◌, [], ◌∷◌, Some, is_some};
-    ghost use Rattle.zic_io.specs.Faults.{IsListAfter, IsSameList};
+    ghost use Rattle.std.specs.Prelude.{◌≡◌, ◌⊎◌, ◌++◌, [], ◌∷◌, Some, IfSome, IsTrue, IsFalse};
+    ghost use Rattle.zic_io.specs.Faults.{HasFailed, HasLines, HasRejects, IsSameList};
 
     ghost noted = { λ l. Some l.noted };
 
+    ghost began = { λ l. l.header };
+
+    ghost failed = { λ l. HasFailed l.faults.file ⊎ HasFailed l.rejects.file };
+
     fn begin(&mut self, header: &[u8])
         ensures keeps { Some self.new.noted ≡ Some self.old.noted }
+        ensures began { IfSome self.new.header (λ own. own ≡ header.now) }
         ensures fields { self.new.fields ≡ self.old.fields }
         ensures faults { self.new.faults ≡ self.old.faults }
-        ensures file { is_some self.new.rejects.file ≡ is_some self.old.rejects.file }
+        ensures rejects { IsSameList self.old.rejects self.new.rejects }
     {
-        self.header.clear();
-        if self.header.extend_from_slice(header).is_err() {
+        let is_first = self.header.is_some() && self.first.is_none();
+        let kept = if is_first {
+            copy_of(self.alloc, header)
+        } else {
+            None
+        };
+        if is_first && kept.is_none() {
             // Without memory to keep it, it is written at once.
-            self.put(header);
+            push_header(&mut self.rejects, header);
         }
+        drop(mem::replace(&mut self.header, kept));
     }
 
     fn note(&mut self, row: &FaultyRow)
         ensures adds { Some self.new.noted ≡ Some (self.old.noted ++ row.now ∷ []) }
+        ensures header { self.new.header ≡ self.old.header }
         ensures fields { self.new.fields ≡ self.old.fields }
         ensures faults { IsSameList self.old.faults self.new.faults }
-        ensures rejects { IsListAfter self.old.noted self.old.rejects self.new.rejects }
+        ensures rejects { IsSameList self.old.rejects self.new.rejects }
     {
-        self.put_header();
-        self.add(row);
+        push_header_at_first(&mut self.rejects, self.first, &self.header);
+        self.first = self.first.or(Some(row.fault));
+        self.count = self.count.saturating_add(1);
+        self.holds_back = true;
+        self.noted = self.noted.and(row);
+        push_fault(&mut self.faults, self.fields, row);
+        push_record(&mut self.rejects, &row.own, row.line_end);
     }
 
     fn flush(&mut self) -> bool
+        ensures whole { IsTrue result → HasLines W.contents self.new × HasRejects W.contents self.new }
+        ensures failed { IsFalse result
+            → HasFailed self.new.faults.file ⊎ HasFailed self.new.rejects.file }
         ensures keeps { Some self.new.noted ≡ Some self.old.noted }
+        ensures header { self.new.header ≡ self.old.header }
         ensures fields { self.new.fields ≡ self.old.fields }
         ensures faults { IsSameList self.old.faults self.new.faults }
         ensures rejects { IsSameList self.old.rejects self.new.rejects }
@@ -214,6 +200,17 @@ impl<W: Write> RowLog for FaultList<W> {
             let _ = self.rejects.finish();
             self.holds_back = false;
         }
-        true
+        !self.faults.has_failed && !self.rejects.has_failed
+    }
+}
+
+/// Returns a copy of a header, or `None` where memory is refused.
+fn copy_of(alloc: Global, header: &[u8]) -> Option<Vec<u8>>
+    ensures { IfSome result (λ copy. copy.items ≡ header.now) }
+{
+    let mut copy = Vec::new(alloc);
+    match copy.extend_from_slice(header) {
+        Ok(()) => Some(copy),
+        Err(_) => None,
     }
 }

@@ -63,6 +63,13 @@ impl RowEnds {
         self.place = place;
         ends
     }
+
+    /// Returns the number of rows that end at a flush: 1 after a row whose double quotes are open, and else 0.
+    fn count_at_flush(&mut self) -> u64 {
+        let is_open = self.place == RowPlace::Quoted;
+        self.place = RowPlace::Start;
+        is_open as u64
+    }
 }
 
 /// A writer of rows that passes each write and flush on with its answer, and writes a line about the rows on
@@ -71,8 +78,8 @@ impl RowEnds {
 /// The line has the number of rows that were written, and that of rows a second since the writer
 /// was made: `1048576 rows, 524288 rows a second`. Where only some rows of a column are written, the
 /// last line has both numbers, `3 of 1048576 rows, 524288 rows a second`. What cannot be written of it
-/// is left out, and is no failure of the rows. A row ends with a line feed outside its quoted fields. A
-/// header before the rows is no row.
+/// is left out, and is no failure of the rows. A row ends with a line feed outside its quoted fields, and
+/// at a flush, since rows are flushed whole. A header before the rows is no row.
 #[derive(Drop)]
 pub struct Progress<'a, W, C, E> {
     inner: W,
@@ -136,15 +143,30 @@ impl<'a, W, C: Clock, E: Write> Progress<'a, W, C, E> {
         }
     }
 
-    /// Counts the rows among bytes that were written, and reports them on a terminal where it is time
-    /// to.
-    fn count(&mut self, written: &[u8])
+    /// Counts the rows that end in bytes that were written.
+    fn count_written(&mut self, bytes: &[u8])
         ensures { self.new ≡ self.old }
     {
-        if matches!(self.line, ProgressLine::Never) {
-            return;
+        if !matches!(self.line, ProgressLine::Never) {
+            let ends = self.ends.count(bytes);
+            self.count_ends(ends);
         }
-        let ends = self.ends.count(written);
+    }
+
+    /// Counts the row that ends at a flush, if one does.
+    fn count_flushed(&mut self)
+        ensures { self.new ≡ self.old }
+    {
+        if !matches!(self.line, ProgressLine::Never) {
+            let ends = self.ends.count_at_flush();
+            self.count_ends(ends);
+        }
+    }
+
+    /// Counts rows that ended, and reports all of them on a terminal where it is time to.
+    fn count_ends(&mut self, ends: u64)
+        ensures { self.new ≡ self.old }
+    {
         let rows = self.rows.unwrap_or(0).saturating_add(ends);
         self.rows = Some(rows);
         if matches!(self.line, ProgressLine::Anew(_)) {
@@ -210,14 +232,14 @@ impl<W: Write, C: Clock, E: Write> Write for Progress<'_, W, C, E> {
     fn write(&mut self, buf: &[u8]) -> io::Result<usize> {
         let result = self.inner.write(buf);
         if let Ok(n) = &result {
-            self.count(&buf[..*n]);
+            self.count_written(&buf[..*n]);
         }
         result
     }
 
     fn flush(&mut self) -> io::Result<()> {
         let result = self.inner.flush();
-        self.count(&[]);
+        self.count_flushed();
         result
     }
 }

@@ -22,6 +22,8 @@ use Rattle.zic_base.specs.Check.{first_failed}
 use Rattle.zic_columns.specs.Record.{IsSplit, field_text, record_at}
 use Rattle.zic_columns.specs.declared.fields.Record.{Record}
 use Rattle.zic_columns.proofs.Exchanges.{as_other, twice}
+use Rattle.zic_columns.proofs.StrayLaws.{strays_exchanged}
+use Rattle.zic_columns.specs.Quotes.{has_stray}
 use Rattle.zic_files.specs.File.{File}
 use Rattle.zic_files.specs.Sound.{AreSoundFiles, IsSoundFile}
 use Rattle.zic_plan.specs.Delimiter.{is_csv_byte, is_delimiter, is_row_byte, exchange}
@@ -66,12 +68,14 @@ or_false false b h = (refl, h)
 unequal : (a c : ℕ) → (a == c) ≡ false → a ≢ c
 unequal a c other same = eqb-false a c other same
 
-pub can_delimit : (d : ℕ) → is_delimiter d ≡ true → CanDelimit d
-can_delimit d is =
-    let o = outside d is in
+can_stand : (d : ℕ) → IsOutside d → CanDelimit d
+can_stand d o =
     let (front, return) = or_false _ (d == 13) o.csv in
     let (quote, feed) = or_false (d == 34) (d == 10) front in
     record { ascii = o.ascii; quote = unequal d 34 quote; feed = unequal d 10 feed; return = unequal d 13 return }
+
+pub can_delimit : (d : ℕ) → is_delimiter d ≡ true → CanDelimit d
+can_delimit d is = can_stand d (outside d is)
 
 or_true : (a : Bool) → (a || true) ≡ true
 or_true true = refl
@@ -198,11 +202,14 @@ module _ (d : ℕ) (o : IsOutside d) where
     closed_same [] = refl
     closed_same (field ∷ fields) = refl
 
+    stray_same : (delimiter : ℕ) (own : List ℕ) → delimiter ≡ d → has_stray delimiter (exchanged d own) ≡ has_stray 44 own
+    stray_same delimiter own same = ap (λ (k : ℕ). has_stray k (exchanged d own)) same ∙ strays_exchanged d own (can_stand d o)
+
     -- a record whose fields are exchanged has the fault that it has with the same count in its field
-    pub fault_same : (layout : Layout) (most n : ℕ) (w : CsvRecord) → fault_by layout files most n (exchanged_record d w)
-        ≡ first_failed (checks_of layout files most n w (time_by layout (file_named files (zone_in layout.zone w.fields)) (count_in layout (map (exchanged d) w.fields))))
-    fault_same layout most n w =
-        rw (length-map w.own (exchange d), closed_same w.fields, length-map w.fields (exchanged d), zone_same layout.zone w.fields, number_unchanged layout.zone w.fields) refl
+    pub fault_same : (layout : Layout) (most n : ℕ) (w : CsvRecord) → layout.delimiter ≡ d → fault_by layout files most n (exchanged_record d w)
+        ≡ first_failed (checks_of layout files most n 44 w (time_by layout (file_named files (zone_in layout.zone w.fields)) (count_in layout (map (exchanged d) w.fields))))
+    fault_same layout most n w same =
+        rw (length-map w.own (exchange d), closed_same w.fields, stray_same layout.delimiter w.own same, length-map w.fields (exchanged d), zone_same layout.zone w.fields, number_unchanged layout.zone w.fields) refl
 
 -- what a row begins with, and its rest, exchanged together
 pub row_put_back : (start : RowStart) (d : ℕ) (own name input rest : List ℕ)

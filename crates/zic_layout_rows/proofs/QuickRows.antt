@@ -27,7 +27,7 @@ use Rattle.zic_rows.specs.PlainTime.{IsPlainTime}
 use Rattle.zic_rows.specs.declared.limit.TheConstants.{FIRST_INSTANT, LAST_INSTANT}
 use Rattle.zic_rows.specs.declared.row_time.RowTime.{RowTime}
 use Rattle.zic_zones.specs.Zones.{AnswersAt, zone_in}
-use Rattle.zic_layout_rows.specs.LayoutRows.{IsTextBy, input_text, file_at, rest_by, start_text}
+use Rattle.zic_layout_rows.specs.LayoutRows.{IsTextBy, admits_stray, input_text, file_at, rest_by, start_text}
 use Rattle.zic_layout_rows.specs.Rows.{is_closed, is_row_instant}
 use Rattle.zic_layout_rows.specs.code.Batch.{AreCountsOf, IsCountFor, IsQuickRow, IsRowQuery, IsTimeIn, count_at, fault_at, time_at, wanted_by, zone_at}
 use Rattle.zic_layout_rows.specs.code.Row.{field_start}
@@ -35,7 +35,7 @@ use Rattle.zic_layout_rows.specs.declared.piece.Piece.{Piece}
 use Rattle.zic_layout_rows.specs.declared.quick.QuickRow.{QuickRow}
 use Rattle.zic_layout_rows.specs.declared.row.RowQuery.{RowQuery}
 use Rattle.zic_layout_rows.proofs.PutBack.{count_read, row_exchanged, row_put_back, text_made}
-use Rattle.zic_layout_rows.proofs.RowFaults.{found, no_fault}
+use Rattle.zic_layout_rows.proofs.RowFaults.{closed_quotes, found, no_fault}
 
 -- two parts with a comma between them
 pub joined : (bytes : List ℕ) (a m b : ℕ) → a ≤ m → m + 1 ≤ b → b ≤ length bytes → get_or bytes m 0 ≡ 44
@@ -110,12 +110,13 @@ module _ (piece : Piece) (given : Record) (row : QuickRow) (split : IsSplit piec
       rw (is.file, got, count_is delimiter, is.from) refl
 
   -- the row has no fault
-  pub faultless : (number : ℕ) → number ≤ piece.most → may_have piece.layout.now.max_record (length (bytes_at piece.bytes.now given.own)) ≡ true → is_delimiter piece.layout.now.delimiter ≡ true
-      → fault_at piece number given ≡ None
-  faultless number le short delimiter =
+  pub faultless : (number : ℕ) → number ≤ piece.most → may_have piece.layout.now.max_record (length (bytes_at piece.bytes.now given.own)) ≡ true
+      → admits_stray piece.layout.now.quotes given.stray ≡ true → is_delimiter piece.layout.now.delimiter ≡ true → fault_at piece number given ≡ None
+  faultless number le short quotes delimiter =
       let admits = subst (λ (n : ℕ). has_count piece.layout.now.count n ≡ true) split.count is.admitted in
       let closed = closed_is piece.layout.now.unit (record_at piece.bytes.now given).fields piece.layout.now.time read.count (ap (count_of piece.layout.now.unit) (sym split.time) ∙ read.says) in
-      no_fault piece number given le short closed admits row.file is.file read.count (time_is delimiter) (may_row (second_of piece.layout.now.unit read.count) read.may)
+      let right = closed_quotes piece.layout.now.quotes (record_at piece.bytes.now given) given.stray closed split.stray quotes in
+      no_fault piece number given le short right admits row.file is.file read.count (time_is delimiter) (may_row (second_of piece.layout.now.unit read.count) read.may)
 
   -- its text, as it is made
   pub quick_text_made : (old begun_text all : List ℕ) (start : ℕ) → start ≡ length old → is_delimiter piece.layout.now.delimiter ≡ true → AreSoundFiles piece.zones.now

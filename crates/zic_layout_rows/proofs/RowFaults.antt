@@ -1,20 +1,25 @@
 -- The fault of a record's row, by what the record asks for.
 use Rattle.std.proofs.Common.{◌≡◌, ◌≤◌, ◌∙◌, ℕ, ℤ, Bool, true, false, List, ◌∷◌, ◌++◌, [], Option, Some, None, Ok, Err, ap, append_assoc, arith, le-leb, refl, subst, suc, sym}
-use Rattle.std.specs.Prelude.{bytes_eq, int_le, length, option_map, slice_get, IfSome, if◌then◌else◌}
+use Rattle.std.specs.Prelude.{◌&&◌, bytes_eq, int_le, length, option_map, slice_get, IfSome, if◌then◌else◌}
 use Rattle.std.specs.Cmp.Lexicographic.{bytes_decides}
+use Rattle.std.proofs.Math.Bool.{and-false}
 use Rattle.std.proofs.lemmas.Bool.{and_parts}
 use Rattle.std.proofs.lemmas.Int.{ints}
+use Rattle.zic_columns.specs.Own.{CsvRecord}
+use Rattle.zic_columns.specs.Quotes.{has_stray}
 use Rattle.zic_columns.specs.Record.{record_at}
 use Rattle.zic_columns.specs.Round.{may_have}
 use Rattle.zic_columns.specs.declared.fields.Record.{Record}
 use Rattle.zic_files.specs.File.{File}
 use Rattle.zic_plan.specs.Layout.{has_count}
+use Rattle.zic_plan.specs.declared.layout.Quotes.{Quotes}
 use Rattle.zic_base.specs.declared.row_fault.RowKind.{RowKind}
 use Rattle.zic_base.specs.declared.row_fault.RowKind.TheVariants as kind
 use Rattle.zic_rows.specs.Count.{second_of}
 use Rattle.zic_rows.specs.Instant.{IsRowInstant}
 use Rattle.zic_rows.specs.declared.limit.TheConstants.{FIRST_INSTANT, LAST_INSTANT}
 use Rattle.zic_zones.specs.Zones.{is_named, number_of, zone_in}
+use Rattle.zic_layout_rows.specs.LayoutRows.{admits_stray, has_right_quotes}
 use Rattle.zic_layout_rows.specs.Rows.{is_closed, is_row_instant}
 use Rattle.zic_layout_rows.specs.code.Batch.{fault_at, time_at, zone_at}
 use Rattle.zic_layout_rows.specs.declared.piece.Piece.{Piece}
@@ -70,11 +75,11 @@ module _ (piece : Piece) (number : ℕ) (given : Record) (le : number ≤ piece.
   too_long long = rw (le-leb number piece.most le, long) refl
 
   module _ (short : may_have piece.layout.now.max_record (length (record_at piece.bytes.now given).own) ≡ true) where
-    -- it has no field
-    pub no_field : is_closed (record_at piece.bytes.now given).fields ≡ false → fault_at piece number given ≡ Some kind.RowQuote
-    no_field none = rw (le-leb number piece.most le, short, none) refl
+    -- its double quotes are wrong
+    pub wrong_quotes : has_right_quotes piece.layout.now.quotes 44 (record_at piece.bytes.now given) ≡ false → fault_at piece number given ≡ Some kind.RowQuote
+    wrong_quotes wrong = rw (le-leb number piece.most le, short, wrong) refl
 
-    module _ (closed : is_closed (record_at piece.bytes.now given).fields ≡ true) (admits : has_count piece.layout.now.count (length (record_at piece.bytes.now given).fields) ≡ true) where
+    module _ (closed : has_right_quotes piece.layout.now.quotes 44 (record_at piece.bytes.now given) ≡ true) (admits : has_count piece.layout.now.count (length (record_at piece.bytes.now given).fields) ≡ true) where
       -- its zone has no file
       pub zone_missing : zone_at piece given ≡ None → fault_at piece number given ≡ Some kind.RowZone
       zone_missing none = rw (le-leb number piece.most le, short, closed, admits, unnamed piece.zones.now (zone_in piece.layout.now.zone (record_at piece.bytes.now given).fields) none) refl
@@ -118,10 +123,26 @@ rest_pushed old digits text a b c is_a is_b is_c =
     is_c ∙ ap (λ (l : List ℕ). l ++ text) (digits_pushed old digits a b is_a is_b) ∙ append_assoc old (44 ∷ digits) text
 
 -- a record with fields is closed
-pub closed_counted : (fields : List (List ℕ)) → (length fields ≡ 0 → ⊥) → is_closed fields ≡ true
+closed_counted : (fields : List (List ℕ)) → (length fields ≡ 0 → ⊥) → is_closed fields ≡ true
 closed_counted [] some = absurd (some refl)
 closed_counted (field ∷ fields) some = refl
 
-pub open_counted : (fields : List (List ℕ)) → length fields ≡ 0 → is_closed fields ≡ false
+open_counted : (fields : List (List ℕ)) → length fields ≡ 0 → is_closed fields ≡ false
 open_counted [] none = refl
 open_counted (field ∷ fields) none = absurd (omega (arith, none))
+
+-- the double quotes of a closed record
+pub closed_quotes : (by : Quotes) (row_record : CsvRecord) (stray : Bool) → is_closed row_record.fields ≡ true → stray ≡ has_stray 44 row_record.own → admits_stray by stray ≡ true
+    → has_right_quotes by 44 row_record ≡ true
+closed_quotes by row_record stray closed is admits = rw closed (ap (admits_stray by) (sym is) ∙ admits)
+
+pub right_counted : (by : Quotes) (row_record : CsvRecord) (stray : Bool) → (length row_record.fields ≡ 0 → ⊥) → stray ≡ has_stray 44 row_record.own → admits_stray by stray ≡ true
+    → has_right_quotes by 44 row_record ≡ true
+right_counted by row_record stray some is admits = closed_quotes by row_record stray (closed_counted row_record.fields some) is admits
+
+pub open_wrong : (by : Quotes) (row_record : CsvRecord) → length row_record.fields ≡ 0 → has_right_quotes by 44 row_record ≡ false
+open_wrong by row_record none = rw (open_counted row_record.fields none) refl
+
+pub stray_wrong : (by : Quotes) (row_record : CsvRecord) (stray : Bool) → stray ≡ has_stray 44 row_record.own → admits_stray by stray ≡ false → has_right_quotes by 44 row_record ≡ false
+stray_wrong by row_record stray is refused =
+    ap (λ (b : Bool). is_closed row_record.fields && b) (ap (admits_stray by) (sym is) ∙ refused) ∙ and-false (is_closed row_record.fields)

@@ -2,7 +2,7 @@
 -- text of what the file of that name answers at the instant, or a fault. A row with a fault ends the run, or is written without an answer, or
 -- isn't written, and its record is put aside. Where rows are compared with another release, only those are written that it answers
 -- differently, with its answer at the end.
-use Rattle.std.specs.Prelude.{◌≡◌, ℕ, ◌+◌, nat_le, ℤ, pos, ◌+ℤ◌, ◌*ℤ◌, List, [], ◌∷◌, ◌++◌, length, replicate, take, Option, Some, None, Result, Ok, Err, option_map, is_some, IsSome, Contains, slice_get, if◌then◌else◌}
+use Rattle.std.specs.Prelude.{◌≡◌, ℕ, ◌+◌, nat_le, ℤ, pos, ◌+ℤ◌, ◌*ℤ◌, List, [], ◌∷◌, ◌++◌, length, replicate, take, Option, Some, None, Result, Ok, Err, option_map, is_some, IsSome, Contains, slice_get, Bool, true, not, ◌&&◌, if◌then◌else◌}
 use Rattle.std.specs.Fmt.{signed_decimal}
 use Rattle.csv.specs.Writing.{default_writer, row_text, with_delimiter}
 use Rattle.zic_base.specs.Check.{Check, first_failed}
@@ -15,12 +15,15 @@ use Rattle.zic_local.specs.declared.disambiguation.Unresolved.{Unresolved}
 use Rattle.zic_local.specs.declared.disambiguation.Unresolved.TheVariants as unresolved
 use Rattle.zic_columns.specs.Exchange.{exchanged}
 use Rattle.zic_columns.specs.Own.{CsvRecord}
+use Rattle.zic_columns.specs.Quotes.{has_stray}
 use Rattle.zic_columns.specs.Round.{may_have}
 use Rattle.zic_files.specs.File.{File}
 use Rattle.zic_plan.specs.Layout.{has_count}
 use Rattle.zic_plan.specs.declared.layout.AtFault.{AtFault}
 use Rattle.zic_plan.specs.declared.layout.AtFault.TheVariants as at
 use Rattle.zic_plan.specs.declared.layout.Layout.{Layout}
+use Rattle.zic_plan.specs.declared.layout.Quotes.{Quotes}
+use Rattle.zic_plan.specs.declared.layout.Quotes.TheVariants as quotes
 use Rattle.zic_plan.specs.declared.layout.Records.{Records}
 use Rattle.zic_plan.specs.declared.layout.Records.TheVariants as by
 use Rattle.zic_plan.specs.declared.layout.RowStart.{RowStart}
@@ -97,15 +100,24 @@ abbrev pub err_fault : Result ℤ RowKind → RowKind
 err_fault (Ok count) = kind.RowInstant
 err_fault (Err fault) = fault
 
--- the checks of a record with this time as the row of a number, where there is a greatest number of rows
-abbrev pub checks_of : Layout → List File → ℕ → ℕ → CsvRecord → Result ℤ RowKind → List (Check RowKind)
-checks_of layout files most number row_record time =
-    row_checks (nat_le number most) (may_have layout.max_record (length row_record.own)) (is_closed row_record.fields) (has_count layout.count (length row_record.fields))
+-- a record may have a stray double quote, or has none
+abbrev pub admits_stray : Quotes → Bool → Bool
+admits_stray quotes.Strict stray = not stray
+admits_stray quotes.Lenient stray = true
+
+-- the double quotes of a record with this delimiter are as they must be: it isn't an open line, and its own bytes may be stray, or aren't
+abbrev pub has_right_quotes : Quotes → ℕ → CsvRecord → Bool
+has_right_quotes by delimiter row_record = is_closed row_record.fields && admits_stray by (has_stray delimiter row_record.own)
+
+-- the checks of a record with this delimiter and this time as the row of a number, where there is a greatest number of rows
+abbrev pub checks_of : Layout → List File → ℕ → ℕ → ℕ → CsvRecord → Result ℤ RowKind → List (Check RowKind)
+checks_of layout files most number delimiter row_record time =
+    row_checks (nat_le number most) (may_have layout.max_record (length row_record.own)) (has_right_quotes layout.quotes delimiter row_record) (has_count layout.count (length row_record.fields))
     (is_named files (zone_in layout.zone row_record.fields)) (is_some (ok_count time)) (err_fault time) (is_row_instant (option_map (second_of layout.unit) (ok_count time)))
 
 -- the checks of a record
 abbrev pub checks_by : Layout → List File → ℕ → ℕ → CsvRecord → List (Check RowKind)
-checks_by layout files most number row_record = checks_of layout files most number row_record (time_in layout files row_record.fields)
+checks_by layout files most number row_record = checks_of layout files most number layout.delimiter row_record (time_in layout files row_record.fields)
 
 -- the fault of a row: of the first check that fails, or none
 abbrev pub fault_by : Layout → List File → ℕ → ℕ → CsvRecord → Option RowKind

@@ -36,6 +36,7 @@ impl Batch {
             count: 0,
             zone: field,
             time: field,
+            stray: false,
         };
         Batch {
             records: [record; BATCH],

@@ -12,7 +12,7 @@ ghost use Rattle.zic_rows.specs.Instant.{IsRowInstant};
 ghost use Rattle.zic_zones.specs.Zones.{AnswersAt, alone, zone_in};
 ghost use Rattle.zic_plan.specs.declared.layout.TimeFrom.TheVariants as from;
 ghost use Rattle.zic_plan.specs.declared.layout.Written.TheVariants as written;
-ghost use Rattle.zic_layout_rows.specs.LayoutRows.{IsTextBy, input_text, rest_by};
+ghost use Rattle.zic_layout_rows.specs.LayoutRows.{IsTextBy, admits_stray, input_text, rest_by};
 ghost use Rattle.zic_layout_rows.specs.Rows.{is_row_instant};
 ghost use Rattle.zic_layout_rows.specs.code.Batch.{AreColumns, AreStates, IsFoundAt, IsLookup, IsKnown, IsPen, IsQuickRow, IsRowQuery, IsSoundQuery, fault_at, records_of, wanted_by, zone_at};
 ghost use Rattle.zic_layout_rows.specs.PieceRows.{AreRowsOf, empty_rows};
@@ -31,7 +31,7 @@ use std::alloc::{AllocError, Global};
 use std::marker::Model;
 use zic_base::{RowFault, RowKind, State};
 use zic_columns::{Field, Record, may_have};
-use zic_plan::{FaultyRow, Layout, RowStart, Style, TimeFrom, Unit};
+use zic_plan::{FaultyRow, Layout, Quotes, RowStart, Style, TimeFrom, Unit};
 use zic_rows::{
     FIRST_INSTANT, LAST_INSTANT, RowText, RowWriter, is_plain, moment_of, push_local_time,
 };
@@ -132,13 +132,24 @@ fn is_in_range(count: i128, unit: Unit) -> bool
     i128::from(FIRST_INSTANT) <= second && second <= i128::from(LAST_INSTANT)
 }
 
+/// Returns whether a record may have a stray double quote, or has none.
+#[inline(always)]
+fn admits_stray(quotes: Quotes, stray: bool) -> bool
+    ensures { result ≡ admits_stray quotes stray }
+{
+    match quotes {
+        Quotes::Strict => !stray,
+        Quotes::Lenient => true,
+    }
+}
+
 /// Returns what the row of a record is to show. The record is the row of this number.
 ///
 /// # Errors
 ///
 /// The first fault of the row: a number above the greatest, more bytes than a record may have, no
-/// field, another number of fields, a name that no file has, no instant, or an instant that no row may
-/// have.
+/// field or a stray double quote that it may not have, another number of fields, a name that no file
+/// has, no instant, or an instant that no row may have.
 #[inline(always)]
 pub(crate) fn query(
     piece: &Piece<'_, '_>,
@@ -157,7 +168,7 @@ pub(crate) fn query(
     if !may_have(piece.layout.max_record, given.own.of(piece.bytes).len()) {
         return Err(RowKind::RowTooLong);
     }
-    if given.count == 0 {
+    if given.count == 0 || !admits_stray(piece.layout.quotes, given.stray) {
         return Err(RowKind::RowQuote);
     }
     if !piece.layout.count.admits(given.count) {
@@ -326,6 +337,7 @@ impl Rows {
         requires may { piece.now.first + self.old.count ≤ piece.now.most }
         requires short { may_have piece.now.layout.now.max_record
             (length (bytes_at piece.now.bytes.now given.now.own)) ≡ true }
+        requires quotes { admits_stray piece.now.layout.now.quotes given.now.stray ≡ true }
         requires fits { piece.now.first + self.old.count + 1 < 2 ^ 64 }
         ensures { OnOk result (AreNext piece.now.layout.now piece.now.zones.now piece.now.most
             (piece.now.first + self.old.count) (exchanged_record piece.now.layout.now.delimiter
@@ -442,8 +454,9 @@ impl Rows {
     {
         let counts = matches!(piece.layout.from, TimeFrom::Count);
         let short = may_have(piece.layout.max_record, given.own.of(piece.bytes).len());
+        let quoted = admits_stray(piece.layout.quotes, given.stray);
         match known.row(states) {
-            Some(row) if counts && short && piece.first + self.count <= piece.most => {
+            Some(row) if counts && short && quoted && piece.first + self.count <= piece.most => {
                 self.add_quick(piece, given, &row)
             }
             _ => self.add_checked(piece, given, known.zone, pen),

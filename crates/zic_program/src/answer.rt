@@ -24,15 +24,17 @@ pub(crate) fn answer<
             folder,
             sources,
             plan,
+            release_files,
             strict,
         } => {
             let verifying = Verifying {
                 folder,
                 sources,
                 plan,
+                release_files,
                 strict: *strict,
             };
-            return Ok(verify(rt, &verifying, texts)?);
+            return verify(rt, &verifying, texts);
         }
         Request::Check { source, plan } => check(rt, source, plan, texts),
         Request::Diff {

@@ -1,5 +1,5 @@
 -- The zones of records, learnt one after another.
-use Rattle.std.proofs.Common.{◌≡◌, ◌∙◌, ◌+◌, ℕ, List, [], ◌∷◌, ◌++◌, map, take, Option, Some, ap, sym, subst}
+use Rattle.std.proofs.Common.{◌≡◌, ◌∙◌, ◌+◌, ℕ, List, [], ◌∷◌, ◌++◌, map, take, Option, Some, ap, sym, subst, false}
 use Rattle.std.specs.Prelude.{All, slice_get}
 use Rattle.std.proofs.lemmas.List.{map-append}
 use Rattle.std.proofs.lemmas.List.Elements.{All-push}
@@ -24,6 +24,7 @@ no_record = record {
   count = 0;
   zone = field.Plain (record { start = 0; end = 0 });
   time = field.Plain (record { start = 0; end = 0 });
+  stray = false;
 }
 
 -- what was learnt of the records so far, of which the last names a zone in this field

@@ -111,6 +111,7 @@ impl<T: ZoneTree> TreeZones<T> {
             count: 0,
             zone: field,
             time: field,
+            stray: false,
         }; BATCH];
         let zone = Some(index);
         let mut splitter = Splitter::new(piece, Wanted { zone, time: index });

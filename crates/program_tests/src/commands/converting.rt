@@ -239,7 +239,7 @@ type OneLine = (
     &'static [u8],
 );
 
-static LINES: [OneLine; 8] = [
+static LINES: [OneLine; 9] = [
     // twice a second, and at the end
     (
         (Line::OnTerminal, false),
@@ -295,6 +295,13 @@ static LINES: [OneLine; 8] = [
         ),
         Some(21),
         b"3 rows, 12 rows a second\n",
+    ),
+    // a flush ends a row whose double quotes are open
+    (
+        (Line::Once, false),
+        (Defect::Full(100), &[b"a,1\nb,\"2\n"]),
+        Some(9),
+        b"2 rows, 8 rows a second\n",
     ),
 ];
 

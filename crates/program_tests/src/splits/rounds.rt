@@ -45,6 +45,7 @@ pub(super) fn push_records(rt: &impl Abort, text: &mut Vec<u8>, piece: &[u8]) ->
         count: 0,
         zone: missing,
         time: missing,
+        stray: false,
     }; BATCH];
     let mut splitter = Splitter::new(piece, SHOWN);
     let mut total = 0usize;

@@ -1,7 +1,8 @@
 -- Whole lines among bytes, where each line is a record.
 use Rattle.std.specs.Prelude.{◌≡◌, ◌<◌, ◌≤◌, ℕ, false, List, ◌∷◌, ◌++◌, length, take, drop, MatchOption, All}
 use Rattle.zic_columns.specs.Column.{AreWholeRecords, ends_line, lines_of}
-use Rattle.zic_columns.specs.Lines.{is_open, line_records, open_record}
+use Rattle.zic_columns.specs.Lines.{line_records, open_record}
+use Rattle.zic_columns.specs.Quotes.{is_open}
 use Rattle.zic_columns.specs.declared.line_scan.FirstLine.{FirstLine}
 use Rattle.zic_columns.specs.declared.line_scan.FirstLine.TheVariants as first
 use Rattle.zic_columns.specs.declared.line_scan.LineScan.{LineScan}

@@ -1,5 +1,5 @@
 -- Records of a piece whose fields begin with no double quote.
-use Rattle.std.specs.Prelude.{◌≡◌, ◌+◌, ◌<◌, ℕ, true, List, [], ◌∷◌, length, slice_index, drop, Option, MatchOption, ◌-◌, ◌^◌}
+use Rattle.std.specs.Prelude.{◌≡◌, ◌+◌, ◌<◌, ℕ, true, false, List, [], ◌∷◌, length, slice_index, drop, Option, MatchOption, ◌-◌, ◌^◌}
 use Rattle.zic_columns.specs.Column.{ends_line}
 use Rattle.zic_columns.specs.Own.{csv_records}
 use Rattle.zic_columns.specs.Record.{IsSplit, record_at}
@@ -19,7 +19,7 @@ IsSought wanted sought = MatchOption wanted.zone (sought.zone ≡ 2 ^ 64 - 1) (�
 
 -- the record of these fields that stands from an index up to another
 abbrev pub record_of : ℕ → ℕ → PlainFields → Record
-record_of start end fields = record { own = record { start = start; end = end }; count = fields.count; zone = Plain fields.zone; time = Plain fields.time }
+record_of start end fields = record { own = record { start = start; end = end }; count = fields.count; zone = Plain fields.zone; time = Plain fields.time; stray = false }
 
 -- no fields, of a record that begins at an index
 abbrev pub no_fields : ℕ → PlainFields

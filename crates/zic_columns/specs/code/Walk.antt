@@ -1,15 +1,17 @@
 -- A record of a piece, field by field.
-use Rattle.std.specs.Prelude.{◌≡◌, ◌+◌, ◌-◌, ◌<◌, ◌≤◌, ◌⊎◌, ℕ, true, List, [], ◌∷◌, ◌++◌, Some, drop, length, slice_index, slice_range}
+use Rattle.std.specs.Prelude.{◌≡◌, ◌+◌, ◌-◌, ◌<◌, ◌≤◌, ◌⊎◌, ℕ, true, false, List, [], ◌∷◌, ◌++◌, Some, drop, length, slice_index, slice_range}
 use Rattle.csv.specs.Machine.{next_record}
 use Rattle.csv.specs.Reading.{default_config}
 use Rattle.csv.specs.declared.parser.State.TheVariants as st
 use Rattle.zic_columns.specs.Own.{own_texts}
 use Rattle.zic_columns.specs.Record.{IsSplit, IsWithinPiece, bytes_at, field_text, wanted_text}
 use Rattle.zic_columns.specs.code.Block.{ends_field}
+use Rattle.zic_columns.specs.code.Field.{HasQuotes}
 use Rattle.zic_columns.specs.code.Machine.{IsEndOfRecord, ReadsTo}
 use Rattle.zic_columns.specs.declared.fields.Field.TheVariants.{Plain}
 use Rattle.zic_columns.specs.declared.fields.Record.{Record}
 use Rattle.zic_columns.specs.declared.fields.Wanted.{Wanted}
+use Rattle.zic_columns.specs.declared.machine.Place.TheVariants as place
 use Rattle.zic_columns.specs.declared.walk.FoundField.{FoundField}
 use Rattle.zic_columns.specs.declared.walk.QuotedText.{QuotedText}
 use Rattle.memchr.specs.Find.{Nowhere, Passes}
@@ -28,7 +30,7 @@ pub record IsQuoteAt (bytes : List ℕ) (at : ℕ) : Type 0 where
 
 -- the field whose text stands between two double quotes
 abbrev pub quoted_field : QuotedText → FoundField
-quoted_field text = record { field = Plain text.span; stop = text.stop }
+quoted_field text = record { field = Plain text.span; stop = text.stop; stray = false }
 
 -- of these fields a record has the number and the wanted ones
 pub record HasFields (piece : List ℕ) (wanted : Wanted) (fields : List (List ℕ)) (given : Record) : Type 0 where
@@ -48,6 +50,7 @@ pub record HasWalked (piece : List ℕ) (start : ℕ) (wanted : Wanted) (given :
   pub has : HasFields piece wanted fields given
   pub reads : (more : List ℕ) → next_record default_config st.StartField [] [] (slice_range piece start at ++ more) ≡ next_record default_config st.StartField fields [] more
   pub any : ReadsTo st.StartField (slice_range piece start at) st.StartField
+  pub quotes : HasQuotes (slice_range piece start at) place.Start given.stray
 
 -- the record that begins at an index
 pub record IsRecordFrom (piece : List ℕ) (start : ℕ) (wanted : Wanted) (given : Record) : Type 0 where

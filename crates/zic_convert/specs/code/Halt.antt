@@ -23,6 +23,10 @@ abbrev pub IsCauseOfHalt : {W : Type 0} → Counts W → Counts W → Halt → T
 IsCauseOfHalt old new halt.Unread = Unit {0}
 IsCauseOfHalt old new (halt.Stop stop) = IsOwnCause old new stop
 
+-- or the log failed
+abbrev pub IsCauseWith : {W : Type 0} → Type 0 → Counts W → Counts W → Halt → Type 0
+IsCauseWith LogFails old new why = IsCauseOfHalt old new why ⊎ ((why ≡ halt.Stop stop.LogFailed) × LogFails)
+
 -- why reading a column ended, by what its reader counted since it had these counts of failures and bytes
 abbrev pub IsReadingStop : {R : Type 0} → Counts R → ℕ → ℕ → ℕ → RunStop → Type 0
 IsReadingStop reader failures taken most stop.ReadFailed = HasFailedSince reader failures

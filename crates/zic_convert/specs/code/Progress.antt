@@ -1,5 +1,5 @@
 -- How far a conversion has come.
-use Rattle.std.specs.Prelude.{◌≡◌, ◌≤◌, ◌<◌, ◌↔◌, ◌⊎◌, ℕ, List, [], ◌++◌, length, drop, Option, Some, None, IfSome}
+use Rattle.std.specs.Prelude.{◌≡◌, ◌≤◌, ◌<◌, ◌↔◌, ◌⊎◌, ℕ, false, List, [], ◌∷◌, ◌++◌, length, drop, Option, Some, None, IfSome}
 use Rattle.std.specs.List.{concat}
 use Rattle.std.specs.Io.KnownBytes.{Appends}
 use Rattle.csv.specs.Reading.{strip_bom}
@@ -7,7 +7,7 @@ use Rattle.zic_columns.specs.Exchange.{exchanged}
 use Rattle.zic_columns.specs.Lines.{records_by, texts_by}
 use Rattle.zic_columns.specs.Own.{CsvRecord}
 use Rattle.zic_columns.specs.Round as Columns
-use Rattle.zic_columns.specs.Round.{ArePiecesOf, BeginsTooLong, ColumnOf, HasNoRecord, IsNextTooLong, taken_records, unread}
+use Rattle.zic_columns.specs.Round.{ArePiecesOf, BeginsTooLong, ColumnOf, HasNoRecord, IsNextTooLong, may_have, taken_records, unread}
 use Rattle.zic_columns.specs.declared.columns.Taken.{Taken}
 use Rattle.zic_columns.specs.declared.columns.Taken.TheVariants as taken
 use Rattle.zic_columns.specs.declared.pieces.TheConstants.{MAX_ROUND_PIECES}
@@ -25,10 +25,11 @@ use Rattle.zic_base.specs.declared.run_stop.RunStop.{RunStop}
 use Rattle.zic_base.specs.declared.run_stop.RunStop.TheVariants as stop
 use Rattle.zic_zones.specs.declared.releases.Releases.{Releases}
 use Rattle.zic_convert.specs.Column.{AreRowRecords, header_of, names_added, own_header, own_line}
-use Rattle.zic_layout_rows.specs.LayoutRows.{RecordsConvertBy, faults_by}
+use Rattle.zic_layout_rows.specs.LayoutRows.{RecordsConvertBy, faults_by, if_aside}
 use Rattle.zic_convert.specs.Run.{EndsAtHeader, EndsIn, Notes, Output, WritesRows}
-use Rattle.zic_convert.specs.code.Row.{records_in}
-use Rattle.zic_convert.specs.code.Written.{IsLeft}
+use Rattle.zic_convert.specs.code.Row.{records_in, taken_rows}
+use Rattle.zic_convert.specs.code.Written.{EndsInRecords, IsLeft, WritesRecords}
+use Rattle.zic_convert.specs.declared.tally.Tally.{Tally}
 use Rattle.zic_convert.specs.declared.halt.Halt.{Halt}
 use Rattle.zic_convert.specs.declared.halt.Halt.TheVariants as halt
 
@@ -81,6 +82,10 @@ EndsInColumn layout most limit known why out releases = IfSome known (λ column.
 abbrev pub own_line_in : Layout → List ℕ → List ℕ
 own_line_in layout column = header_of layout.start (names_added layout) layout.delimiter (exchanged layout.delimiter (own_header layout.header (texts_by layout.records (strip_bom column))))
 
+-- and its own bytes alone, where records are put aside
+abbrev pub header_aside_in : Layout → List ℕ → List ℕ
+header_aside_in layout column = if_aside layout.at_fault (exchanged layout.delimiter (own_header layout.header (texts_by layout.records (strip_bom column))))
+
 -- The bytes that are left of a column have its records after those that are a header.
 abbrev pub BeginsRows : Layout → List ℕ → Option (List ℕ) → Type 0
 BeginsRows layout column left = (rest : List ℕ) × (left ≡ Some rest) × (records_by layout.records rest ≡ drop (records_before layout.header) (records_by layout.records (strip_bom column)))
@@ -132,6 +137,24 @@ pub record TakesNext {R : Type 0} (remaining : R → Option (List ℕ)) (size : 
   pub long : next ≡ taken.TooLong → IsNextTooLong longest old.by (unread remaining new)
   pub few : length new.round ≤ MAX_ROUND_PIECES
   pub cut : ArePiecesOf size new.round
+
+-- What was taken of a column, the first record as the row of this number, was converted: all rows were written, or there was nothing, at its
+-- end.
+abbrev pub WritesTaken : {W : Type 0} → Layout → Releases → ℕ → Option ℕ → ℕ → Taken → List (List ℕ) → (W → Option (List ℕ)) → Counts W → Counts W → Option (List RowNote) → Option (List RowNote)
+    → Option Tally → Type 0
+WritesTaken layout releases most limit first next pieces contents old new log log' None = (next ≡ taken.End) × (new ≡ old) × (log' ≡ log)
+WritesTaken layout releases most limit first next pieces contents old new log log' (Some tally) =
+    (next ≡ taken.End → ⊥) × (next ≡ taken.TooLong → ⊥) × WritesRecords layout releases most limit first (taken_rows layout.delimiter next pieces) contents old new log log' tally
+
+-- the run ended in it, or at a record that has too many bytes
+abbrev pub EndsInTaken : {W : Type 0} → Layout → Releases → ℕ → Option ℕ → ℕ → Taken → List (List ℕ) → (W → Option (List ℕ)) → Counts W → Counts W → Option (List RowNote) → Option (List RowNote)
+    → RunStop → Type 0
+EndsInTaken layout known most limit first taken.End pieces contents old new log log' why = ⊥
+EndsInTaken layout known most limit first taken.TooLong pieces contents old new log log' why =
+    ((releases : Releases) (given : CsvRecord) → may_have (longest_of layout) (length given.own) ≡ false → EndsInRecords layout releases most limit first (given ∷ []) contents old new log log why)
+    × (log' ≡ log)
+EndsInTaken layout known most limit first next pieces contents old new log log' why =
+    EndsInRecords layout known most limit first (taken_rows layout.delimiter next pieces) contents old new log log' why
 
 -- the column could not be read on, before zones were requested, or memory was refused then
 abbrev pub EndsAtTaking : {Z : Type 0} → (Z → Z → Type 0) → Z → Z → Halt → Type 0

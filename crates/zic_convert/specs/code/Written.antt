@@ -41,11 +41,12 @@ abbrev pub StopsAtRow : {W : Type 0} → (W → Option (List ℕ)) → Counts W 
 StopsAtRow contents old new log log' first rows row kind =
     (rows.fault ≡ Some kind) × (row ≡ first + rows.count) × Wrote contents old new rows.text × Notes log log' rows.faults
 
--- pieces were written up to one that ends the run, or up to where the writer failed
+-- pieces were written up to one that ends the run, or up to where the writer failed, or all of them, and then the log failed
 abbrev pub EndsInPieces : {W : Type 0} → (W → Option (List ℕ)) → Counts W → Counts W → Option (List RowNote) → Option (List RowNote) → ℕ → List RowsOf → RunStop → Type 0
 EndsInPieces contents old new log log' first pieces (stop.Row row kind) = StopsAtRow contents old new log log' first (joined pieces) row kind
 EndsInPieces contents old new log log' first pieces stop.WriteFailed =
     (i : ℕ) × FailsAfter contents old new (joined (take i pieces)).text (joined pieces).text × Notes log log' (joined (take i pieces)).faults
+EndsInPieces contents old new log log' first pieces stop.LogFailed = WroteRows contents old new log log' (joined pieces) (joined pieces).count
 EndsInPieces contents old new log log' first pieces _ = ⊥
 
 -- the stop at a row that ends the run, once what a writer held back was passed on, or the writer failed
@@ -105,16 +106,17 @@ pub record StopsAtFault {W : Type 0} (contents : W → Option (List ℕ)) (old n
   pub wrote : Wrote contents old new (concat front)
   pub noted : Notes log log' before
 
--- the rows of records were written up to one that ends the run, or up to where the writer failed
+-- the rows of records were written up to one that ends the run, or up to where the writer failed, or all of them, and then the log failed
 abbrev pub EndsInRows : {W : Type 0} → (W → Option (List ℕ)) → Counts W → Counts W → Option (List RowNote) → Option (List RowNote)
     → Layout → Releases → ℕ → Option ℕ → ℕ → List CsvRecord → RowsOf → RunStop → Type 0
 EndsInRows contents old new log log' layout releases most limit first row_records rows (stop.Row row kind) =
     (StopsAtRow contents old new log log' first rows row kind × AreFew limit rows.faults)
     ⊎ StopsAtFault contents old new log log' layout releases most limit first row_records rows row kind
 EndsInRows contents old new log log' layout releases most limit first row_records rows stop.WriteFailed = FailsInRows contents old new log log' layout releases most limit first row_records
+EndsInRows contents old new log log' layout releases most limit first row_records rows stop.LogFailed = WroteRows contents old new log log' rows rows.count × AreFew limit rows.faults
 EndsInRows contents old new log log' layout releases most limit first row_records rows _ = ⊥
 
--- the rows of these records before one that ends the run were written, or the writer failed, or memory ran out
+-- the rows of these records before one that ends the run were written, or the writer or the log failed, or memory ran out
 abbrev pub EndsInRecords : {W : Type 0} → Layout → Releases → ℕ → Option ℕ → ℕ → List CsvRecord → (W → Option (List ℕ)) → Counts W → Counts W → Option (List RowNote) → Option (List RowNote) → RunStop → Type 0
 EndsInRecords layout releases most limit first row_records contents old new log log' why =
     ((why ≡ stop.Memory) × (new ≡ old) × (log' ≡ log))

@@ -1,6 +1,6 @@
 -- Some records of a piece, column by column: each column follows from those before it.
 use Rattle.zic_columns.specs.Lines.{exchanged_record}
-use Rattle.std.specs.Prelude.{◌≡◌, ◌≢◌, ◌<◌, ◌≤◌, true, ℕ, ℤ, pos, List, Option, Some, None, Result, Ok, Err, MatchResult, IfSome, All, length, map, slice_index, slice_index_or, string_bytes, take}
+use Rattle.std.specs.Prelude.{◌≡◌, ◌≢◌, ◌<◌, ◌≤◌, true, false, ℕ, ℤ, pos, List, Option, Some, None, Result, Ok, Err, MatchResult, IfSome, All, length, map, slice_index, slice_index_or, string_bytes, take}
 use Rattle.zic_base.specs.Check.{first_failed}
 use Rattle.zic_base.specs.State.{Shown}
 use Rattle.zic_base.specs.declared.row_fault.RowKind.{RowKind}
@@ -53,7 +53,7 @@ wanted_by layout = record { zone = wanted_zone layout.zone; time = layout.time }
 
 -- a record of no bytes
 abbrev pub blank : Record
-blank = record { own = nowhere; count = 0; zone = Plain nowhere; time = Plain nowhere } where
+blank = record { own = nowhere; count = 0; zone = Plain nowhere; time = Plain nowhere; stray = false } where
   nowhere : Span
   nowhere = record { start = 0; end = 0 }
 
@@ -79,9 +79,9 @@ count_at piece given = count_in piece.layout.now (record_of piece given).fields
 abbrev pub time_at : Piece → Record → Result ℤ RowKind
 time_at piece given = time_by piece.layout.now (file_at piece.zones.now (zone_at piece given)) (count_at piece given)
 
--- the fault of a record of a piece, as the row of a number
+-- the fault of a record of a piece, which has commas, as the row of a number
 abbrev pub fault_at : Piece → ℕ → Record → Option RowKind
-fault_at piece number given = first_failed (checks_of piece.layout.now piece.zones.now piece.most number (record_at piece.bytes.now given) (time_at piece given))
+fault_at piece number given = first_failed (checks_of piece.layout.now piece.zones.now piece.most number 44 (record_at piece.bytes.now given) (time_at piece given))
 
 -- fields have local times
 abbrev pub IsLocal : TimeFrom → Type 0

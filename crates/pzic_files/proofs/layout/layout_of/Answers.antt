@@ -35,6 +35,12 @@ returns-in_err-records-clause-err c =
     rw (p.1, p.2) (refused c.records_of.result c.in_err-records.field-0.0 _ _ (HasNoLayout c.args.given.now c.args.name.now) c.in_err-records.ensures.value c.records_of.ensures
     (λ none. inl (λ layout h. none layout.records h.records)))
 
+pub returns-in_err-quotes-clause-err : goal.returns-in_err-quotes-clause-err
+returns-in_err-quotes-clause-err c =
+    let p = err_from_is_err_and c.from_residual-in_err-quotes.result c.from_residual-in_err-quotes.ensures.1 in
+    rw (p.1, p.2) (refused c.quotes_of.result c.in_err-quotes.field-0.0 _ _ (HasNoLayout c.args.given.now c.args.name.now) c.in_err-quotes.ensures.value c.quotes_of.ensures
+    (λ none. inl (λ layout h. none layout.quotes h.quotes)))
+
 pub returns-in_err-header-clause-err : goal.returns-in_err-header-clause-err
 returns-in_err-header-clause-err c =
     let p = err_from_is_err_and c.from_residual-in_err-header.result c.from_residual-in_err-header.ensures.1 in

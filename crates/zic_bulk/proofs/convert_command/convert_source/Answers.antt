@@ -2,7 +2,7 @@ use Rattle.std.proofs.Common.{inl, inr, refl}
 use Rattle.std.proofs.lemmas.Result.{err_from_is_err_and}
 use Rattle.zic_convert.specs.Run.{run_of}
 use Rattle.zic_convert.proofs.Joining.{on_err}
-use Rattle.zic_bulk.proofs.SourceLemmas.{all_by_source, fails_after_texts}
+use Rattle.zic_bulk.proofs.SourceLemmas.{all_by_source, fails_after_texts, keyed_no_list}
 use Rattle.zic_bulk.proofs.convert_command.convert_source.Goals as goal
 
 pub returns-in_err-files-clause-err : goal.returns-in_err-files-clause-err
@@ -34,3 +34,8 @@ returns-clause-err g c =
     on_err c.convert.result _ _ (λ e after. inr after)
     (fails_after_texts c.in_ok-files.files c.in_ok-files.ensures.sound c.args.conversion.now.plan.now c.args.conversion.now.max_faults c.args.conversion.now.layout.now run c.in_ok-zones.zones c.convert.new.zones c.in_ok-zones.ensures _
     c.in_ok-files.ensures.ok c.convert.result c.convert.ensures.err)
+
+pub returns-in_err-files-clause-log : goal.returns-in_err-files-clause-log
+returns-in_err-files-clause-log g c =
+    let p = err_from_is_err_and c.from_residual.result c.from_residual.ensures.1 in
+    rw (p.1, p.2) (λ list. absurd (keyed_no_list _ c.in_err-files.field-0.0 c.in_err-files.ensures.err (cc list)))

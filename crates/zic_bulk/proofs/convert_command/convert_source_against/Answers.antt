@@ -3,6 +3,7 @@ use Rattle.std.proofs.lemmas.Result.{err_from_is_err_and}
 use Rattle.zic_convert.specs.Run.{run_of}
 use Rattle.zic_source.specs.Texts.{texts_of}
 use Rattle.zic_convert.proofs.Joining.{on_err}
+use Rattle.zic_bulk.proofs.SourceLemmas.{keyed_no_list}
 use Rattle.zic_bulk.proofs.AgainstLemmas.{all_against, fails_against}
 use Rattle.zic_bulk.proofs.convert_command.convert_source_against.Goals as goal
 
@@ -33,3 +34,8 @@ returns-clause-err g c =
     (fails_against (λ b. b.zones) (λ b. b.old) g.O.Zones.grown g.O.Zones.broken g.O.Zones.requests g.O.Zones.may_be c.in_ok-files.files c.in_ok-files.ensures.sound
     c.args.conversion.now.plan.now c.args.conversion.now.max_faults c.args.conversion.now.layout.now run (record { zones = c.in_ok-zones.zones; old = c.args.old }) c.convert.new.zones c.in_ok-zones.ensures
     (texts_of c.args.source.texts.now) c.in_ok-files.ensures.ok c.convert.result c.convert.ensures.err)
+
+pub returns-in_err-files-clause-log : goal.returns-in_err-files-clause-log
+returns-in_err-files-clause-log g c =
+    let p = err_from_is_err_and c.from_residual.result c.from_residual.ensures.1 in
+    rw (p.1, p.2) (λ list. absurd (keyed_no_list _ c.in_err-files.field-0.0 c.in_err-files.ensures.err (cc list)))

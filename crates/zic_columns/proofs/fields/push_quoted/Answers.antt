@@ -34,7 +34,7 @@ loop-byte-preserved c =
       items ∙ ap (λ (t : List ℕ). t ++ more) loop.1 ∙ append_assoc c.args.text.now.items loop.0 more,
       subst (λ (p : Place). Spells (take (index + 1) rest) (loop.0 ++ more) p) place_now
           (subst (λ (b : List ℕ). Spells b (loop.0 ++ more) read.next) (sym (take_more rest index 0 c.loop-byte-test.true))
-          (spells_byte (take index rest) loop.0 c.loop-byte.place_now byte read loop.2 c.in-Some.ensures)),
+          (spells_byte (take index rest) loop.0 c.loop-byte.place_now byte read loop.2 c.in-Some.ensures.0)),
     )
 
 pub returns : goal.returns

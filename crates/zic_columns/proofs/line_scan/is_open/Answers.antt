@@ -1,5 +1,5 @@
 use Rattle.std.proofs.Common.{◌≡◌, ◌∙◌, ap, sym}
-use Rattle.zic_columns.specs.Lines.{is_open, is_quoted}
+use Rattle.zic_columns.specs.Quotes.{is_open, is_quoted}
 use Rattle.zic_columns.specs.code.Machine.{state_at}
 use Rattle.zic_columns.proofs.LineStates.{last_state, next_state, not_quoted, open_from_start}
 use Rattle.zic_columns.proofs.line_scan.is_open.Goals as goal

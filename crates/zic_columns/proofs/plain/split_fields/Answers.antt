@@ -11,7 +11,7 @@ use Rattle.zic_columns.proofs.plain.split_fields.Goals as goal
 pub loop-end-init : goal.loop-end-init
 loop-end-init c = record {
   walked = rw c.no_fields-fields.ensures (walked_none c.args.piece.now c.args.start c.args.wanted (record_of c.args.start c.args.start (no_fields c.args.start))
-      (omega (arith, c.requires.begins.some, length-drop c.args.start c.args.piece.now)) refl refl refl refl);
+      (omega (arith, c.requires.begins.some, length-drop c.args.start c.args.piece.now)) refl refl refl refl refl);
   shows = c.requires.shows;
 }
 
@@ -31,7 +31,7 @@ returns-then-piece-end-ne44 c =
       from = record_out piece start c.args.wanted (record_of start start c.loop-end.fields) at walked (field_to at stop) found c.requires.begins
           (record_of start stop more.result) refl
           (record { count = has.count; zone_within = has.zone_within; zone = has.zone; time_within = has.time_within; time = has.time })
-          (inr (next.within, other));
+          refl (inr (next.within, other));
       ended = record {
         within = next.within;
         here = either (get_or piece stop 0 == 44) (ends_line (get_or piece stop 0)) (field_ends piece at stop next.end next.within) other;
@@ -52,6 +52,6 @@ loop-end-preserved c =
     record {
       walked = walked_on piece start c.args.wanted (record_of start start c.loop-end.fields) at walked (field_to at stop) found (record_of start start more.result)
           next.within c.if-piece-end-ne44.false refl more.ensures.count
-          (more.ensures.has piece start start c.args.wanted walked.fields c.indices_of-indices.ensures walked.has (found.low, found.high));
+          (more.ensures.has piece start start c.args.wanted walked.fields c.indices_of-indices.ensures walked.has (found.low, found.high)) refl;
       shows = next.shows;
     }

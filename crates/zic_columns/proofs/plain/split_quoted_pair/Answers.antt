@@ -19,17 +19,17 @@ returns-clause-from c =
     let begun = c.in_ok-zone.ensures in
     let found = c.in_ok-time.ensures in
     let sought = c.indices_of-indices.ensures in
-    let none = walked_none piece start wanted (record_of start start (no_fields start)) (omega (arith, c.requires.begins.some, length-drop start piece)) refl refl refl refl in
+    let none = walked_none piece start wanted (record_of start start (no_fields start)) (omega (arith, c.requires.begins.some, length-drop start piece)) refl refl refl refl refl in
     let one = rw c.no_fields.ensures at c.with_span-first.ensures in
     let has = one.has piece start start wanted none.fields sought none.has begun.field in
     let walked = walked_on piece start wanted (record_of start start (no_fields start)) start none (quoted_field zone) begun (record_of start start c.with_span-first.result)
-    (omega (arith, begun.high, c.if-zone-piece.false)) c.if-piece-zone-ne44.false refl one.count has in
+    (omega (arith, begun.high, c.if-zone-piece.false)) c.if-piece-zone-ne44.false refl one.count has refl in
     let both = c.with_span.ensures.has piece start start wanted walked.fields sought walked.has found.field in
     let other : (get_or piece time.stop 0 == 44) ≡ false = ne_eqb (get_or piece time.stop 0) 44 c.if-piece-time-eq44.false in
     record_out piece start wanted (record_of start start c.with_span-first.result) (zone.stop + 1) walked (quoted_field time) found c.requires.begins
     (record_of start time.stop c.with_span.result) refl
     (record { count = both.count; zone_within = both.zone_within; zone = both.zone; time_within = both.time_within; time = both.time })
-    (inr (omega (arith, found.high, c.if-time-piece.false), other))
+    refl (inr (omega (arith, found.high, c.if-time-piece.false), other))
 
 pub returns-clause-ended : goal.returns-clause-ended
 returns-clause-ended c =

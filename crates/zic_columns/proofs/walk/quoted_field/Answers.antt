@@ -6,4 +6,5 @@ pub returns : goal.returns
 returns c =
     let piece = c.args.piece.now in
     let at = c.args.at in
-    quoted_at piece at c.requires _ c.field_len.ensures.0 c.field_len.result (take_rest piece at) c.field_len.ensures.1
+    let found = c.field_len-found in
+    quoted_at piece at c.requires _ found.ensures.0 found.result.len found.result.stray (take_rest piece at) found.ensures.1 found.ensures.2

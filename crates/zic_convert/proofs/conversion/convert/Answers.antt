@@ -1,4 +1,4 @@
-use Rattle.std.proofs.Common.{None}
+use Rattle.std.proofs.Common.{None, inl, inr}
 use Rattle.zic_convert.proofs.Joining.{on_err, on_ok}
 use Rattle.zic_convert.proofs.Sources.{at_files, source_converts, source_ends, source_refused}
 use Rattle.zic_convert.proofs.conversion.convert.Goals as goal
@@ -24,3 +24,10 @@ returns-clause-err g c =
     on_err c.convert_column.result _ _
     (λ why ends. source_ends c.plain_columns_convert_alike.ensures c.plain-layout.result c.plain-layout.ensures.rows c.plain-layout.ensures.header c.args.files.now c.args.plan.now.max_rows
     c.files_answer_once.ensures c.len.ensures.sound c.column_records_are_read.ensures _ why _ _ c.in-Ok.ensures ends) c.convert_column.ensures.err
+
+pub returns-clause-cause : goal.returns-clause-cause
+returns-clause-cause g c =
+    on_err c.convert_column.result _ _ (λ why cause. elim cause [
+      | inl is ↦ is
+      | inr failed ↦ absurd failed.1
+    ]) c.convert_column.ensures.cause

@@ -18,7 +18,7 @@ pub returns-in_err-write_names-clause-cause : goal.returns-in_err-write_names-cl
 returns-in_err-write_names-clause-cause g c =
     let p = err_from_is_err_and c.from_residual.result c.from_residual.ensures.1 in
     let failed = c.in_err-write_names.ensures.err in
-    rw (p.1, p.2, failed.0) failed.1.failed
+    rw (p.1, p.2, failed.0) (inl failed.1.failed)
 
 pub returns-clause-grown : goal.returns-clause-grown
 returns-clause-grown g c = ok_end _ _ _ _ c.convert_rows-outcome.result c.ended.result _ c.ended.ensures c.convert_rows-outcome.ensures.grown
@@ -64,5 +64,5 @@ pub returns-clause-cause : goal.returns-clause-cause
 returns-clause-cause g c =
     let is = rw (c.failures-failures.ensures, c.taken-taken.ensures, c.max_bytes.ensures.bytes) at c.ended.ensures in
     on_err c.ended.result _ _ (λ why cause. rw c.in_ok-write_names.ensures.ok.1 at cause)
-    (cause_end c.args.conversion.now.plan.now.max_bytes c.args.reader.now _ c.write_names.new.writer c.convert_rows-outcome.new.writer c.convert_rows-outcome.result c.ended.result is
+    (cause_end c.args.conversion.now.plan.now.max_bytes c.args.reader.now _ c.write_names.new.writer c.convert_rows-outcome.new.writer _ c.convert_rows-outcome.result c.ended.result is
     c.convert_rows-outcome.ensures.cause)

@@ -9,6 +9,7 @@ invariant-rounds g l = record {
   by : l.column.by ≡ l.fn.conversion.layout.now.records;
   within : l.count ≤ l.fn.conversion.plan.now.max_rows;
   failures : l.writer.failures ≡ l.fn.writer.failures;
+  began : g.L.RowLog.began l.log ≡ g.L.RowLog.began l.fn.log;
   grown : g.Z.Zones.grown l.fn.zones l.zones;
   far : (releases : Releases) → g.Z.Zones.may_be l.zones releases
       → IsFarBy l.fn.conversion.layout.now l.fn.conversion.plan.now.max_rows l.fn.conversion.max_faults (unread g.R.Read.remaining l.fn.column) (unread g.R.Read.remaining l.column) l.count l.left (g.W.Write.contents l.fn.writer.inner)

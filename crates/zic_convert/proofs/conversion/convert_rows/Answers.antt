@@ -1,4 +1,4 @@
-use Rattle.std.proofs.Common.{◌≡◌, inl, refl}
+use Rattle.std.proofs.Common.{◌≡◌, inl, inr, refl}
 use Rattle.std.specs.Prelude.{option_map}
 use Rattle.std.proofs.lemmas.Result.{err_from_is_err_and}
 use Rattle.zic_columns.specs.Exchange.{exchanged}
@@ -6,7 +6,7 @@ use Rattle.zic_columns.specs.Round.{unread}
 use Rattle.zic_columns.specs.Truncated.{truncated_known}
 use Rattle.zic_convert.specs.Column.{read_by}
 use Rattle.zic_convert.specs.code.Halt.{stop_of}
-use Rattle.zic_convert.proofs.Heads.{cause_at_head, converts_column, ends_at_head, ends_column}
+use Rattle.zic_convert.proofs.Heads.{began_as, cause_at_head, converts_column, ends_at_head, ends_column}
 use Rattle.zic_convert.proofs.Joining.{on_err, on_ok}
 use Rattle.zic_convert.proofs.Rounds.{ends_map}
 use Rattle.zic_convert.proofs.Sounds.{agree_sound}
@@ -36,7 +36,7 @@ returns-in_err-column-clause-cause g c =
     let p = err_from_is_err_and c.from_residual.result c.from_residual.ensures.1 in
     let short = c.new-exchanged.result.inner in
     let inside = option_map (exchanged c.new-exchanged.result.delimiter) (truncated_known short.most short.room (g.R.Read.remaining short.inner)) in
-    rw (p.1, p.2) (cause_at_head g.W.Write.contents c.args.writer.now c.begin_rows.new.writer c.args.conversion.now.layout.now inside c.in_err-column.field-0.0 c.in_err-column.ensures.halt)
+    rw (p.1, p.2) (inl (cause_at_head g.W.Write.contents c.args.writer.now c.begin_rows.new.writer c.args.conversion.now.layout.now inside c.in_err-column.field-0.0 c.in_err-column.ensures.halt))
 
 pub returns-clause-all : goal.returns-clause-all
 returns-clause-all g c =
@@ -70,3 +70,20 @@ returns-clause-halt g c =
     (g.W.Write.contents c.begin_rows.new.writer.inner) (g.W.Write.contents c.convert_rounds.new.writer.inner) (g.L.RowLog.noted c.args.log.now) (g.L.RowLog.noted c.convert_rounds.new.log)
     c.in_ok-column.ensures.begins c.in_ok-column.ensures.head (stop_of why) w) ends)
     (rw c.begin_rows.ensures.noted at c.convert_rounds.ensures.halt)
+
+pub returns-clause-cause : goal.returns-clause-cause
+returns-clause-cause g c = on_err c.convert_rounds.result _ _ (λ why cause. rw c.in_ok-column.ensures.flushed at cause) c.convert_rounds.ensures.cause
+
+pub returns-clause-began : goal.returns-clause-began
+returns-clause-began g c =
+    let layout = c.args.conversion.now.layout.now in
+    let known = g.R.Read.remaining c.args.reader in
+    let short = c.new-exchanged.result.inner in
+    let inside = option_map (exchanged c.new-exchanged.result.delimiter) (truncated_known short.most short.room (g.R.Read.remaining short.inner)) in
+    let is : inside ≡ option_map (exchanged layout.delimiter) (option_map (read_by layout) known) =
+    rw (c.new-exchanged.ensures.delimiter, c.byte.ensures.byte, c.new-exchanged.ensures.inner, c.new-short.ensures, c.read_of_lines.ensures) refl in
+    rw c.convert_rounds.ensures.began (elim c.in_ok-column.ensures.began [
+      | inl began ↦ inl (began_as layout c.args.conversion.now.plan.now.max_rows c.args.conversion.now.max_faults c.records_by_are_exchanged.ensures c.texts_by_are_exchanged.ensures c.byte.ensures.sound known inside is
+          (g.L.RowLog.began c.begin_rows.new.log) began)
+      | inr unbegun ↦ absurd (cc unbegun.0)
+    ])

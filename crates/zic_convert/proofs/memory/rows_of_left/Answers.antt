@@ -5,7 +5,7 @@ use Rattle.zic_layout_rows.specs.LayoutRows.{ends_by}
 use Rattle.zic_convert.specs.code.Memory.{AreRowsOfLeft}
 use Rattle.zic_convert.specs.code.Row.{taken_rows}
 use Rattle.zic_layout_rows.specs.PieceRows.{AreRowsOf, RowsOf}
-use Rattle.zic_convert.proofs.Adding.{left_at_start, left_ended, left_long, left_on, none_if, rows_within}
+use Rattle.zic_convert.proofs.Adding.{left_at_start, left_done, left_ended, left_long, left_on, none_if, rows_within}
 use Rattle.zic_convert.proofs.Progress.{rows_taken}
 use Rattle.zic_convert.proofs.memory.rows_of_left.Goals as goal
 
@@ -75,3 +75,14 @@ returns-in-TooLong g c =
     subst (λ (r : RowsOf). AreRowsOfLeft layout by.releases.now by.most known r) (sym (ap (λ (r : RowsOf). record r { fault = Some kind }) c.rows.view_is))
     (left_long layout by.releases.now by.most known left next l.rows kind none l.invariant.far nothing long
     (λ given over. subst (λ (n : ℕ). ends_by layout by.releases.now.zones by.most (n + 1) given ≡ Some kind) same (c.long_kind.ensures layout by.releases.now.zones given over)))
+
+pub returns-in-End : goal.returns-in-End
+returns-in-End g c =
+    let l = c.loop in
+    let by = c.args.by.now in
+    let layout = by.layout.now in
+    let left = unread g.R.Read.remaining l.column in
+    let next = unread g.R.Read.remaining c.next_round.new.self in
+    let nothing = rw c.in-End.is at (rows_taken layout l.column.by l.invariant.by left next c.in-Ok.taken c.next_round.new.self.round c.in-Ok.ensures.takes) in
+    let end = rw l.invariant.by at (c.in-Ok.ensures.end c.in-End.is) in
+    left_done layout by.releases.now by.most (unread g.R.Read.remaining c.args.column.now) left next l.rows l.invariant.far nothing end

@@ -25,6 +25,7 @@ loop-rows-init g c = record {
   goes_on = refl;
   count = refl;
   wrote = (appends-none (g.W.Write.contents c.args.writer.now.inner), refl);
+  began = refl;
   noted = notes_none (g.L.RowLog.noted c.args.log.now);
 }
 
@@ -63,7 +64,7 @@ returns-in-Some-clause-err g c =
     let log = g.L.RowLog.noted c.args.log.now in
     let now = g.L.RowLog.noted c.note_all.new.log in
     let noted = subst (λ (l : List RowNote). Notes log now l) (sym (next_faults pieces i rows lt c.rows-item.is inv.goes_on))
-    (notes_more log (g.L.RowLog.noted c.loop-rows.log) now front.faults rows.faults inv.noted (subst (λ (l : List RowNote). Notes (g.L.RowLog.noted c.loop-rows.log) now l) faults c.note_all.ensures)) in
+    (notes_more log (g.L.RowLog.noted c.loop-rows.log) now front.faults rows.faults inv.noted (subst (λ (l : List RowNote). Notes (g.L.RowLog.noted c.loop-rows.log) now l) faults c.note_all.ensures.notes)) in
     let count : c.loop-rows.count + c.rows.inside.count ≡ then.count = omega (arith, inv.count, ap (λ (r : RowsOf). r.count) c.rows.view_is, next_count pieces i rows lt c.rows-item.is inv.goes_on) in
     let all = front_ends pieces (i + 1) c.in-Some.kind some in
     stops_at contents c.args.writer.now c.write_all.new.writer c.stop_at.new.writer log now pieces (i + 1) all c.args.first c.in-Some.kind some both noted c.stop_at.result
@@ -95,7 +96,7 @@ returns-clause-ok g c =
       ap (λ (r : RowsOf). r.fault) (sym same) ∙ inv.goes_on,
       inv.count ∙ ap (λ (r : RowsOf). r.count) same,
       subst (λ (l : List ℕ). Wrote contents c.args.writer.now c.flush.new.writer l) (ap (λ (r : RowsOf). r.text) same) wrote,
-      rw c.flush-2.ensures (subst (λ (l : List RowNote). Notes (g.L.RowLog.noted c.args.log.now) (g.L.RowLog.noted c.loop-rows.log) l) (ap (λ (r : RowsOf). r.faults) same) inv.noted),
+      rw c.flush-2.ensures.noted (subst (λ (l : List RowNote). Notes (g.L.RowLog.noted c.args.log.now) (g.L.RowLog.noted c.loop-rows.log) l) (ap (λ (r : RowsOf). r.faults) same) inv.noted),
     )
 
 pub loop-rows-preserved : goal.loop-rows-preserved
@@ -119,8 +120,9 @@ loop-rows-preserved g c =
       count = omega (arith, inv.count, count, next_count pieces i rows lt c.rows-item.is inv.goes_on);
       wrote = subst (λ (l : List ℕ). Wrote contents c.args.writer.now c.write_all.new.writer l) (sym (next_text pieces i rows lt c.rows-item.is inv.goes_on))
           (wrote_both contents c.args.writer.now c.loop-rows.writer c.write_all.new.writer front.text rows.text inv.wrote wrote);
+      began = c.note_all.ensures.began ∙ inv.began;
       noted = subst (λ (l : List RowNote). Notes log now l) (sym (next_faults pieces i rows lt c.rows-item.is inv.goes_on))
-          (notes_more log (g.L.RowLog.noted c.loop-rows.log) now front.faults rows.faults inv.noted (subst (λ (l : List RowNote). Notes (g.L.RowLog.noted c.loop-rows.log) now l) faults c.note_all.ensures));
+          (notes_more log (g.L.RowLog.noted c.loop-rows.log) now front.faults rows.faults inv.noted (subst (λ (l : List RowNote). Notes (g.L.RowLog.noted c.loop-rows.log) now l) faults c.note_all.ensures.notes));
     }
 
 -- all rows are few enough to count

@@ -10,5 +10,6 @@ invariant-loop-rows g l = record {
   goes_on : (joined (take l.rows-index l.pieces)).fault ≡ None;
   count : l.count ≡ (joined (take l.rows-index l.pieces)).count;
   wrote : Wrote g.W.Write.contents l.fn.writer l.writer (joined (take l.rows-index l.pieces)).text;
+  began : g.L.RowLog.began l.log ≡ g.L.RowLog.began l.fn.log;
   noted : Notes (g.L.RowLog.noted l.fn.log) (g.L.RowLog.noted l.log) (joined (take l.rows-index l.pieces)).faults;
 }

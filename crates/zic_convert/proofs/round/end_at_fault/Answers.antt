@@ -23,14 +23,14 @@ unreachable-requires g c =
     let none = rw c.deref.ensures.value at c.in-Ok-write_rows.ensures.ok.0 in
     low_ends c.args.pieces.now c.first-first.ensures.sound c.args.fault c.in-Ok.rows.items (rw c.before-before.ensures at c.in-Ok.ensures.ok) c.requires.fault.0 c.requires.fault.1 none
 
-pub returns-in-Row : goal.returns-in-Row
-returns-in-Row g c = λ limit many.
+pub returns-in-Row-clause-stop : goal.returns-in-Row-clause-stop
+returns-in-Row-clause-stop g c = λ limit many.
     low_stops c.args.pieces.now c.first-first.ensures.sound c.args.fault c.in-Ok.rows.items (rw c.before-before.ensures at c.in-Ok.ensures.ok) limit many
     g.W.Write.contents c.args.writer.now c.write_rows.new.writer (g.L.RowLog.noted c.args.log.now) (g.L.RowLog.noted c.write_rows.new.log) c.in-Row.row c.in-Row.kind
     (rw (c.in-Row.is, c.first-first.ensures.first, c.deref.ensures.value) at c.in-Err-write_rows.ensures.err)
 
-pub returns : goal.returns
-returns g c = λ limit many.
+pub returns-clause-stop : goal.returns-clause-stop
+returns-clause-stop g c = λ limit many.
     low_fails c.args.pieces.now c.first-first.ensures.sound c.args.fault c.in-Ok.rows.items (rw c.before-before.ensures at c.in-Ok.ensures.ok) limit many
     g.W.Write.contents c.args.writer.now c.write_rows.new.writer (g.L.RowLog.noted c.args.log.now) (g.L.RowLog.noted c.write_rows.new.log) c.in-Err-write_rows.stop
     (λ row kind is. c.in_default.not-Row row kind is)

@@ -36,4 +36,4 @@ returns-in-Err-write_rows-clause-stop g c =
 
 pub returns-in-Err-clause-stop : goal.returns-in-Err-clause-stop
 returns-in-Err-clause-stop g c =
-    c.end_at_fault.ensures c.args.left (joined c.args.rows.now, joined_round c.args.pieces.now c.args.rows.now c.first-first.ensures.sound c.requires.values, c.in-Err.ensures.err.0, c.in-Err.ensures.err.1)
+    c.end_at_fault.ensures.stop c.args.left (joined c.args.rows.now, joined_round c.args.pieces.now c.args.rows.now c.first-first.ensures.sound c.requires.values, c.in-Err.ensures.err.0, c.in-Err.ensures.err.1)

@@ -1,7 +1,7 @@
-use Rattle.std.proofs.Common.{inl, inr, refl}
+use Rattle.std.proofs.Common.{Err, ap, inl, inr, refl}
 use Rattle.std.proofs.lemmas.Result.{err_from_is_err_and}
 use Rattle.zic_convert.specs.Run.{run_of}
-use Rattle.zic_file_commands.proofs.ConvertingLemmas.{names_fail, rows_fail}
+use Rattle.zic_file_commands.proofs.ConvertingLemmas.{log_fails, names_fail, rows_fail}
 use Rattle.zic_file_commands.proofs.convert_command.convert.Goals as goal
 
 pub returns-in_err-find_zone-clause-err : goal.returns-in_err-find_zone-clause-err
@@ -32,7 +32,23 @@ returns-in-Err-clause-err g c =
     c.convert_column.new.log in
     elim c.in-Err.ensures.err [
       | inl names ↦ inr (inl (names_fail g.Z.Zones.grown g.Z.Zones.broken g.Z.Zones.requests g.Z.Zones.may_be g.met.Z.Zones.then g.met.Z.Zones.narrows zones mid new c.in_ok-find_zone.ensures.grown layout c.in_ok-find_zone.ensures.requested
-          c.in_ok-find_zone.ensures.ok run c.in-Err.stop c.run_failure.result c.run_failure.ensures c.args.conversion.now.plan.now.max_bytes c.in-Err.ensures.cause names))
+          c.in_ok-find_zone.ensures.ok run c.in-Err.stop c.run_failure.result c.run_failure.ensures _ c.args.conversion.now.plan.now.max_bytes c.in-Err.ensures.cause names))
       | inr rows ↦ inr (inr (rows_fail g.Z.Zones.grown g.Z.Zones.broken g.Z.Zones.requests g.Z.Zones.may_be g.met.Z.Zones.then g.met.Z.Zones.narrows zones mid new c.in_ok-find_zone.ensures.grown layout c.in_ok-find_zone.ensures.requested
-          c.in_ok-find_zone.ensures.ok run c.in-Err.stop c.run_failure.result c.run_failure.ensures c.args.conversion.now.plan.now c.args.conversion.now.max_faults c.in-Err.ensures.cause rows))
+          c.in_ok-find_zone.ensures.ok run c.in-Err.stop c.run_failure.result c.run_failure.ensures _ c.args.conversion.now.plan.now c.args.conversion.now.max_faults c.in-Err.ensures.cause rows))
     ]
+
+pub returns-in_err-find_zone-clause-log : goal.returns-in_err-find_zone-clause-log
+returns-in_err-find_zone-clause-log g c =
+    let p = err_from_is_err_and c.from_residual.result c.from_residual.ensures.1 in
+    rw (p.1, p.2) (λ list. absurd (c.in_err-find_zone.ensures.unlogged (ap Err (cc list))))
+
+pub returns-in_err-find_zone-clause-began : goal.returns-in_err-find_zone-clause-began
+returns-in_err-find_zone-clause-began g c =
+    let p = err_from_is_err_and c.from_residual.result c.from_residual.ensures.1 in
+    rw p.1 (inr (refl, refl, refl))
+
+pub returns-in-Err-clause-log : goal.returns-in-Err-clause-log
+returns-in-Err-clause-log g c =
+    let run = run_of g.R.Read.remaining g.W.Write.contents g.L.RowLog.noted c.args.reader.now c.convert_column.new.reader c.args.writer.now c.convert_column.new.writer c.args.log.now
+    c.convert_column.new.log in
+    λ list. log_fails run c.in-Err.stop c.run_failure.result c.run_failure.ensures _ c.args.conversion.now.plan.now.max_bytes c.in-Err.ensures.cause (cc list)

@@ -3,6 +3,7 @@ use Rattle.std.proofs.lemmas.Result.{err_from_is_err_and}
 use Rattle.zic_zones.specs.Zones.{is_named}
 use Rattle.zic_io.specs.Failing.{IsUnknownZone}
 use Rattle.zic_io.specs.declared.failure.Failure.TheVariants as failures
+use Rattle.zic_file_commands.proofs.ConvertingLemmas.{no_list_of_zone}
 use Rattle.zic_file_commands.proofs.ZoneLemmas.{still_named, still_unnamed}
 use Rattle.zic_file_commands.proofs.convert_command.find_zone.Goals as goal
 
@@ -41,3 +42,11 @@ returns-in-None-clause-err g c =
         subst (λ (n : List ℕ). (failure ≡ failures.Memory) ⊎ IsUnknownZone n failure) c.as_str.ensures.value c.unknown_zone.ensures,
       ),
     ))
+
+pub returns-in_err-learn-clause-unlogged : goal.returns-in_err-learn-clause-unlogged
+returns-in_err-learn-clause-unlogged g c =
+    let p = err_from_is_err_and c.from_residual.result c.from_residual.ensures.1 in
+    rw (p.1, p.2) (λ list. cc list)
+
+pub returns-in-None-clause-unlogged : goal.returns-in-None-clause-unlogged
+returns-in-None-clause-unlogged g c = λ list. no_list_of_zone c.unknown_zone.result c.as_str.result.now c.unknown_zone.ensures (cc list)

@@ -18,7 +18,7 @@ returns-in-Err-clause-answer c =
     let layout = piece.layout.now in
     let d = layout.delimiter in
     let row_record = record_at piece.bytes.now c.args.row.given.now in
-    let same = fault_same d (outside d c.byte-delimiter.ensures.sound) piece.zones.now c.are_sound.ensures layout piece.most c.args.row.number row_record in
+    let same = fault_same d (outside d c.byte-delimiter.ensures.sound) piece.zones.now c.are_sound.ensures layout piece.most c.args.row.number row_record refl in
     on_ok_weaker c.write_empty.result
     (λ empty. subst (λ (o : Option RowKind). IsAnswerAt layout piece.zones.now o (exchanged_record d row_record) c.write_empty.new.answer.items) (sym (same ∙ c.in-Err.ensures)) empty)
     c.write_empty.ensures
@@ -36,7 +36,7 @@ returns-clause-answer c =
     let given = c.args.row.given.now in
     let row_record = record_at piece.bytes.now given in
     let query = c.in-Ok.query in
-    let same = fault_same d (outside d c.byte-delimiter.ensures.sound) piece.zones.now c.are_sound.ensures layout piece.most c.args.row.number row_record in
+    let same = fault_same d (outside d c.byte-delimiter.ensures.sound) piece.zones.now c.are_sound.ensures layout piece.most c.args.row.number row_record refl in
     let signed : FitsSigned w128 query.counts.count = search rules in
     let rest = rest_by layout.style layout.from layout.unit query.counts.count c.show.new.self.writer in
     let written = rw (to_z-of_z signed) at c.in_ok-push_rest.ensures.text in

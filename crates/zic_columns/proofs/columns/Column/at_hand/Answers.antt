@@ -19,31 +19,31 @@ returns-in-Some-clause-takes g c =
     let column = c.self.inside in
     let held = held_bytes column.window in
     let none = rw (c.held.ensures, c.whole-whole.ensures) at (has_none _ c.first_record.result c.first_record.ensures (sym c.if-is_some.ensures)) in
-    rw (c.pass.ensures, c.whole-whole.ensures, ← c.self.view_is) (takes_blank (mode_of column.scan) held _ (whole_of_scan column.scan) (whole_records held column.scan c.self.invariant.1) (whole_closed held column.scan c.self.invariant.1) none)
+    rw (c.pass.ensures.passed, c.whole-whole.ensures, ← c.self.view_is) (takes_blank (mode_of column.scan) held _ (whole_of_scan column.scan) (whole_records held column.scan c.self.invariant.1) (whole_closed held column.scan c.self.invariant.1) none)
 
 pub returns-in-Some-clause-hand : goal.returns-in-Some-clause-hand
 returns-in-Some-clause-hand g c =
     let column = c.self.inside in
-    rw (c.pass.ensures, c.whole-whole.ensures, ← c.self.view_is) (opens_with (held_bytes column.window) column.scan c.in-Some.line _ c.self.invariant.1 (sym c.opened-opened.ensures ∙ c.in-Some.is))
+    rw (c.pass.ensures.passed, c.whole-whole.ensures, ← c.self.view_is) (opens_with (held_bytes column.window) column.scan c.in-Some.line _ c.self.invariant.1 (sym c.opened-opened.ensures ∙ c.in-Some.is))
 
 pub returns-then-may_have-clause-takes : goal.returns-then-may_have-clause-takes
 returns-then-may_have-clause-takes g c =
     let column = c.self.inside in
     let held = held_bytes column.window in
     let none = rw (c.held.ensures, c.whole-whole.ensures) at (has_none _ c.first_record.result c.first_record.ensures (sym c.if-is_some.ensures)) in
-    rw (c.pass.ensures, c.whole-whole.ensures, ← c.self.view_is) (takes_blank (mode_of column.scan) held _ (whole_of_scan column.scan) (whole_records held column.scan c.self.invariant.1) (whole_closed held column.scan c.self.invariant.1) none)
+    rw (c.pass.ensures.passed, c.whole-whole.ensures, ← c.self.view_is) (takes_blank (mode_of column.scan) held _ (whole_of_scan column.scan) (whole_records held column.scan c.self.invariant.1) (whole_closed held column.scan c.self.invariant.1) none)
 
 pub returns-then-may_have-clause-none : goal.returns-then-may_have-clause-none
 returns-then-may_have-clause-none g c = λ _.
     let column = c.self.inside in
-    rw (c.pass.ensures, c.whole-whole.ensures, ← c.self.view_is) (unended_by (held_bytes column.window) column.scan c.self.invariant.1 (sym c.opened-opened.ensures ∙ c.in_default.is))
+    rw (c.pass.ensures.passed, c.whole-whole.ensures, ← c.self.view_is) (unended_by (held_bytes column.window) column.scan c.self.invariant.1 (sym c.opened-opened.ensures ∙ c.in_default.is))
 
 pub returns-clause-takes : goal.returns-clause-takes
 returns-clause-takes g c =
     let column = c.self.inside in
     let held = held_bytes column.window in
     let none = rw (c.held.ensures, c.whole-whole.ensures) at (has_none _ c.first_record.result c.first_record.ensures (sym c.if-is_some.ensures)) in
-    rw (c.pass.ensures, c.whole-whole.ensures, ← c.self.view_is) (takes_blank (mode_of column.scan) held _ (whole_of_scan column.scan) (whole_records held column.scan c.self.invariant.1) (whole_closed held column.scan c.self.invariant.1) none)
+    rw (c.pass.ensures.passed, c.whole-whole.ensures, ← c.self.view_is) (takes_blank (mode_of column.scan) held _ (whole_of_scan column.scan) (whole_records held column.scan c.self.invariant.1) (whole_closed held column.scan c.self.invariant.1) none)
 
 pub returns-clause-hand : goal.returns-clause-hand
 returns-clause-hand g c =
@@ -52,5 +52,5 @@ returns-clause-hand g c =
     let held = c.held-2.ensures ∙ ap (λ (column : ColumnOf _). column.held) c.self-2.view_is in
     let long : may_have c.args.longest (length now.held) ≡ false = ap (λ (b : List ℕ). may_have c.args.longest (length b)) (sym held) ∙ sym c.may_have.ensures ∙ c.if-may_have.false in
     let unended : UnendedBy now.by now.held =
-    rw (c.pass.ensures, c.whole-whole.ensures, ← c.self.view_is) (unended_by (held_bytes column.window) column.scan c.self.invariant.1 (sym c.opened-opened.ensures ∙ c.in_default.is)) in
+    rw (c.pass.ensures.passed, c.whole-whole.ensures, ← c.self.view_is) (unended_by (held_bytes column.window) column.scan c.self.invariant.1 (sym c.opened-opened.ensures ∙ c.in_default.is)) in
     too_long c.args.longest now.by now.held _ unended long

@@ -1,6 +1,7 @@
 use Rattle.std.proofs.KnownBytes.{Keeps-refl}
 use Rattle.std.proofs.Common.{◌∙◌, [], refl}
 use Rattle.zic_columns.specs.Round.{unread}
+use Rattle.zic_columns.proofs.Buffered.{grows_none, grows_on, grows_same}
 use Rattle.zic_columns.proofs.Taking.{takes_next, takes_none, within_none, within_both}
 use Rattle.zic_columns.proofs.columns.Column.gather.Goals as goal
 
@@ -9,16 +10,19 @@ loop-init g c = record {
   by = refl;
   takes = takes_none c.args.self.now.by _ _ (Keeps-refl (unread g.R.Read.remaining c.args.self.now));
   limit = within_none g.R.Read.remaining c.args.self.now;
+  buffer = grows_none c.args.wanted c.args.longest c.args.self.now c.args.self.now refl;
 }
 
 pub loop-preserved : goal.loop-preserved
 loop-preserved g c =
+    let grew = grows_same c.args.wanted c.args.longest c.args.self.now c.loop.self c.at_hand.new.self c.loop.invariant.buffer c.at_hand.ensures.buffer in
     let at_hand = within_both g.R.Read.remaining c.args.self.now c.loop.self c.at_hand.new.self c.loop.invariant.limit c.at_hand.ensures.limit in
     record {
       by = c.read_on.ensures.by ∙ c.at_hand.ensures.by ∙ c.loop.invariant.by;
       takes = takes_next c.args.self.now.by _ _ _ [] (takes_next c.args.self.now.by _ _ _ [] c.loop.invariant.takes (rw c.loop.invariant.by at c.at_hand.ensures.takes))
           (takes_none c.args.self.now.by _ _ c.in_ok-read_on.ensures.keeps);
       limit = within_both g.R.Read.remaining c.args.self.now c.at_hand.new.self c.read_on.new.self at_hand c.read_on.ensures.limit;
+      buffer = grows_on c.args.wanted c.args.longest c.args.self.now c.at_hand.new.self c.read_on.new.self grew (c.at_hand.ensures.short c.in_default.is) c.read_on.ensures.buffer;
     }
 
 pub returns-in-Some-clause-limit : goal.returns-in-Some-clause-limit
@@ -41,3 +45,17 @@ pub returns-then-branch-eq0-clause-takes : goal.returns-then-branch-eq0-clause-t
 returns-then-branch-eq0-clause-takes g c =
     takes_next c.args.self.now.by _ _ _ [] (takes_next c.args.self.now.by _ _ _ [] c.loop.invariant.takes (rw c.loop.invariant.by at c.at_hand.ensures.takes))
     (takes_none c.args.self.now.by _ _ c.in_ok-read_on.ensures.keeps)
+
+pub returns-in-Some-clause-buffer : goal.returns-in-Some-clause-buffer
+returns-in-Some-clause-buffer g c =
+    grows_same c.args.wanted c.args.longest c.args.self.now c.loop.self c.at_hand.new.self c.loop.invariant.buffer c.at_hand.ensures.buffer
+
+pub returns-in_err-read_on-clause-buffer : goal.returns-in_err-read_on-clause-buffer
+returns-in_err-read_on-clause-buffer g c =
+    let grew = grows_same c.args.wanted c.args.longest c.args.self.now c.loop.self c.at_hand.new.self c.loop.invariant.buffer c.at_hand.ensures.buffer in
+    grows_on c.args.wanted c.args.longest c.args.self.now c.at_hand.new.self c.read_on.new.self grew (c.at_hand.ensures.short c.in_default.is) c.read_on.ensures.buffer
+
+pub returns-then-branch-eq0-clause-buffer : goal.returns-then-branch-eq0-clause-buffer
+returns-then-branch-eq0-clause-buffer g c =
+    let grew = grows_same c.args.wanted c.args.longest c.args.self.now c.loop.self c.at_hand.new.self c.loop.invariant.buffer c.at_hand.ensures.buffer in
+    grows_on c.args.wanted c.args.longest c.args.self.now c.at_hand.new.self c.read_on.new.self grew (c.at_hand.ensures.short c.in_default.is) c.read_on.ensures.buffer

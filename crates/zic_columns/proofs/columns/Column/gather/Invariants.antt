@@ -1,5 +1,5 @@
 use Rattle.std.proofs.Common.{◌≡◌, []}
-use Rattle.zic_columns.specs.Round.{StaysWithin, Takes, unread}
+use Rattle.zic_columns.specs.Round.{GrowsFor, StaysWithin, Takes, unread}
 use Rattle.zic_columns.proofs.columns.Column.gather.Given as goal
 
 abbrev pub invariant-loop : goal.invariant-loop
@@ -7,4 +7,5 @@ invariant-loop g l = record {
   by : l.self.by ≡ l.fn.self.by;
   takes : Takes l.fn.self.by (unread g.R.Read.remaining l.fn.self) (unread g.R.Read.remaining l.self) [];
   limit : StaysWithin g.R.Read.remaining l.fn.self l.self;
+  buffer : GrowsFor l.wanted l.longest l.fn.self l.self;
 }

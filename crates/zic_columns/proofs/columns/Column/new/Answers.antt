@@ -14,14 +14,14 @@ pub returns-clause-bytes : goal.returns-clause-bytes
 returns-clause-bytes g c =
     let mid = c.read_mark.new.self in
     let held : c.held-held.result.now ≡ mid.held = c.held-held.ensures ∙ ap (λ (column : ColumnOf _). column.held) c.column.view_is in
-    let keeps = rw (c.new-2.ensures, c.new.ensures.none, c.new.ensures.inner, prepend_known-nil (g.R.Read.remaining c.args.reader))
+    let keeps = rw (c.new-2.ensures.held, c.new.ensures.none, c.new.ensures.inner, prepend_known-nil (g.R.Read.remaining c.args.reader))
     at c.in_ok-read_mark.ensures.keeps in
-    rw (c.pass.ensures, c.without_mark.ensures, held) (mark_dropped (g.R.Read.remaining c.args.reader)
+    rw (c.pass.ensures.passed, c.without_mark.ensures, held) (mark_dropped (g.R.Read.remaining c.args.reader)
     (to_come g.R.Read.remaining mid) mid.held keeps c.in_ok-read_mark.ensures.shows)
 
 pub returns-clause-limit : goal.returns-clause-limit
-returns-clause-limit g c = rw c.pass.ensures (rw (c.new.ensures.inner, c.new.ensures.none, c.new.ensures.left) at c.in_ok-read_mark.ensures.limit)
+returns-clause-limit g c = rw c.pass.ensures.passed (rw (c.new.ensures.inner, c.new.ensures.none, c.new.ensures.left) at c.in_ok-read_mark.ensures.limit)
 
 pub invariant_of-column : goal.invariant_of-column
 invariant_of-column g c =
-    rw (c.new-4.ensures.items, c.new-2.ensures) (All-nil (λ range. (range.start ≤ range.end) × (range.end ≤ length (taken_bytes c.new-2.result))), c.new-3.ensures.scanned)
+    rw (c.new-4.ensures.items, c.new-2.ensures.held) (All-nil (λ range. (range.start ≤ range.end) × (range.end ≤ length (taken_bytes c.new-2.result))), c.new-3.ensures.scanned)

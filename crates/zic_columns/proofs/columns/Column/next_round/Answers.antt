@@ -1,5 +1,6 @@
 use Rattle.std.proofs.lemmas.Result.{IfOk-weaker}
 use Rattle.zic_columns.specs.Round.{taken_records, unread}
+use Rattle.zic_columns.proofs.Buffered.{grows_same}
 use Rattle.zic_columns.proofs.Taking.{takes_next, within_both}
 use Rattle.zic_columns.proofs.columns.Column.next_round.Goals as goal
 
@@ -18,3 +19,7 @@ returns-in-Records-clause-takes g c =
 
 pub returns-in-Records-clause-long : goal.returns-in-Records-clause-long
 returns-in-Records-clause-long g c = IfOk-weaker c.take_round.result _ _ (λ taken none long. absurd (none long)) c.take_round.ensures.short
+
+pub returns-in-Records-clause-buffer : goal.returns-in-Records-clause-buffer
+returns-in-Records-clause-buffer g c =
+    grows_same c.args.wanted c.args.longest c.args.self.now c.gather.new.self c.take_round.new.self c.gather.ensures.buffer c.take_round.ensures.buffer

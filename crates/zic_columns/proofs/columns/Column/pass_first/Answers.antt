@@ -16,7 +16,7 @@ returns-clause-passes g c =
     let column = c.args.self.now in
     let held = c.held.ensures ∙ ap (λ (column : ColumnOf _). column.held) c.self.view_is in
     let cut = rw held at c.split_records.ensures in
-    rw c.pass.ensures (passes_first column.by column.held c.args.count c.split_records.result.0.now c.split_records.result.1.now cut
+    rw c.pass.ensures.passed (passes_first column.by column.held c.args.count c.split_records.result.0.now c.split_records.result.1.now cut
     (to_come g.R.Read.remaining column) c.requires)
 
 pub returns-clause-own : goal.returns-clause-own

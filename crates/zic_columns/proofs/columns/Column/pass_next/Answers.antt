@@ -1,4 +1,5 @@
 use Rattle.zic_columns.specs.Round.{unread}
+use Rattle.zic_columns.proofs.Buffered.{grows_same}
 use Rattle.zic_columns.proofs.Passing.{long_next, own_next, passes_next}
 use Rattle.zic_columns.proofs.Taking.{within_both}
 use Rattle.zic_columns.proofs.columns.Column.pass_next.Goals as goal
@@ -29,3 +30,11 @@ returns-in-TooLong-clause-long g c = λ _.
     let mid = c.gather.new.self in
     long_next c.args.longest old.by (unread g.R.Read.remaining old) (unread g.R.Read.remaining mid) c.in_ok-count.ensures.takes
     (rw (c.in-TooLong.is, c.gather.ensures.by) at c.in_ok-count.ensures.hand)
+
+pub returns-in_ok-pass_first-in-Records-clause-buffer : goal.returns-in_ok-pass_first-in-Records-clause-buffer
+returns-in_ok-pass_first-in-Records-clause-buffer g c =
+    grows_same c.args.wanted c.args.longest c.args.self.now c.gather.new.self c.pass_first.new.self c.gather.ensures.buffer c.pass_first.ensures.buffer
+
+pub returns-in_err-pass_first-in-Records-clause-buffer : goal.returns-in_err-pass_first-in-Records-clause-buffer
+returns-in_err-pass_first-in-Records-clause-buffer g c =
+    grows_same c.args.wanted c.args.longest c.args.self.now c.gather.new.self c.pass_first.new.self c.gather.ensures.buffer c.pass_first.ensures.buffer

@@ -39,3 +39,9 @@ invariant_of-self-in_err-count g c =
 
 pub invariant_of-self-2 : goal.invariant_of-self-2
 invariant_of-self-2 g c = (λ k d lt. absurd (omega (arith, ap length c.clear.ensures.items, lt)), rw c.held.ensures at c.on-self-inside.ensures.scanned)
+
+pub returns-clause-buffer : goal.returns-clause-buffer
+returns-clause-buffer g c =
+    let held = ap (λ (column : ColumnOf _). length column.held) c.self.view_is in
+    let buffer = ap (λ (column : ColumnOf _). column.buffer) c.self.view_is in
+    omega (arith, c.make_room.ensures.most, c.read_from.ensures.len, held, buffer)

@@ -14,7 +14,7 @@ returns-then-none-clause-takes g c =
     let cut = rw held at c.in_ok-cut.ensures in
     let size : length c.in_ok-cut.cut.ranges.items ≡ vec_len c.in_ok-cut.cut.ranges = search rules in
     let nil = eqb-true _ 0 (sym c.is_empty-none.ensures ∙ c.if-none.true) in
-    rw c.pass.ensures (takes_none_left column.by column.held c.args.count c.args.size c.in_ok-cut.cut cut (to_come g.R.Read.remaining column) c.requires.hand (size ∙ nil))
+    rw c.pass.ensures.passed (takes_none_left column.by column.held c.args.count c.args.size c.in_ok-cut.cut cut (to_come g.R.Read.remaining column) c.requires.hand (size ∙ nil))
 
 pub returns-then-none-clause-end : goal.returns-then-none-clause-end
 returns-then-none-clause-end g c = λ _.
@@ -23,18 +23,18 @@ returns-then-none-clause-end g c = λ _.
     let cut = rw held at c.in_ok-cut.ensures in
     let size : length c.in_ok-cut.cut.ranges.items ≡ vec_len c.in_ok-cut.cut.ranges = search rules in
     let nil = eqb-true _ 0 (sym c.is_empty-none.ensures ∙ c.if-none.true) in
-    rw c.pass.ensures (none_left column.by column.held c.args.count c.args.size c.in_ok-cut.cut cut (to_come g.R.Read.remaining column) c.requires.hand (size ∙ nil))
+    rw c.pass.ensures.passed (none_left column.by column.held c.args.count c.args.size c.in_ok-cut.cut cut (to_come g.R.Read.remaining column) c.requires.hand (size ∙ nil))
 
 pub returns-clause-takes : goal.returns-clause-takes
 returns-clause-takes g c =
     let column = c.args.self.now in
     let held = c.held.ensures ∙ ap (λ (column : ColumnOf _). column.held) c.self.view_is in
     let cut = rw held at c.in_ok-cut.ensures in
-    rw c.pass.ensures (takes_cut column.by column.held c.args.count c.args.size c.in_ok-cut.cut cut (to_come g.R.Read.remaining column) c.requires.hand)
+    rw c.pass.ensures.passed (takes_cut column.by column.held c.args.count c.args.size c.in_ok-cut.cut cut (to_come g.R.Read.remaining column) c.requires.hand)
 
 pub returns-clause-cut : goal.returns-clause-cut
 returns-clause-cut g c =
     let column = c.args.self.now in
     let held = c.held.ensures ∙ ap (λ (column : ColumnOf _). column.held) c.self.view_is in
     let cut = rw held at c.in_ok-cut.ensures in
-    rw (c.pass.ensures, ← pieces_cut column.held c.args.count c.args.size c.in_ok-cut.cut cut) cut.sizes
+    rw (c.pass.ensures.passed, ← pieces_cut column.held c.args.count c.args.size c.in_ok-cut.cut cut) cut.sizes

@@ -2,9 +2,10 @@ use Rattle.std.proofs.Common.{◌≡◌, ◌∷◌, [], ◌++◌, ◌∙◌, ◌
 use Rattle.std.specs.Prelude.{IsSome, slice_index_or}
 use Rattle.std.proofs.lemmas.List.{map-append, take_more}
 use Rattle.zic_columns.specs.Own.{CsvRecord}
-use Rattle.zic_layout_rows.specs.code.Batch.{blank, record_of, zone_at}
+use Rattle.zic_columns.specs.Record.{IsSplit}
+use Rattle.zic_layout_rows.specs.code.Batch.{blank, record_of, wanted_by, zone_at}
 use Rattle.zic_layout_rows.specs.PieceRows.{AreRowsOf, RowsOf}
-use Rattle.zic_layout_rows.proofs.Columns.{one_is}
+use Rattle.zic_layout_rows.proofs.Columns.{one_is, one_of}
 use Rattle.zic_zones.specs.Zones.{alone}
 use Rattle.zic_layout_rows.proofs.MoreRows.{end_added, not_some, one_counted, records_at, row_added}
 use Rattle.zic_layout_rows.proofs.Written.{next_written}
@@ -68,3 +69,9 @@ add-requires-clause-known c =
       time = c.requires.columns.times i lt;
       state = c.requires.states i lt;
     }
+
+pub add-requires-clause-split : goal.add-requires-clause-split
+add-requires-clause-split c =
+    let piece = c.args.piece.now in
+    let records = c.args.batch.now.records in
+    one_of (IsSplit piece.bytes.now (wanted_by piece.layout.now)) records c.args.count c.loop-i.i blank (omega (arith, c.requires.columns.few, c.told-batch)) c.loop-i-test.true c.requires.columns.split

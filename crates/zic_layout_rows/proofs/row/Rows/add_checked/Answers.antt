@@ -15,7 +15,7 @@ returns-in-Err-clause-next c =
     let layout = piece.layout.now in
     let row_record = record_at piece.bytes.now c.args.given.now in
     let number = piece.first + c.args.self.now.count in
-    let same = fault_same layout.delimiter (outside layout.delimiter c.byte.ensures.sound) piece.zones.now c.are_sound.ensures layout piece.most number row_record in
+    let same = fault_same layout.delimiter (outside layout.delimiter c.byte.ensures.sound) piece.zones.now c.are_sound.ensures layout piece.most number row_record refl in
     next_end layout piece.zones.now piece.most number (exchanged_record layout.delimiter row_record) c.args.self.now _ c.in-Err.kind
     (same ∙ rw (ap (λ (r : RowsOf). r.count) (sym c.self.view_is)) c.in-Err.ensures) (c.if-ends_run.ensures.ends refl) (rw (← c.self.view_is) refl)
 
@@ -26,7 +26,7 @@ returns-in-Ok-clause-next c =
     let d = layout.delimiter in
     let row_record = record_at piece.bytes.now c.args.given.now in
     let number = piece.first + c.args.self.now.count in
-    let same = fault_same d (outside d c.byte.ensures.sound) piece.zones.now c.are_sound.ensures layout piece.most number row_record in
+    let same = fault_same d (outside d c.byte.ensures.sound) piece.zones.now c.are_sound.ensures layout piece.most number row_record refl in
     on_ok_weaker c.add_row.result
     (λ has_time.
     let (row, made, is) = has_time in
@@ -42,7 +42,7 @@ returns-clause-next c =
     let q = c.self.inside in
     let row_record = record_at piece.bytes.now c.args.given.now in
     let number = piece.first + q.count in
-    let same = fault_same d (outside d c.byte.ensures.sound) piece.zones.now c.are_sound.ensures layout piece.most number row_record in
+    let same = fault_same d (outside d c.byte.ensures.sound) piece.zones.now c.are_sound.ensures layout piece.most number row_record refl in
     let old : RowsOf = record { text = q.text; count = q.count; fault = q.fault; faults = q.faults.items } in
     let row = faulty_text layout c.in-Err.kind (exchanged_record d row_record) in
     let made : c.push-2.new.self ≡ q.text ++ row =

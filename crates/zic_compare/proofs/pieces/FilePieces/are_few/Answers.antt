@@ -1,5 +1,0 @@
-use Rattle.zic_compare.proofs.Joining.{few_pieces}
-use Rattle.zic_compare.proofs.pieces.FilePieces.are_few.Goals as goal
-
-pub returns-clause-few : goal.returns-clause-few
-returns-clause-few c = rw (← c.self.view_is) (few_pieces _ c.self.invariant)

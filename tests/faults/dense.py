@@ -1,0 +1,133 @@
+#!/usr/bin/env python3
+"""Has the program convert local times by files of 100,000 changes a second apart, and compares the rows with what the definitions give.
+
+usage: dense.py PROGRAM FOLDER
+
+The UT offsets of a file are two in turn, or 200 at random, within 24 hours. Local times are at random round the changes, and one in
+four is far from them. What each means is found here by the definitions themselves: an instant of a local time is one at which the file's
+offset makes it, and a gap is at the first change that passes over it. Files are made in FOLDER. Prints a line for each file; the
+status is 1 where a row differs.
+"""
+import os
+import random
+import struct
+import subprocess
+import sys
+from datetime import datetime, timedelta
+from functools import lru_cache
+
+EPOCH = datetime(1970, 1, 1)
+START = 1_000_000_000
+COUNT = 100_000
+WINDOW = 26 * 3600
+ROWS = 100
+CHOICES = ["reject", "earlier", "later", "compatible"]
+found = []
+
+
+# ------------------------------------------------------------------ files
+
+class File:
+    """a file of changes a second apart, the last of which is to the offset 0, which its TZ string continues"""
+
+    def __init__(self, offsets, kinds):
+        self.offsets = [0, *offsets]
+        self.kinds = [*kinds, 0]
+
+    def offset_after(self, count):
+        """the offset after so many changes"""
+        return self.offsets[self.kinds[count - 1]] if count else self.offsets[0]
+
+    def offset_at(self, t):
+        return self.offset_after(min(max(t - START + 1, 0), len(self.kinds)))
+
+    def octets(self):
+        times = b"".join(struct.pack(">q", START + i) for i in range(len(self.kinds)))
+        types = b"".join(struct.pack(">ibb", offset, 0, 4 if i else 0) for i, offset in enumerate(self.offsets))
+        head = b"TZif2" + bytes(15)
+        empty = head + struct.pack(">6l", 0, 0, 0, 0, 1, 4) + struct.pack(">ibb", 0, 0, 0) + b"UTC\0"
+        counts = struct.pack(">6l", 0, 0, 0, len(self.kinds), len(self.offsets), 8)
+        return empty + head + counts + times + bytes(self.kinds) + types + b"UTC\0LOC\0" + b"\nUTC0\n"
+
+    @lru_cache(maxsize=None)
+    def instants(self, local):
+        """the instants of a local time, in rising order"""
+        return sorted({local - offset for offset in self.offsets if self.offset_at(local - offset) == offset})
+
+    @lru_cache(maxsize=None)
+    def gap(self, local):
+        """the offsets before and after the first change that passes over a local time"""
+        for i in range(max(0, local - WINDOW - START), len(self.kinds)):
+            before, after = self.offset_after(i), self.offset_after(i + 1)
+            if START + i + before <= local < START + i + after:
+                return before, after
+
+    def meant(self, local, choice):
+        instants = self.instants(local)
+        if instants:
+            several = "RowRepeated" if choice == "reject" else instants[-1] if choice == "later" else instants[0]
+            return instants[0] if len(instants) == 1 else several
+        before, after = self.gap(local)
+        return "RowSkipped" if choice == "reject" else local - after if choice == "earlier" else local - before
+
+
+FILES = {
+    "two": lambda: File([86_399, -86_400], [1 + i % 2 for i in range(COUNT)]),
+    "pairs": lambda: File([3_600, -7_201], [1 + i // 2 % 2 for i in range(COUNT)]),
+    "many": lambda: File([random.randrange(-86_400, 86_401) for _ in range(200)], [random.randrange(1, 201) for _ in range(COUNT)]),
+}
+
+
+# ------------------------------------------------------------------ runs
+
+def convert(program, choice, records):
+    """converts a column of local times, and returns the rows and the faults"""
+    words = ["--workers", "1", "--keep-going", "--faults", "faults", "--from", "local", "--ambiguous", choice, "--tree", "tree"]
+    done = subprocess.run([program, "convert", *words], input="".join(f"{record}\n" for record in records), capture_output=True, text=True)
+    if done.returncode not in (0, 1):
+        sys.exit(f"{words}: status {done.returncode}: {done.stderr}")
+    with open("faults", encoding="ascii") as file:
+        faults = dict(line.rstrip("\n").split(",") for line in file)
+    return done.stdout.splitlines(), faults
+
+
+def text_of(local):
+    return (EPOCH + timedelta(seconds=local)).isoformat()
+
+
+def some_locals(count):
+    for i in range(count):
+        yield random.randrange(0, 2 ** 32) if i % 4 == 0 else random.randrange(START - WINDOW, START + COUNT + WINDOW)
+
+
+def compare(program, name, file):
+    """compares rows by each choice"""
+    times = list(some_locals(ROWS))
+    for choice in CHOICES:
+        rows, faults = convert(program, choice, [f"{name},{text_of(local)}" for local in times])
+        for number, (local, row) in enumerate(zip(times, rows), 1):
+            told = faults.get(str(number)) or int(row.split(",")[2])
+            if told != file.meant(local, choice):
+                found.append(f"{name}: {text_of(local)} by {choice}: {told}, and not {file.meant(local, choice)}")
+        if len(rows) != len(times):
+            found.append(f"{name}: {len(rows)} rows of {len(times)}")
+
+
+def main():
+    program, folder = os.path.abspath(sys.argv[1]), sys.argv[2]
+    random.seed(912)
+    os.chdir(folder)
+    os.mkdir("tree")
+    for name, make in FILES.items():
+        file = make()
+        with open(f"tree/{name}", "wb") as out:
+            out.write(file.octets())
+        compare(program, name, file)
+        print(f"{name}: {len(CHOICES) * ROWS} rows")
+    for line in found[:20]:
+        print(line, file=sys.stderr)
+    sys.exit(bool(found))
+
+
+if __name__ == "__main__":
+    main()
