@@ -174,11 +174,11 @@ offset = pzic.Tree.open(sys.argv[1])["Europe/Dublin"].utcoffset(0)
 print(pzic.__version__, pzic.__file__.startswith(sys.prefix), offset, "pzic._fast" in sys.modules)')
         [ "$got" = "$want" ] || { echo "library: $name: got '$got', and not '$want'" >&2; exit 1; }
     done
-    # It is imported within 40 ms of processor time, the least of ten runs.
+    # It is imported within 100 ms of processor time, the least of ten runs.
     got=$(for _ in 1 2 3 4 5 6 7 8 9 10; do
         in_venv by_wheel 'from time import process_time as now; t = now(); import pzic; print(int((now() - t) * 1000))'
     done | sort -n | head -n 1)
-    [ "$got" -lt 40 ] || { echo "library: importing pzic takes $got ms" >&2; exit 1; }
+    [ "$got" -lt 100 ] || { echo "library: importing pzic takes $got ms" >&2; exit 1; }
     echo "library: Python, as pip installs it, imported within $got ms"
 }
 if has_pip; then install_by_pip; else echo "skipped: the Python package as pip installs it: pip isn't there"; fi
