@@ -446,7 +446,7 @@ static inline int32_t pzic_files_abbreviations(const pzic_handle *files, const u
 
 /* A row of a column that has a fault. */
 typedef struct pzic_row_fault {
-    /* The number of the row, from 1, or 0 for the header. */
+    /* The number of the row, from 1. */
     uint64_t row;
     /* The number of the kind, 35 to 45. pzic_name_of_fault gives its name. */
     uint32_t kind;
