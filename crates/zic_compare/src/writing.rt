@@ -32,8 +32,8 @@ struct Crew<'a, T> {
 /// Writes the text of [`diff`](crate::diff), and flushes.
 ///
 /// The lines are made and written in rounds: first those of the names of the old files, and then those
-/// of the new ones. A round has so many names that its lines are few enough to be held at once, or
-/// one name. In each round the plan's workers take pieces of at most as many names as the plan says of
+/// of the new ones. A round has one name, or several whose lines are expected to fit in memory
+/// together. In each round the plan's workers take pieces of at most as many names as the plan says of
 /// zones. Neither changes the text.
 ///
 /// # Errors
