@@ -120,9 +120,9 @@ const GROUP_1: [Entry; 6] = [
         name: "RowZone",
         meaning: "The source has no zone or link of that name.",
         says: r#"  The source has no zone or link of that name. With `--tree`: the tree has no
-  file of that name, or one that can't be read or that `pzic show` refuses. Or
-  the file has no TZ string, an offset beyond 24:00:00, or an abbreviation
-  other than 3 to 16 ASCII letters, digits, `+` and `-`.
+  file of that name, or one that `pzic show` refuses. Or the file has no TZ
+  string, an offset beyond 24:00:00, or an abbreviation other than 3 to 16
+  ASCII letters, digits, `+` and `-`.
 "#,
         expected: "  A name exactly as in the source or tree, including upper and lower case.\n",
         setup: SETUP_1,
