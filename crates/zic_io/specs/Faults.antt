@@ -1,32 +1,55 @@
 -- The rows with a fault that a list has noted, the lines of their faults in its file, and their records in another.
-use Rattle.std.specs.Prelude.{◌≡◌, ◌⊎◌, ◌<◌, ℕ, Bool, codes, decimal, List, [], ◌∷◌, ◌++◌, Option, None, Some, IfSome, MatchOption, if◌then◌else◌, is_some, option_map}
+use Rattle.std.specs.Prelude.{◌≡◌, ◌<◌, ℕ, Bool, decimal, List, [], ◌∷◌, ◌++◌, Option, None, Some, IfSome, MatchOption, if◌then◌else◌, is_some, option_map}
 use Rattle.std.specs.Io.KnownBytes.{Appends}
+use Rattle.csv.specs.Writing.{default_writer, row_text}
 use Rattle.zic_counted.specs.Counts.{Counts}
 use Rattle.zic_base.specs.RowFault.{row_kind_word}
 use Rattle.zic_base.specs.declared.row_fault.RowFault.{RowFault}
 use Rattle.zic_plan.specs.Noted.{RowNote}
+use Rattle.zic_plan.specs.declared.row_log.FaultDetail.{FaultDetail}
+use Rattle.zic_plan.specs.declared.row_log.LineEnd.{LineEnd}
+use Rattle.zic_plan.specs.declared.row_log.LineEnd.TheVariants as ends
 use Rattle.zic_io.specs.declared.fault_line.FaultFields.{FaultFields}
 
 -- the fault of a row that was noted, where there is one
 abbrev pub fault_of : Option RowNote → Option RowFault
 fault_of noted = option_map (λ (n : RowNote). n.fault) noted
 
--- a comma and a field, where it is requested
-abbrev pub field_if : Bool → List ℕ → List ℕ
-field_if requested field = if requested then codes "," ++ field else []
+-- the number of the line where a record begins, in decimal; no bytes where it wasn't noted
+abbrev pub line_field : Option FaultDetail → List ℕ
+line_field None = []
+line_field (Some detail) = decimal detail.line
 
--- the line of a fault: the number of its row, a comma, its name, and the requested fields, each after a comma
-abbrev pub fault_line : FaultFields → RowFault → List ℕ → List ℕ → List ℕ
-fault_line fields fault line value =
-    decimal fault.row ++ codes "," ++ row_kind_word fault.kind ++ field_if fields.line line ++ field_if fields.value value ++ codes "\n"
+-- the value of the field at fault; no bytes where it wasn't noted
+abbrev pub value_field : Option FaultDetail → List ℕ
+value_field None = []
+value_field (Some detail) = detail.value.items
 
--- the line of a fault that was noted, where what the requested fields have is left open
+-- a field, where it is requested, and else none
+abbrev pub field_if : Bool → List ℕ → List (List ℕ)
+field_if requested field = if requested then field ∷ [] else []
+
+-- the fields of the line of a fault: the number of its row, its name, and the number of the record's line and the value at fault, where they
+-- are requested
+abbrev pub fault_fields : FaultFields → RowFault → Option FaultDetail → List (List ℕ)
+fault_fields fields fault detail = decimal fault.row ∷ row_kind_word fault.kind ∷ field_if fields.line (line_field detail) ++ field_if fields.value (value_field detail)
+
+-- the line of a fault: what a CSV writer writes of its fields, with a line feed at the end (RFC 4180, 2)
+abbrev pub fault_line : FaultFields → RowFault → Option FaultDetail → List ℕ
+fault_line fields fault detail = row_text default_writer (fault_fields fields fault detail)
+
+-- the line of a fault that was noted, where line and value are left open
 abbrev pub IsFaultLine : FaultFields → RowNote → List ℕ → Type 0
-IsFaultLine fields note text = (line : List ℕ) × (value : List ℕ) × (text ≡ fault_line fields note.fault line value)
+IsFaultLine fields note text = (detail : Option FaultDetail) × (text ≡ fault_line fields note.fault detail)
 
--- the line of a record that was put aside: its own bytes, and a line feed, or a carriage return and a line feed
+-- the bytes that end a line: a line feed, perhaps after a carriage return
+abbrev pub line_end_bytes : LineEnd → List ℕ
+line_end_bytes ends.Lf = 10 ∷ []
+line_end_bytes ends.CrLf = 13 ∷ 10 ∷ []
+
+-- the line of a record that was put aside, where its line end is left open: its own bytes, and the line end
 abbrev pub IsRecordLine : List ℕ → List ℕ → Type 0
-IsRecordLine own text = (text ≡ own ++ 10 ∷ []) ⊎ (text ≡ own ++ 13 ∷ 10 ∷ [])
+IsRecordLine own text = (line_end : LineEnd) × (text ≡ own ++ line_end_bytes line_end)
 
 -- a text is a line for each row that was noted, in order
 abbrev pub AreLines : (RowNote → List ℕ → Type 0) → List RowNote → List ℕ → Type 0

@@ -5,3 +5,4 @@ pub mod Sources
 pub mod Tree
 pub mod Words
 pub mod Failing
+pub mod Laws

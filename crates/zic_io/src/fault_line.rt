@@ -1,14 +1,15 @@
 //! The lines of lists of faults.
 
-ghost use Rattle.std.specs.Prelude.{◌≡◌, ◌∷◌, [], List, is_some, ℕ, None};
-ghost use Rattle.zic_io.specs.Faults.{IsFaultLine, IsRecordLine, field_if, header_line};
+ghost use Rattle.std.specs.Prelude.{◌≡◌, ◌∷◌, ◌++◌, [], List, decimal, is_some, ℕ, None, Option};
+ghost use Rattle.csv.specs.Writing.{default_writer, escaped, field_text, fields_text, needs_byte, needs_quotes};
+ghost use Rattle.zic_io.specs.Faults.{fault_line, field_if, header_line, line_end_bytes, line_field, value_field, IsFaultLine};
 ghost use Rattle.zic_io.specs.code.FaultList.{Gets, GetsHeader, kept};
 
 use crate::list_output::ListOutput;
 use itoa::Buffer;
 use std::io::Write;
 use zic_base::RowFault;
-use zic_plan::{FaultyRow, LineEnd};
+use zic_plan::{FaultDetail, FaultyRow, LineEnd};
 
 /// Which fields the line of a fault has after the number of its row and the name of the fault.
 #[derive(Clone, Copy, Debug, PartialEq, Eq)]
@@ -25,39 +26,66 @@ pub(crate) fn push_fault<W: Write>(list: &mut ListOutput<W>, fields: FaultFields
         × Gets W.contents line list.old list.new }
     ensures file { is_some list.new.file ≡ is_some list.old.file }
 {
-    list.push(Buffer::new().format(row.fault.row).as_bytes());
+    push_line(list, fields, row.fault, &row.detail);
+}
+
+/// Adds the line of a fault: the number of its row, its name, and the requested fields of the detail, which
+/// are empty where there is none.
+fn push_line<W: Write>(
+    list: &mut ListOutput<W>,
+    fields: FaultFields,
+    fault: RowFault,
+    detail: &Option<FaultDetail>,
+)
+    ensures grows { Gets W.contents (fault_line fields fault detail.now) list.old list.new }
+    ensures file { is_some list.new.file ≡ is_some list.old.file }
+{
+    push_number(list, fault.row);
     list.push(b",");
-    list.push(row.fault.kind.name().as_bytes());
-    push_line_number(list, fields, row);
-    push_value(list, fields, row);
+    list.push(fault.kind.name().as_bytes());
+    push_line_number(list, fields, detail);
+    push_value(list, fields, detail);
     list.push(b"\n");
 }
 
+/// Adds a number, in decimal.
+fn push_number<W: Write>(list: &mut ListOutput<W>, number: u64)
+    ensures grows { Gets W.contents (field_text default_writer (decimal number)) list.old list.new }
+    ensures file { is_some list.new.file ≡ is_some list.old.file }
+{
+    list.push(Buffer::new().format(number).as_bytes());
+}
+
 /// Adds the number of the line where a record begins, as far as it is known, if it is requested.
-fn push_line_number<W: Write>(list: &mut ListOutput<W>, fields: FaultFields, row: &FaultyRow)
-    ensures grows { (line : List ℕ) × Gets W.contents (field_if fields.line line) list.old list.new }
+fn push_line_number<W: Write>(
+    list: &mut ListOutput<W>,
+    fields: FaultFields,
+    detail: &Option<FaultDetail>,
+)
+    ensures grows { Gets W.contents
+        (fields_text default_writer (field_if fields.line (line_field detail.now))) list.old list.new }
     ensures file { is_some list.new.file ≡ is_some list.old.file }
 {
     if !fields.line {
         return;
     }
     list.push(b",");
-    if let Some(detail) = &row.detail {
-        list.push(Buffer::new().format(detail.line).as_bytes());
+    if let Some(detail) = detail {
+        push_number(list, detail.line);
     }
 }
 
-/// Adds the value at fault, as far as it is known, as a field of CSV, if it is requested.
-fn push_value<W: Write>(list: &mut ListOutput<W>, fields: FaultFields, row: &FaultyRow)
-    ensures grows { (value : List ℕ)
-        × Gets W.contents (field_if fields.value value) list.old list.new }
+/// Adds the value at fault, as far as it is known, if it is requested.
+fn push_value<W: Write>(list: &mut ListOutput<W>, fields: FaultFields, detail: &Option<FaultDetail>)
+    ensures grows { Gets W.contents
+        (fields_text default_writer (field_if fields.value (value_field detail.now))) list.old list.new }
     ensures file { is_some list.new.file ≡ is_some list.old.file }
 {
     if !fields.value {
         return;
     }
     list.push(b",");
-    if let Some(detail) = &row.detail {
+    if let Some(detail) = detail {
         push_field(list, &detail.value);
     }
 }
@@ -65,10 +93,10 @@ fn push_value<W: Write>(list: &mut ListOutput<W>, fields: FaultFields, row: &Fau
 /// Adds a field of CSV: between double quotes where it has a comma, a double quote or a line end. RFC
 /// 4180, 2.6.
 fn push_field<W: Write>(list: &mut ListOutput<W>, field: &[u8])
-    ensures grows { (text : List ℕ) × Gets W.contents text list.old list.new }
+    ensures grows { Gets W.contents (field_text default_writer field.now) list.old list.new }
     ensures file { is_some list.new.file ≡ is_some list.old.file }
 {
-    if field.iter().any(|byte| needs_quotes(*byte)) {
+    if needs_quotes(field) {
         list.push(b"\"");
         push_doubled(list, field);
         list.push(b"\"");
@@ -77,14 +105,23 @@ fn push_field<W: Write>(list: &mut ListOutput<W>, field: &[u8])
     }
 }
 
+/// Returns whether a field stands between double quotes.
+fn needs_quotes(field: &[u8]) -> bool
+    ensures { result ≡ needs_quotes default_writer field.now }
+{
+    field.iter().any(|byte| needs_byte(*byte))
+}
+
 /// Returns whether a field with this byte stands between double quotes.
-fn needs_quotes(byte: u8) -> bool {
+fn needs_byte(byte: u8) -> bool
+    ensures { result ≡ needs_byte default_writer byte }
+{
     byte == b',' || byte == b'"' || byte == b'\n' || byte == b'\r'
 }
 
 /// Adds a field with each of its double quotes twice. RFC 4180, 2.7.
 fn push_doubled<W: Write>(list: &mut ListOutput<W>, field: &[u8])
-    ensures grows { (text : List ℕ) × Gets W.contents text list.old list.new }
+    ensures grows { Gets W.contents (escaped default_writer field.now) list.old list.new }
     ensures file { is_some list.new.file ≡ is_some list.old.file }
 {
     for byte in field {
@@ -94,7 +131,7 @@ fn push_doubled<W: Write>(list: &mut ListOutput<W>, field: &[u8])
 
 /// Adds a byte, or two double quotes for one.
 fn push_byte<W: Write>(list: &mut ListOutput<W>, byte: u8)
-    ensures grows { (text : List ℕ) × Gets W.contents text list.old list.new }
+    ensures grows { Gets W.contents (escaped default_writer (byte ∷ [])) list.old list.new }
     ensures file { is_some list.new.file ≡ is_some list.old.file }
 {
     if byte == b'"' {
@@ -106,8 +143,7 @@ fn push_byte<W: Write>(list: &mut ListOutput<W>, byte: u8)
 
 /// Adds the line of a record, by its own bytes and the end of its line.
 pub(crate) fn push_record<W: Write>(list: &mut ListOutput<W>, own: &[u8], line_end: LineEnd)
-    ensures grows { (line : List ℕ) × IsRecordLine own.now line
-        × Gets W.contents line list.old list.new }
+    ensures grows { Gets W.contents (own.now ++ line_end_bytes line_end) list.old list.new }
     ensures file { is_some list.new.file ≡ is_some list.old.file }
 {
     list.push(own);

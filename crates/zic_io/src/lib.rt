@@ -7,6 +7,7 @@ mod failure;
 mod fault_line;
 mod fault_list;
 mod input;
+pub mod laws;
 mod link_kind;
 mod list_file;
 mod list_output;

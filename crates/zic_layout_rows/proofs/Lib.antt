@@ -2,6 +2,7 @@ pub mod Columns
 pub mod Coming
 pub mod MoreRows
 pub mod NextRows
+mod PassedLines
 pub mod PieceRows
 pub mod PutBack
 pub mod Written

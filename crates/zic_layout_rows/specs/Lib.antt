@@ -1,4 +1,5 @@
 pub mod code
+pub mod Detail
 pub mod Rows
 pub mod LayoutRows
 pub mod PieceRows

@@ -7,7 +7,7 @@ ghost use Rattle.csv.specs.Writing.{default_writer, row_text, with_delimiter};
 ghost use Rattle.zic_columns.specs.Exchange.{exchanged};
 ghost use Rattle.zic_columns.specs.Record.{IsSplit, IsWithinPiece, field_text, record_at};
 ghost use Rattle.zic_plan.specs.declared.layout.RowStart.TheVariants as start;
-ghost use Rattle.zic_zones.specs.Zones.{zone_in};
+ghost use Rattle.zic_zones.specs.Zones.{field_at, zone_in};
 ghost use Rattle.zic_layout_rows.specs.LayoutRows.{answered, ending, faulty_text, if_aside, marked_text, timeless_text};
 ghost use Rattle.zic_layout_rows.specs.code.Batch.{wanted_by};
 
@@ -77,6 +77,19 @@ pub(crate) fn copy_zone(
     }
 }
 
+/// Copies the field of a record's time, as [`copy_field`] does a field.
+pub(crate) fn copy_time(
+    alloc: Global,
+    piece: &Piece<'_, '_>,
+    given: &Record,
+) -> Result<Vec<u8>, AllocError>
+    requires { IsSplit piece.now.bytes.now (wanted_by piece.now.layout.now) given.now }
+    ensures { IfOk result (λ copy. copy.items ≡ field_at (exchanged_record piece.now.layout.now.delimiter
+        (record_at piece.now.bytes.now given.now)).fields piece.now.layout.now.time) }
+{
+    copy_field(alloc, piece, given.time)
+}
+
 /// Returns what a CSV writer with a delimiter writes of some fields.
 fn csv_row(alloc: Global, delimiter: u8, fields: &[&[u8]]) -> Result<Vec<u8>, AllocError>
     ensures { IfOk result (λ row. row.items
@@ -112,7 +125,7 @@ fn timeless_row(alloc: Global, piece: &Piece<'_, '_>, given: &Record) -> Result<
         (exchanged_record piece.now.layout.now.delimiter (record_at piece.now.bytes.now given.now))) }
 {
     let name = copy_zone(alloc, piece, given)?;
-    let field = copy_field(alloc, piece, given.time)?;
+    let field = copy_time(alloc, piece, given)?;
     let (name, field) = (name.as_slice(), field.as_slice());
     let delimiter = piece.layout.delimiter.byte();
     if answered(piece.layout.style, piece.layout.from) == 3 {

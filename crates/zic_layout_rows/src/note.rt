@@ -1,12 +1,15 @@
 //! What is noted of a row with a fault.
 
-ghost use Rattle.std.specs.Prelude.{◌≡◌, ◌≤◌, length, IfOk};
+ghost use Rattle.std.specs.Prelude.{◌≡◌, ◌≤◌, ℕ, List, length, IfOk};
 ghost use Rattle.zic_columns.specs.Exchange.{exchanged};
-ghost use Rattle.zic_columns.specs.Record.{IsSplit, bytes_at};
+ghost use Rattle.zic_columns.specs.Lines.{exchanged_record};
+ghost use Rattle.zic_columns.specs.Record.{IsSplit, bytes_at, record_at};
+ghost use Rattle.zic_layout_rows.specs.Detail.{line_feeds_before, value_at_fault};
 ghost use Rattle.zic_layout_rows.specs.LayoutRows.{if_aside};
 ghost use Rattle.zic_layout_rows.specs.code.Batch.{wanted_by};
+ghost use Rattle.zic_layout_rows.specs.code.Note.{ArePassed, IsNotedOf};
 
-use crate::faulty::{aside, copy_field, copy_zone};
+use crate::faulty::{aside, copy_time, copy_zone};
 use crate::piece::Piece;
 use std::alloc::{AllocError, Global};
 use zic_base::{RowFault, RowKind};
@@ -22,7 +25,10 @@ pub(crate) struct LinesPassed {
 
 impl LinesPassed {
     /// Returns the start of a piece.
-    pub(crate) fn new() -> LinesPassed {
+    pub(crate) fn new() -> LinesPassed
+        ensures passed { (piece : List ℕ) → ArePassed piece result }
+        ensures at { result.at ≡ 0 }
+    {
         LinesPassed {
             at: 0,
             line_feeds: 0,
@@ -32,6 +38,10 @@ impl LinesPassed {
     /// Goes on to an index of the piece, and returns the number of line feeds before it.
     fn go_to(&mut self, piece: &[u8], at: usize) -> u64
         requires { at ≤ length piece.now }
+        ensures counted { ArePassed piece.now self.old → self.old.at ≤ at
+            → result ≡ line_feeds_before piece.now at }
+        ensures passed { ArePassed piece.now self.old → ArePassed piece.now self.new }
+        ensures at { self.old.at ≤ at → self.new.at ≡ at }
     {
         if self.at < at {
             let more = line_feeds(&piece[self.at..at]);
@@ -51,6 +61,8 @@ fn value_at_fault(
     kind: RowKind,
 ) -> Result<Vec<u8>, AllocError>
     requires { IsSplit piece.now.bytes.now (wanted_by piece.now.layout.now) given.now }
+    ensures { IfOk result (λ value. value.items ≡ value_at_fault piece.now.layout.now kind
+        (exchanged_record piece.now.layout.now.delimiter (record_at piece.now.bytes.now given.now))) }
 {
     match kind {
         RowKind::RowZone => copy_zone(alloc, piece, given),
@@ -58,7 +70,7 @@ fn value_at_fault(
         | RowKind::RowLocal
         | RowKind::RowRange
         | RowKind::RowSkipped
-        | RowKind::RowRepeated => copy_field(alloc, piece, given.time),
+        | RowKind::RowRepeated => copy_time(alloc, piece, given),
         RowKind::TooManyRows
         | RowKind::RowTooLong
         | RowKind::RowQuote
@@ -76,6 +88,8 @@ fn detail_of(
     passed: &mut LinesPassed,
 ) -> Result<Option<FaultDetail>, AllocError>
     requires { IsSplit piece.now.bytes.now (wanted_by piece.now.layout.now) given.now }
+    ensures { IfOk result
+        (IsNotedOf piece.now given.now kind passed.old piece.now.lines_before) }
 {
     let Some(before) = piece.lines_before else {
         return Ok(None);

@@ -1,8 +1,8 @@
-use Rattle.std.proofs.Common.{◌+◌, ◌-◌, ◌^◌, ◌≡◌, ◌∙◌, ℕ, List, Option, Some, length, min, slice_get, ap, subst, sym}
+use Rattle.std.proofs.Common.{◌+◌, ◌-◌, ◌^◌, ◌≡◌, ◌∙◌, ◌++◌, ℕ, List, Option, Some, length, min, slice_get, ap, refl, subst, sym}
 use Rattle.std.specs.Option.{option_or}
 use Rattle.zic_base.specs.declared.row_fault.RowFault.{RowFault}
 use Rattle.zic_plan.specs.Noted.{RowNote}
-use Rattle.zic_io.specs.Faults.{IsFaultLine, IsRecordLine, fault_of}
+use Rattle.zic_io.specs.Faults.{IsFaultLine, IsRecordLine, fault_of, line_end_bytes}
 use Rattle.zic_io.specs.code.FaultList.{Gets, kept}
 use Rattle.zic_io.proofs.FaultLemmas.{count_rises, file_grows, first_stays, records_grow}
 use Rattle.zic_io.proofs.fault_list.FaultListRowLog.note.Goals as goal
@@ -19,7 +19,8 @@ invariant_of-self g c =
     let same = c.and-self-inside.ensures.1 in
     let mid = c.push_header_at_first.new.list in
     let reject = c.push_record.new.list in
-    let of_own = subst (λ (o : List ℕ). (line : List ℕ) × IsRecordLine o line × Gets contents line mid reject) (c.deref.ensures.value ∙ own) c.push_record.ensures.grows in
+    let line_end = c.row.inside.line_end in
+    let of_own = subst (λ (o : List ℕ). (line : List ℕ) × IsRecordLine o line × Gets contents line mid reject) (c.deref.ensures.value ∙ own) (c.deref.result.now ++ line_end_bytes line_end, (line_end, refl), c.push_record.ensures.grows) in
     let faults = file_grows contents (IsFaultLine old.fields) noted row old.noted.start old.faults c.push_fault.new.list c.self.invariant.1 c.push_fault.ensures.grows in
     let rejects = records_grow contents old.held.start (kept old.header) noted row old.first old.rejects mid reject c.self.invariant.0.is_first c.self.invariant.2 c.push_header_at_first.ensures.grows of_own in (
       record {
