@@ -5,8 +5,9 @@ usage: dense.py PROGRAM FOLDER
 
 The UT offsets of a file are two in turn, or 200 at random, within 24 hours. Local times are at random round the changes, and one in
 four is far from them. What each means is found here by the definitions themselves: an instant of a local time is one at which the file's
-offset makes it, and a gap is at the first change that passes over it. Files are made in FOLDER. Prints a line for each file; the
-status is 1 where a row differs.
+offset makes it, and a gap is at the first change that passes over it. Of 20,000 rows more for each file some are compared; the
+program has 30 seconds for them, where a walk over the changes round each takes minutes. Files are made in FOLDER. Prints a line for
+each file; the status is 1 where a row differs or the program takes longer.
 """
 import os
 import random
@@ -21,6 +22,9 @@ START = 1_000_000_000
 COUNT = 100_000
 WINDOW = 26 * 3600
 ROWS = 100
+MANY = 20_000
+STEP = 201
+SECONDS = 30
 CHOICES = ["reject", "earlier", "later", "compatible"]
 found = []
 
@@ -80,10 +84,11 @@ FILES = {
 
 # ------------------------------------------------------------------ runs
 
-def convert(program, choice, records):
-    """converts a column of local times, and returns the rows and the faults"""
+def convert(program, choice, records, seconds=None):
+    """converts a column of local times, in some seconds at most, and returns the rows and the faults"""
     words = ["--workers", "1", "--keep-going", "--faults", "faults", "--from", "local", "--ambiguous", choice, "--tree", "tree"]
-    done = subprocess.run([program, "convert", *words], input="".join(f"{record}\n" for record in records), capture_output=True, text=True)
+    column = "".join(f"{record}\n" for record in records)
+    done = subprocess.run([program, "convert", *words], input=column, capture_output=True, text=True, timeout=seconds)
     if done.returncode not in (0, 1):
         sys.exit(f"{words}: status {done.returncode}: {done.stderr}")
     with open("faults", encoding="ascii") as file:
@@ -100,17 +105,19 @@ def some_locals(count):
         yield random.randrange(0, 2 ** 32) if i % 4 == 0 else random.randrange(START - WINDOW, START + COUNT + WINDOW)
 
 
-def compare(program, name, file):
-    """compares rows by each choice"""
-    times = list(some_locals(ROWS))
-    for choice in CHOICES:
-        rows, faults = convert(program, choice, [f"{name},{text_of(local)}" for local in times])
-        for number, (local, row) in enumerate(zip(times, rows), 1):
-            told = faults.get(str(number)) or int(row.split(",")[2])
-            if told != file.meant(local, choice):
-                found.append(f"{name}: {text_of(local)} by {choice}: {told}, and not {file.meant(local, choice)}")
-        if len(rows) != len(times):
-            found.append(f"{name}: {len(rows)} rows of {len(times)}")
+def compare(program, name, file, choice, times, step=1, seconds=None):
+    """compares every row, or one in so many, with what is meant"""
+    try:
+        rows, faults = convert(program, choice, [f"{name},{text_of(local)}" for local in times], seconds)
+    except subprocess.TimeoutExpired:
+        found.append(f"{name}: {len(times)} rows by {choice} take more than {seconds} seconds")
+        return
+    for number, (local, row) in list(enumerate(zip(times, rows), 1))[::step]:
+        told = faults.get(str(number)) or int(row.split(",")[2])
+        if told != file.meant(local, choice):
+            found.append(f"{name}: {text_of(local)} by {choice}: {told}, and not {file.meant(local, choice)}")
+    if len(rows) != len(times):
+        found.append(f"{name}: {len(rows)} rows of {len(times)}")
 
 
 def main():
@@ -122,8 +129,11 @@ def main():
         file = make()
         with open(f"tree/{name}", "wb") as out:
             out.write(file.octets())
-        compare(program, name, file)
-        print(f"{name}: {len(CHOICES) * ROWS} rows")
+        times = list(some_locals(ROWS))
+        for choice in CHOICES:
+            compare(program, name, file, choice, times)
+        compare(program, name, file, "compatible", list(some_locals(MANY)), STEP, SECONDS)
+        print(f"{name}: {len(CHOICES) * ROWS} rows, and one in {STEP} of {MANY}")
     for line in found[:20]:
         print(line, file=sys.stderr)
     sys.exit(bool(found))

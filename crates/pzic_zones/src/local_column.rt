@@ -1,10 +1,11 @@
 //! Columns of local times in memory.
 
-ghost use Rattle.std.specs.Prelude.{◌≡◌, Some, length, MatchOption};
+ghost use Rattle.std.specs.Prelude.{◌≡◌, IfSome, Some, length, MatchOption};
 ghost use Rattle.std.specs.List.{AllZip};
 ghost use Rattle.pzic_zones.specs.code.Near.{IsNear};
 ghost use Rattle.pzic_zones.specs.Handle.{IsHandle, zone_in};
 ghost use Rattle.pzic_zones.specs.Local.{AreInstantsGiven, IsInstantMeant, IsStatusMeant, choice_number, instant_of, meant_status};
+ghost use Rattle.zic_local.specs.Index.{IsIndexOf};
 ghost use Rattle.pzic_zones.specs.declared.status.TheConstants.{NO_HANDLE};
 
 use crate::handle::Handle;
@@ -12,8 +13,11 @@ use crate::held::Held;
 use crate::local::is_in_range;
 use crate::status::{FOLD, GAP, LENGTHS, NO_HANDLE, NO_SUCH, OK, OUT_OF_RANGE, UNSPECIFIED};
 use std::alloc::Global;
-use zic_local::{Disambiguation, Unresolved, instant};
+use zic_local::{Disambiguation, LocalIndex, Unresolved, instant_by};
 use zic_tzif::Zone;
+
+/// The fewest local times for which it is worth looking whether a zone needs an index.
+const MANY: usize = 64;
 
 /// The instant that is meant by a local time, and the status, which says whether there is one.
 #[derive(Clone, Copy)]
@@ -54,9 +58,22 @@ fn seen(answer: Result<i64, Unresolved>) -> Meant
     }
 }
 
-/// Returns the instant that is meant by a local time.
-fn meant_by(zone: &Zone, choice: Disambiguation, local: i64) -> Meant
+/// Returns the index by which local times are found, where a walk would be slow and they are many. Without
+/// memory for it a walk serves too.
+fn index_for(alloc: Global, zone: &Zone, count: usize) -> Option<LocalIndex>
     requires { IsNear zone.now }
+    ensures { IfSome result (IsIndexOf zone.now) }
+{
+    if count < MANY {
+        return None;
+    }
+    LocalIndex::for_zone(alloc, zone).unwrap_or(None)
+}
+
+/// Returns the instant that is meant by a local time, by the zone's index, if it has one.
+fn meant_by(zone: &Zone, index: Option<&LocalIndex>, choice: Disambiguation, local: i64) -> Meant
+    requires near { IsNear zone.now }
+    requires index { IfSome index (λ index. IsIndexOf zone.now index.now) }
     ensures instant { IsInstantMeant zone.now choice local result.instant }
     ensures status { IsStatusMeant zone.now choice local result.status }
 {
@@ -66,25 +83,27 @@ fn meant_by(zone: &Zone, choice: Disambiguation, local: i64) -> Meant
             status: OUT_OF_RANGE as u8,
         };
     }
-    seen(instant(zone, local, choice))
+    seen(instant_by(zone, index, local, choice))
 }
 
 /// Writes the instant that is meant by each local time, and its status.
 fn write(
     zone: &Zone,
+    index: Option<&LocalIndex>,
     choice: Disambiguation,
     locals: &[i64],
     instants: &mut [i64],
     statuses: &mut [u8],
 )
     requires near { IsNear zone.now }
+    requires index { IfSome index (λ index. IsIndexOf zone.now index.now) }
     requires instants { length instants.old ≡ length locals.now }
     requires statuses { length statuses.old ≡ length locals.now }
     ensures instants { AllZip (IsInstantMeant zone.now choice) locals.now instants.new }
     ensures statuses { AllZip (IsStatusMeant zone.now choice) locals.now statuses.new }
 {
     for i in 0..locals.len() {
-        let meant = meant_by(zone, choice, locals[i]);
+        let meant = meant_by(zone, index, choice, locals[i]);
         instants[i] = meant.instant;
         statuses[i] = meant.status;
     }
@@ -93,6 +112,7 @@ fn write(
 /// Gives the instants that are meant by local times, where the arrays are as long and the number is
 /// that of a disambiguation.
 fn tell_instants(
+    alloc: Global,
     zone: &Zone,
     number: u32,
     locals: &[i64],
@@ -109,7 +129,8 @@ fn tell_instants(
     let Some(choice) = choice_of(number) else {
         return NO_SUCH;
     };
-    write(zone, choice, locals, instants, statuses);
+    let index = index_for(alloc, zone, locals.len());
+    write(zone, index.as_ref(), choice, locals, instants, statuses);
     OK
 }
 
@@ -132,7 +153,7 @@ pub fn zone_instants_array(
     zone.lend(
         alloc,
         &mut |held: &Held| match held.zone() {
-            Some(zone) => tell_instants(zone, disambiguation, locals, instants, statuses),
+            Some(zone) => tell_instants(alloc, zone, disambiguation, locals, instants, statuses),
             None => NO_HANDLE,
         },
     )

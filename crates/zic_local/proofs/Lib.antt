@@ -1,9 +1,12 @@
 pub mod Choices
 pub mod Existing
+pub mod Indexing
 pub mod Lists
 pub mod Offsets
 pub mod Once
+pub mod Quiet
 pub mod Steps
+pub mod Trying
 pub mod Walking
 pub mod Deciding
 pub mod Resolving

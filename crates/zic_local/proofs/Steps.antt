@@ -103,7 +103,7 @@ module _ (content : Content) (local : ℤ) where
         let e = is.is in
         (omega (arith, ints, within, e), omega (arith, ints, within, e))
 
-    near_gap : (gap : Gap) → PassesOver content local gap
+    pub near_gap : (gap : Gap) → PassesOver content local gap
         → ((local -ℤ pos FARTHEST_FILE_OFFSET) <ℤ gap.change) × (gap.change ≤ℤ (local +ℤ pos FARTHEST_FILE_OFFSET))
     near_gap gap over =
         let before = near (gap.change -ℤ pos 1) gap.before over.before in
@@ -121,7 +121,7 @@ module _ (content : Content) (local : ℤ) where
       λ gap over within. let low = (near_gap gap over).0 in omega (arith, ints, from, low, within),
     )
 
-    all_instants : (end : ℤ) (list : List ℤ) → (local +ℤ pos FARTHEST_FILE_OFFSET) ≤ℤ end → AreUpTo content local end list
+    pub all_instants : (end : ℤ) (list : List ℤ) → (local +ℤ pos FARTHEST_FILE_OFFSET) ≤ℤ end → AreUpTo content local end list
         → AreInstantsOf content local list
     all_instants end list above are =
         just_same (IsInstantUpTo content local end) (IsInstantOf content local) list (λ t has. has.is)
@@ -147,7 +147,7 @@ module _ (content : Content) (local : ℤ) where
   one_offset (Some state) a b is other = is ∙ sym other
   one_offset None a b is other = absurd is
 
-  offset_is : (span : Instants) (answer : Option Shown) → AnswersThroughout content span answer → (t offset : ℤ) → Includes span t
+  pub offset_is : (span : Instants) (answer : Option Shown) → AnswersThroughout content span answer → (t offset : ℤ) → Includes span t
       → IsOffsetAt content t offset → HasOffset answer offset
   offset_is span answer throughout t offset there at =
       subst (λ (a : Option Shown). HasOffset a offset) (one_answer content t (Some at.state) answer at.answers (throughout t there)) at.is

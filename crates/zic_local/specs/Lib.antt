@@ -1,4 +1,5 @@
 pub mod Choice
 pub mod code
+pub mod Index
 pub mod Laws
 pub mod LocalTime

@@ -3,14 +3,17 @@
 #![tactic(auto)]
 
 mod disambiguation;
+mod indexed;
 pub mod laws;
+mod local_index;
 mod local_instants;
 mod local_time;
 mod lookup;
 mod reading;
 
 pub use disambiguation::Unresolved;
+pub use local_index::LocalIndex;
 pub use local_instants::{Fold, Gap, LocalInstants};
 pub use local_time::LocalTime;
-pub use lookup::{instant, instants};
+pub use lookup::{instant, instant_by, instants};
 pub use zic_plan::Disambiguation;

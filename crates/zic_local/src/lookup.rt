@@ -1,12 +1,15 @@
 //! The instants of a local time, found span by span.
 
-ghost use Rattle.std.specs.Prelude.{◌≡◌, ◌≤◌, ◌≤ℤ◌, ℤ, MatchOption, MatchResult};
+ghost use Rattle.std.specs.Prelude.{◌≡◌, ◌≤◌, ◌≤ℤ◌, ℤ, IfSome, MatchOption, MatchResult};
 ghost use Rattle.zic_tzif.specs.Answer.{answered};
+ghost use Rattle.zic_local.specs.Index.{IsIndexOf};
 ghost use Rattle.zic_local.specs.LocalTime.{HaveOffsets, IsInRange, AnswersLocal};
 ghost use Rattle.zic_local.specs.Choice.{Means, IsUnresolved};
 ghost use Rattle.zic_local.specs.code.Walk.{HasNearOffset, IsInSpan, IsPassedAt};
 
 use crate::disambiguation::Unresolved;
+use crate::indexed::instants_in;
+use crate::local_index::LocalIndex;
 use crate::local_instants::{Gap, LocalInstants};
 use crate::reading::read_by;
 use zic_base::FARTHEST_FILE_OFFSET;
@@ -14,7 +17,7 @@ use zic_plan::Disambiguation;
 use zic_tzif::{Answer, AnswerSpan, Zone};
 
 /// The farthest that an instant lies from its local time, in seconds.
-const FARTHEST: i64 = FARTHEST_FILE_OFFSET as i64;
+pub(crate) const FARTHEST: i64 = FARTHEST_FILE_OFFSET as i64;
 
 /// Returns the instant that is meant by a local time, both in seconds: since 1970-01-01 00:00 UT,
 /// and since 1970-01-01 00:00 on the zone's clocks.
@@ -29,7 +32,28 @@ pub fn instant(zone: &Zone, local: i64, disambiguation: Disambiguation) -> Resul
     ensures { MatchResult result (Means zone.now local disambiguation)
         (IsUnresolved zone.now local disambiguation) }
 {
-    match instants(zone, local) {
+    instant_by(zone, None, local, disambiguation)
+}
+
+/// Returns the instant that is meant by a local time as [`instant`] does, by the zone's index, if it
+/// has one: then in a time that changes close together don't make longer.
+///
+/// # Errors
+///
+/// As [`instant`] has them.
+pub fn instant_by(
+    zone: &Zone,
+    index: Option<&LocalIndex>,
+    local: i64,
+    disambiguation: Disambiguation,
+) -> Result<i64, Unresolved>
+    requires offsets { HaveOffsets zone.now }
+    requires range { IsInRange local }
+    requires index { IfSome index (λ index. IsIndexOf zone.now index.now) }
+    ensures { MatchResult result (Means zone.now local disambiguation)
+        (IsUnresolved zone.now local disambiguation) }
+{
+    match instants_by(zone, index, local) {
         LocalInstants::One(t) => Ok(t),
         LocalInstants::Fold(fold) => match disambiguation {
             Disambiguation::Reject => Err(Unresolved::Fold),
@@ -42,6 +66,19 @@ pub fn instant(zone: &Zone, local: i64, disambiguation: Disambiguation) -> Resul
             Disambiguation::Later | Disambiguation::Compatible => Ok(read_by(local, gap.before)),
         },
         LocalInstants::Unspecified => Err(Unresolved::Unspecified),
+    }
+}
+
+/// Returns the instants of a local time as [`instants`] does, by the zone's index, if it has one.
+fn instants_by(zone: &Zone, index: Option<&LocalIndex>, local: i64) -> LocalInstants
+    requires offsets { HaveOffsets zone.now }
+    requires range { IsInRange local }
+    requires index { IfSome index (λ index. IsIndexOf zone.now index.now) }
+    ensures { AnswersLocal zone.now local result }
+{
+    match index {
+        Some(index) => instants_in(zone, index, local),
+        None => instants(zone, local),
     }
 }
 
@@ -84,7 +121,12 @@ fn instant_in(span: &AnswerSpan<'_>, local: i64) -> Option<i64>
 }
 
 /// Returns the gap at a change from one answer to another, if clocks pass over a local time there.
-fn gap_at(change: i64, before: &Answer<'_>, after: &Answer<'_>, local: i64) -> Option<Gap>
+pub(crate) fn gap_at(
+    change: i64,
+    before: &Answer<'_>,
+    after: &Answer<'_>,
+    local: i64,
+) -> Option<Gap>
     requires near_before { HasNearOffset (answered before.now) }
     requires near_after { HasNearOffset (answered after.now) }
     requires range { IsInRange local }

@@ -7,6 +7,9 @@ use Rattle.zic_base.proofs.Elements.{got}
 use Rattle.zic_base.proofs.Options.{if_at}
 use Rattle.zic_base.specs.State.{Shown}
 use Rattle.zic_files.specs.File.{File}
+use Rattle.zic_files.specs.Sound.{IsAlwaysKnown}
+use Rattle.zic_local.specs.Index.{IsIndexOf}
+use Rattle.zic_local.specs.LocalTime.{HaveOffsets}
 use Rattle.zic_zones.proofs.Slots.{got_more}
 use Rattle.zic_zones.specs.Places.{IsPlaceOf, base_of, start_of}
 use Rattle.zic_zones.specs.Slots.{number_at}
@@ -37,11 +40,16 @@ pub if_some_then : {X : Type 0} (o : Option X) {P Q : X → Type 0} → IfSome o
 if_some_then None holds then = tt
 if_some_then (Some x) holds then = then x holds
 
+-- UT offsets within 24:00:00 are near
+pub near_known : (content : Content) → IsAlwaysKnown content → HaveOffsets content
+near_known content known t offset at = let within = (known t (Some at.state) at.answers).offset in let is = at.is in omega (arith, ints, within, is)
+
 zone_still : (content : Content) (texts texts' : List Shown) (slots slots' : List Slot) (zone : ReadyZone) → Keeps texts texts' → Keeps slots slots'
     → IsReadyZone content texts slots zone → IsReadyZone content texts' slots' zone
 zone_still content texts texts' slots slots' zone keeps keeps' is = record {
   numbers = numbers_still content texts texts' zone.numbers.items keeps is.numbers;
   tables = λ era start at. table_still texts texts' slots slots' (AnswersState content) (base_of era) start keeps keeps' (is.tables era start at);
+  index = is.index;
 }
 
 -- files that follow aren't ready
@@ -103,6 +111,10 @@ module _ (files : List File) (ready : Ready) (are : AreReady files ready) (file 
       let few = are.few in
       let lt = slice_get_within ready.zones.items file zone ready_at in
       got files file (omega (arith, few, lt))
+
+  -- the index of the zone
+  pub index_found : IfSome (slice_get files file) (λ f. IfSome zone.index (IsIndexOf f.image.content))
+  index_found = let (f, at) = its_file in rw at (are.each file f zone at ready_at).index
 
   -- the number of a state
   pub state_found : (number n : ℕ) → slice_get zone.numbers.items number ≡ Some n → HasState ready.texts n (λ s. IsTextOf files file number s)

@@ -2,6 +2,8 @@
 
 ghost use Rattle.std.specs.Prelude.{◌≡◌, ◌<◌, ◌≤◌, List, [], IfOk, IfSome, Some, length, slice_get, slice_range};
 ghost use Rattle.zic_files.specs.File.{File};
+ghost use Rattle.zic_local.specs.Index.{IsIndexOf};
+ghost use Rattle.zic_local.specs.LocalTime.{HaveOffsets};
 ghost use Rattle.zic_zones.specs.States.{HasState};
 ghost use Rattle.zic_zones.specs.Zones.{AnswersAt};
 ghost use Rattle.zic_zones.specs.code.Near.{AnswersNear};
@@ -16,6 +18,7 @@ use crate::tables::{Expected, Tables};
 use crate::texts::Texts;
 use std::alloc::{AllocError, Global};
 use zic_files::Files;
+use zic_local::LocalIndex;
 use zic_rows::StateText;
 use zic_tzif::Zone;
 
@@ -26,6 +29,8 @@ struct ReadyZone {
     numbers: Vec<u16>,
     /// Where the table of each era begins, where there is one.
     tables: [Option<u32>; ERAS],
+    /// The index by which local times are found, where a walk would be slow.
+    index: Option<LocalIndex>,
 }
 
 /// The texts of the states that files show, made once for all rows, and tables of the states by
@@ -67,6 +72,7 @@ impl Ready {
 
     /// Makes a zone ready.
     fn zone(&mut self, alloc: Global, zone: &Zone) -> Result<ReadyZone, AllocError>
+        requires { HaveOffsets zone.now }
         ensures names { self.new.names ≡ self.old.names }
         ensures zones { self.new.zones ≡ self.old.zones }
         ensures texts { Keeps self.old.texts self.new.texts }
@@ -75,7 +81,12 @@ impl Ready {
     {
         let numbers = self.texts.add_zone(alloc, zone)?;
         let tables = self.tables.add_zone(alloc, zone, &numbers)?;
-        Ok(ReadyZone { numbers, tables })
+        let index = LocalIndex::for_zone(alloc, zone)?;
+        Ok(ReadyZone {
+            numbers,
+            tables,
+            index,
+        })
     }
 
     /// Returns the number of the file that a part of some bytes names, if it is at hand.
@@ -87,6 +98,15 @@ impl Ready {
             → IfSome result (IsFileOf files (slice_range bytes.now start end)) }
     {
         self.names.quick(bytes, start, end)
+    }
+
+    /// Returns the index by which local times of a file are found, if it has one.
+    pub(crate) fn local_index(&self, file: usize) -> Option<&LocalIndex>
+        ensures { (files : List File) → AreReady files self.now
+            → IfSome (slice_get files file) (λ f. IfSome result (λ index. IsIndexOf f.image.content index.now)) }
+    {
+        let zone = self.zones.get(file)?;
+        zone.index.as_ref()
     }
 
     /// Returns the number of the text of a state of a file, by the number of the state, where one was

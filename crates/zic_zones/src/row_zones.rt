@@ -16,7 +16,7 @@ use crate::row_states::RowStates;
 use std::marker::Model;
 use zic_files::Files;
 use zic_local::laws::{choices_mean_one, instants_are_near};
-use zic_local::{Unresolved, instant};
+use zic_local::{Unresolved, instant_by};
 use zic_plan::Disambiguation;
 use zic_rows::{RowWriter, StateText};
 use zic_tzif::{Answer, Instants};
@@ -132,7 +132,8 @@ impl<'a> RowZones<'a> {
         instants_are_near();
         choices_mean_one();
         local_times_resolve();
-        instant(self.files.zone(file), local, disambiguation)
+        let index = self.ready.local_index(file);
+        instant_by(self.files.zone(file), index, local, disambiguation)
     }
 
     /// Returns the only instant of a local time of a file's clocks, and the state that the file shows

@@ -7,6 +7,7 @@ use Rattle.zic_zones.specs.declared.slot.Slot.{Slot}
 use Rattle.zic_tzif.specs.Answer.{Answers}
 use Rattle.zic_tzif.specs.Content.{Content}
 use Rattle.zic_tzif.specs.States.{IsStateOfNumber}
+use Rattle.zic_local.specs.Index.{IsIndexOf}
 use Rattle.zic_zones.specs.code.NameKeys.{AreNamesOf}
 use Rattle.zic_zones.specs.code.Tables.{IsTable}
 use Rattle.zic_zones.specs.code.Texts.{AreNumbersOf}
@@ -17,10 +18,11 @@ use Rattle.zic_zones.specs.declared.ready.ReadyZone.{ReadyZone}
 abbrev pub AnswersState : Content → ℤ → Shown → Type 0
 AnswersState content t state = Answers content t (Some state)
 
--- The numbers of a zone's texts, and tables of them for its eras.
+-- The numbers of a zone's texts, tables of them for its eras, and its index, if it has one.
 pub record IsReadyZone (content : Content) (texts : List Shown) (slots : List Slot) (zone : ReadyZone) : Type 0 where
   pub numbers : AreNumbersOf content texts zone.numbers.items
   pub tables : (era start : ℕ) → slice_index_or zone.tables era None ≡ Some start → IsTable texts slots (AnswersState content) (base_of era) start
+  pub index : IfSome zone.index (IsIndexOf content)
 
 -- The first files are ready, and their names.
 pub record AreReady (files : List File) (ready : Ready) : Type 0 where

@@ -5,9 +5,9 @@ use Rattle.pzic_zones.proofs.local_column.meant_by.Goals as goal
 pub returns-clause-instant : goal.returns-clause-instant
 returns-clause-instant c =
     let inside : IsInRange c.args.local = search rules in
-    (Some c.instant.result, (inside, simp (to_z-of_z, c.ranges.local) at c.instant.ensures), c.seen.ensures.instant)
+    (Some c.instant_by.result, (inside, simp (to_z-of_z, c.ranges.local) at c.instant_by.ensures), c.seen.ensures.instant)
 
 pub returns-clause-status : goal.returns-clause-status
 returns-clause-status c =
     let inside : IsInRange c.args.local = search rules in
-    (Some c.instant.result, (inside, simp (to_z-of_z, c.ranges.local) at c.instant.ensures), c.seen.ensures.status)
+    (Some c.instant_by.result, (inside, simp (to_z-of_z, c.ranges.local) at c.instant_by.ensures), c.seen.ensures.status)

@@ -1,8 +1,11 @@
 use Rattle.std.proofs.Common.{◌≡◌, ◌<◌, ◌∙◌, ℕ, [], ◌∷◌, ◌++◌, length, length-append, ap, refl, sym, subst, arith}
 use Rattle.std.specs.Prelude.{IfSome, slice_get}
-use Rattle.zic_zones.proofs.Readying.{ready_added, ready_as_more}
+use Rattle.zic_zones.proofs.Readying.{near_known, ready_added, ready_as_more}
 use Rattle.zic_zones.specs.declared.ready.Ready.{Ready}
 use Rattle.zic_zones.proofs.ready.Ready.extend.Goals as goal
+
+pub zone-requires-in-loop-file : goal.zone-requires-in-loop-file
+zone-requires-in-loop-file c = near_known c.zone.result.now c.zone.ensures.known
 
 pub returns-in_err-zone : goal.returns-in_err-zone
 returns-in_err-zone c =

@@ -4,7 +4,7 @@ use Rattle.zic_local.specs.declared.local_instants.LocalInstants.TheVariants as 
 use Rattle.zic_local.specs.LocalTime.{AreInstantsOf, IsFoldOf, AnswersLocal}
 use Rattle.zic_local.specs.Choice.{Means}
 use Rattle.zic_local.proofs.Choices.{means_only, first_of, last_of}
-use Rattle.zic_local.proofs.lookup.instant.Goals as goal
+use Rattle.zic_local.proofs.lookup.instant_by.Goals as goal
 
 pub returns-in-One : goal.returns-in-One
 returns-in-One c =
