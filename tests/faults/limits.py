@@ -191,11 +191,33 @@ def records(program):
         (1, "row 1: RowFields\n--> standard input, row 1\n"))
 
 
+# ------------------------------------------------------------------ headers
+
+def headers(program):
+    """headers in which fields have names. What is read of a column for its header is held beside the buffer of the column, and none of the
+    fields is"""
+    source = written("utc.zi", [b"Zone Etc/UTC 0 - UTC\n"])
+    size = 48
+    words = [program, "convert", "--header", "--zone-field", "zone", "--time-field", "time", source]
+    bound = (2, size * 2.3 + 24)
+    column = written("column", [b"x," * (size // 2 * MIB), b"zone,time\n", b"," * (size // 2 * MIB), b"Etc/UTC,0\n"])
+    run(f"a header of {size} MiB in fields, two of which have names", words, column, bound, (0, ""))
+    words[4] = "tz"
+    run(f"a header of {size} MiB in fields, without a name", words, column, bound,
+        (2, "error: --zone-field: no field of the header is named 'tz'; its fields are 'x', 'x'"))
+    words[4] = "x"
+    run(f"a header of {size} MiB in fields that have one name", words, column, bound,
+        (2, "error: --zone-field: several fields of the header are named 'x'; its fields are 'x', 'x'"))
+    words[4] = "zone"
+    column = written("column", [b'zone,time,"', b"Etc/UTC,0\n" * (size * MIB // 10)])
+    run(f"a stray quote in a header before {size} MiB", words, column, bound, (0, ""))
+
+
 def main():
     program, folder = os.path.abspath(sys.argv[1]), sys.argv[2]
     os.chdir(folder)
     ctypes.CDLL(None).prctl(36, 1, 0, 0, 0)                                # PR_SET_CHILD_SUBREAPER: waits for what others started
-    for part in (sources, names, files, release, records):
+    for part in (sources, names, files, release, records, headers):
         part(program)
     for difference in differences:
         print(difference, file=sys.stderr)

@@ -2,7 +2,7 @@
 # Checks that nine million changes are compiled within 512 MiB, and three million rows converted within 64 MiB.
 # The zone has 8,999,999 changes: its set has 1,000 rules from the year 1 to 9000, and it changes at each occurrence but the first.
 # The column has 30,000,000 bytes, and pieces of 65,536 rows. It checks too that `check` and `convert` say `out of memory` or give
-# their whole answer in each address space from the least in which the program starts, or converts a row, up to the one that it needs.
+# their whole answer in address spaces from the least in which the program starts up to the one that it needs.
 set -euo pipefail
 cd "$(dirname "${BASH_SOURCE[0]}")/../.."
 . tests/common.sh
@@ -38,13 +38,7 @@ echo 'a column of 3,000,000 rows: all of them within 64 MiB'
 
 # ------------------------------------------------------------------ little memory
 
-columns=$PWD/tests/outside/records.py
 enter
-echo 'Zone Etc/UTC 0 - UTC' >plain
-printf '%s\n' 'Rule US 2007 max - Mar Sun>=8 2:00 1:00 D' 'Rule US 2007 max - Nov Sun>=1 2:00 0 S' 'Zone Z/NY -5:00 US E%sT' \
-    'Zone Etc/UTC 0 - UTC' 'Zone Z/I 5:30 - %z' >eastern
-python3 "$columns" plain >column.plain
-"$program" convert eastern <column.plain >rows.plain
 
 # within KIBIBYTES WORD...: runs the program within this many KiB of address space. Where that is too few to start in, the shell would say so.
 within() {
@@ -64,6 +58,7 @@ while [ "$status" != 0 ]; do
     kilobytes=$((kilobytes * 21 / 20))
     within $kilobytes check -
 done
+least=$kilobytes
 for ((good = 0; good < 3;)); do
     within $kilobytes check many
     if [ "$status" = 0 ]; then
@@ -75,18 +70,13 @@ for ((good = 0; good < 3;)); do
     kilobytes=$((kilobytes * 21 / 20))
 done
 
-# The column needs memory after the source is compiled. The least is that of one row, whose stack has then its pages: no program can say
-# that the system has none for its stack.
-kilobytes=1000
-words=(convert --workers 8 --row-piece 65536 eastern)
-head -n 1 column.plain >column.one
-input=column.one
-within $kilobytes "${words[@]}"
-while [ "$status" != 0 ]; do
-    kilobytes=$((kilobytes * 21 / 20))
-    within $kilobytes "${words[@]}"
-done
-input=column.plain
+# The column needs memory after the source is compiled, and the stack for as many workers as there may be. From the least address space
+# in which the program starts.
+kilobytes=$least
+awk 'BEGIN { for (i = 0; i < 40000; i++) printf "Z/%d,%d\n", i % 2000, i }' >column.many
+"$program" convert many <column.many >rows.many
+words=(convert --workers 64 --row-piece 4096 many)
+input=column.many
 for ((good = 0; good < 3;)); do
     within $kilobytes "${words[@]}"
     cp ../out rows
@@ -94,12 +84,12 @@ for ((good = 0; good < 3;)); do
     if [ "$status" = 0 ]; then
         good=$((good + 1))
         told "pzic ${words[*]}, within $kilobytes KiB" 0 '' ''
-        cmp rows rows.plain >&2 || differ "within $kilobytes KiB the rows differ"
+        cmp rows rows.many >&2 || differ "within $kilobytes KiB the rows differ"
     else
         told "pzic ${words[*]}, within $kilobytes KiB" 4 '' 'out of memory'
-        cmp rows <(head -c "$(wc -c <rows)" rows.plain) >&2 || differ "within $kilobytes KiB the rows differ"
+        cmp rows <(head -c "$(wc -c <rows)" rows.many) >&2 || differ "within $kilobytes KiB the rows differ"
     fi
-    kilobytes=$((kilobytes * 21 / 20))
+    kilobytes=$((kilobytes + 240))
 done
 input=/dev/null
 leave memory

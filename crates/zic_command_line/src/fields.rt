@@ -1,21 +1,12 @@
 //! Fields by their numbers, or by their names in the header.
 
-use crate::command_line::{bad_value, hinted, usage};
-use crate::layout::read_by;
+use crate::command_line::bad_value;
 use crate::no_request::NoRequest;
 use clap::ArgMatches;
 use std::alloc::{AllocError, Global};
-use zic_explain::shown_word;
-use zic_plan::{Layout, ZoneFrom};
 
 /// The greatest number that a field can have in an option.
 const MOST_FIELDS: u64 = 65_536;
-
-/// The greatest number of bytes that are shown of a field.
-const LONGEST_SHOWN: usize = 64;
-
-/// The greatest number of fields that are shown of a header.
-const MOST_SHOWN: usize = 64;
 
 /// Which field an option means.
 #[derive(Drop)]
@@ -88,43 +79,6 @@ impl FieldNames {
     pub fn is_empty(&self) -> bool {
         self.zone.is_none() && self.time.is_none()
     }
-
-    /// Returns the layout in which the fields with these names are read, where the header of the column has
-    /// these fields.
-    ///
-    /// # Errors
-    ///
-    /// The text of usage where no field has a name, or several have it, or both names are of one field, or
-    /// memory ran out.
-    pub fn layout_by(
-        &self,
-        alloc: Global,
-        layout: Layout,
-        header: &[Vec<u8>],
-    ) -> Result<Layout, NoRequest> {
-        let mut layout = layout;
-        match self.name_fields(alloc, &mut layout, header) {
-            Ok(()) => Ok(layout),
-            Err(refusal) => Err(hinted(alloc, refusal, "convert")),
-        }
-    }
-
-    /// Changes a layout to the fields with these names.
-    fn name_fields(
-        &self,
-        alloc: Global,
-        layout: &mut Layout,
-        header: &[Vec<u8>],
-    ) -> Result<(), NoRequest> {
-        let zone = match &layout.zone {
-            ZoneFrom::Field(index) => {
-                Some(index_of(alloc, "--zone-field", &self.zone, header, *index)?)
-            }
-            ZoneFrom::Name(_) => None,
-        };
-        let time = index_of(alloc, "--time-field", &self.time, header, layout.time)?;
-        read_by(alloc, layout, zone, time)
-    }
 }
 
 /// Returns the field that an option means, if it is given. A word of digits is a number.
@@ -157,93 +111,4 @@ fn no_field(alloc: Global, id: &str, word: &str) -> Result<NoRequest, AllocError
     let why = format!(in alloc; "{word} is not in 1..={most}")?;
     let option = ["--", id, " <F>"].concat(alloc)?;
     Ok(bad_value(alloc, word, option.as_str(), why.as_str()))
-}
-
-/// Returns the index of the field with a name, if there is one, and else this index.
-fn index_of(
-    alloc: Global,
-    option: &str,
-    name: &Option<String>,
-    header: &[Vec<u8>],
-    index: usize,
-) -> Result<usize, NoRequest> {
-    let Some(name) = name else {
-        return Ok(index);
-    };
-    let name = name.as_bytes();
-    let count = header
-        .iter()
-        .filter(|field| field.as_slice() == name)
-        .count();
-    match header.iter().position(|field| field.as_slice() == name) {
-        Some(index) if count == 1 => Ok(index),
-        found => {
-            let text = unnamed(alloc, option, name, found.is_some(), header)?;
-            Err(usage(alloc, text.as_str()))
-        }
-    }
-}
-
-/// Returns what is wrong with a name of a field that the header doesn't have once.
-fn unnamed(
-    alloc: Global,
-    option: &str,
-    name: &[u8],
-    is_there: bool,
-    header: &[Vec<u8>],
-) -> Result<String, AllocError> {
-    let name = shown_field(alloc, name)?;
-    let fields = shown_fields(alloc, header)?;
-    let fault = if is_there {
-        ": several fields of the header are named '"
-    } else {
-        ": no field of the header is named '"
-    };
-    let (name, fields) = (name.as_str(), fields.as_str());
-    [option, fault, name, "'; its fields are ", fields].concat(alloc)
-}
-
-/// Returns the fields of a header as they are shown to people, between quotes, and how many more there are
-/// where these are too many.
-fn shown_fields(alloc: Global, header: &[Vec<u8>]) -> Result<String, AllocError> {
-    if header.is_empty() {
-        return String::from_str(alloc, "none");
-    }
-    let fields = listed(alloc, &header[..header.len().min(MOST_SHOWN)])?;
-    let more = header.len().saturating_sub(MOST_SHOWN);
-    if more == 0 {
-        return ["'", fields.as_str(), "'"].concat(alloc);
-    }
-    format!(in alloc; "'{fields}' and {more} more")
-}
-
-/// Returns fields as they are shown to people, with what closes the quotes of one and opens those of the
-/// next between two of them.
-fn listed(alloc: Global, fields: &[Vec<u8>]) -> Result<String, AllocError> {
-    let mut shown = Vec::new(alloc);
-    for field in fields {
-        shown.push(shown_field(alloc, field)?)?;
-    }
-    shown.join(alloc, "', '")
-}
-
-/// Returns a field as it is shown to people, a long one as its first bytes and an ellipsis.
-fn shown_field(alloc: Global, field: &[u8]) -> Result<String, AllocError> {
-    let text = str::from_utf8(field).unwrap_or("?");
-    let start = start_of(text);
-    let mut word = shown_word(alloc, start)?;
-    if start.len() < text.len() {
-        word.push_str("...")?;
-    }
-    Ok(word)
-}
-
-/// Returns the start of a text that has at most `LONGEST_SHOWN` bytes.
-fn start_of(text: &str) -> &str {
-    for end in (0..LONGEST_SHOWN + 1).rev() {
-        if text.is_char_boundary(end) {
-            return &text[..end];
-        }
-    }
-    text
 }

@@ -4,6 +4,7 @@
 mod command_line;
 mod commands;
 mod fields;
+mod header_fields;
 mod instant;
 mod layout;
 mod no_request;
@@ -14,6 +15,7 @@ pub use command_line::{
     parse, requested, usage_of,
 };
 pub use fields::FieldNames;
+pub use header_fields::HeaderFields;
 pub use instant::parse_instant_word;
 pub use no_request::NoRequest;
 pub use release::is_release;

@@ -7,9 +7,10 @@ ghost use Rattle.zic_converting.specs.Ending.{ended, faults_in, path_of, told_be
 use crate::ending::{Unwritten, ended, keeps_lists, report};
 use crate::header::Head;
 use crate::lists::Lists;
+use crate::memory::keep_memory;
 use crate::ready::ready_releases;
 use crate::rows::convert_rows;
-use std::alloc::{AllocError, Global};
+use std::alloc::Global;
 use std::fs::Files;
 use std::io::{Input, IsTerminal, Write};
 use std::mem;
@@ -43,24 +44,6 @@ impl Noted {
             faults: None,
         }
     }
-}
-
-/// The size in bytes of a block that [`keep_memory`] asks for: almost the largest by which the C
-/// library adapts.
-const LARGE_BLOCK: usize = 33_488_896;
-
-/// Has the C library keep the memory that rounds of rows give back, and not return it to the system
-/// each time: its allocator does so for blocks of up to the size of the largest that was freed
-/// (`M_MMAP_THRESHOLD` in mallopt(3)). The block itself is never touched.
-fn keep_memory(alloc: Global) {
-    drop(large_block(alloc));
-}
-
-/// Returns a block of `LARGE_BLOCK` bytes without content.
-#[inline(never)]
-fn large_block(alloc: Global) -> Result<Vec<u8>, AllocError> {
-    // Inlined, the compiler would leave out both the block and its end.
-    Vec::with_capacity(alloc, LARGE_BLOCK)
 }
 
 /// Converts standard input to standard output, and reports the rows. Where the run goes on after
@@ -101,7 +84,7 @@ fn convert_listed<
     E: Write + Drop,
 >(rt: &R, order: &Conversion, noted: &mut Noted, line: ProgressLine<E>) -> Result<(), Failure> {
     let mut lists = Lists::open(rt, order)?;
-    let converted = convert_rows(rt, order, noted, line, &mut lists.list);
+    let converted = convert_rows(rt, order, &mut *noted, line, &mut lists.list);
     end(order, noted, lists, converted)
 }
 

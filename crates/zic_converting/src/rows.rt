@@ -3,8 +3,10 @@
 use crate::column::convert_column;
 use crate::conversion::Noted;
 use crate::ending::rows_made;
+use crate::header::Head;
 use std::fs::Files;
 use std::io::{self, Input, Printer, Read, Write};
+use std::mem;
 use std::random::RandomSource;
 use std::sync::Wait;
 use std::thread::Threads;
@@ -24,14 +26,15 @@ pub(crate) fn convert_rows<
 >(
     rt: &R,
     order: &Conversion,
-    noted: &Noted,
+    noted: &mut Noted,
     line: ProgressLine<E>,
     log: &mut L,
 ) -> Result<u64, Failure> {
+    let head = mem::replace(&mut noted.head, Head::new(rt.alloc()));
     // What ended isn't read again: a terminal would go on.
-    let most = if noted.head.is_whole { 0 } else { u64::MAX };
+    let most = if head.is_whole { 0 } else { u64::MAX };
     let rest = rt.reader().take(most);
-    let mut input = Counted::new(noted.head.bytes.as_slice().chain(rest));
+    let mut input = Counted::new(head.reader(rt.alloc()).chain(rest));
     let mut output = Counted::new(progress(rt, &order.layout, line));
     let conversion = zic_bulk::Conversion {
         rt,

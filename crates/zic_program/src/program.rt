@@ -13,7 +13,7 @@ use std::sync::Wait;
 use std::thread::Threads;
 use std::time::Clock;
 use zic_command_line::{CommandLine, Request, requested};
-use zic_converting::{Noted, expect_own_lists, read_header};
+use zic_converting::{Noted, expect_own_lists, read_header, take_stack};
 use zic_failures::Explainer;
 use zic_folders::Ending;
 use zic_host::Refusal;
@@ -78,6 +78,7 @@ fn run_noted<
     noted: &mut Noted,
 ) -> Result<Ending, Refusal> {
     if let Request::Convert(order) = request {
+        take_stack(rt.alloc(), order.plan.workers() as usize)?;
         read_header(rt.alloc(), order, rt.reader(), noted)?;
         if let Some(explainer) = explainer {
             explainer.read_by(&order.layout);

@@ -1,0 +1,52 @@
+//! Memory that a conversion asks the system for before it begins.
+
+use std::alloc::{AllocError, Global};
+use zic_io::Failure;
+
+/// The size in bytes of a block that [`keep_memory`] asks for: almost the largest by which the C
+/// library adapts.
+const LARGE_BLOCK: usize = 33_488_896;
+
+/// The number of bytes of stack that the calling thread has before a conversion begins: what a conversion
+/// by 64 workers needs, and some more.
+const STACK: usize = 786_432;
+
+/// Has the C library keep the memory that rounds of rows give back, and not return it to the system
+/// each time: its allocator does so for blocks of up to the size of the largest that was freed
+/// (`M_MMAP_THRESHOLD` in mallopt(3)). The block itself is never touched.
+pub(crate) fn keep_memory(alloc: Global) {
+    drop(block(alloc, LARGE_BLOCK));
+}
+
+/// Returns a block of this many bytes without content.
+#[inline(never)]
+fn block(alloc: Global, len: usize) -> Result<Vec<u8>, AllocError> {
+    // Inlined, the compiler would leave out both the block and its end.
+    Vec::with_capacity(alloc, len)
+}
+
+/// Has the system give the calling thread the stack that a conversion needs. The system gives a program
+/// little of it at first and the rest as it is used, and ends the program by a signal where a limit on its
+/// memory (`ulimit -v`) refuses more. So ask for it before texts and rows take what is left. `index` is any
+/// number that isn't known before the program runs.
+///
+/// # Errors
+///
+/// `Memory` where the system refuses as much now.
+pub fn take_stack(alloc: Global, index: usize) -> Result<(), Failure> {
+    // The stack grows by what the block gives back.
+    drop(block(alloc, STACK)?);
+    match stack_byte(index) {
+        0 | 1 => Ok(()),
+        _ => Err(Failure::Memory),
+    }
+}
+
+/// Returns a byte of an array that takes up the stack.
+#[inline(never)]
+fn stack_byte(index: usize) -> u8 {
+    let mut stack = [0u8; STACK];
+    // The compiler doesn't know which byte is written and which is read, so it makes all of them.
+    stack[index % STACK] = 1;
+    stack[index / STACK % STACK]
+}
