@@ -446,7 +446,7 @@ static inline int32_t pzic_files_abbreviations(const pzic_handle *files, const u
 
 /* A row of a column that has a fault. */
 typedef struct pzic_row_fault {
-    /* The number of the row, from 1. */
+    /* The number of the row, from 1, or 0 for the header. */
     uint64_t row;
     /* The number of the kind, 35 to 45. pzic_name_of_fault gives its name. */
     uint32_t kind;
@@ -537,12 +537,13 @@ typedef struct pzic_layout {
  * before is freed first. A column has at most 100,000,000 rows and 4,294,967,296 bytes.
  *
  * PZIC_OK         `rows` holds the rows, and the faults of those that have one
- * PZIC_BAD_ROW    a row ends the run: `rows` holds the rows before it, and its fault as the last
+ * PZIC_BAD_ROW    a row ends the run, or the header, which is row 0 then: `rows` holds the rows before it,
+ *                 and its fault as the last
  * PZIC_NO_SUCH    the layout has a number that nothing has, or a delimiter that can't be one, or the
  *                 name isn't UTF-8; `rows` holds nothing
  * PZIC_LENGTHS    the column is too long; `rows` holds nothing
  * PZIC_NO_HANDLE  `files` holds no files; `rows` holds nothing
- * PZIC_NO_MEMORY  memory is refused, or the header is longer than a record may be; `rows` holds nothing
+ * PZIC_NO_MEMORY  memory is refused; `rows` holds nothing
  */
 static inline int32_t pzic_rows_by(const pzic_handle *files, const pzic_layout *layout,
                                    const uint8_t *name, size_t name_length, const uint8_t *column,

@@ -19,7 +19,7 @@ MOST_BYTES = 1 << 32
 
 
 class RowFault(NamedTuple):
-    """A row that has a fault: its number, from 1, and the name of the fault's kind."""
+    """A row that has a fault: its number, from 1, or 0 for the header, and the name of the fault's kind."""
 
     row: int
     kind: str
@@ -128,8 +128,8 @@ def _number(word: str, numbers: "dict[str, int]", what: str) -> int:
 
 class Rows(NamedTuple):
     """The rows of a column: their text, with the header if one is written, their number, and
-    their faults. ``ended`` says that the last fault is that of the row after them, which ended the
-    run."""
+    their faults. ``ended`` says that the last fault is that of the row after them, or of the header,
+    row 0, which ended the run."""
 
     text: bytes
     number: int

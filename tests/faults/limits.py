@@ -210,7 +210,8 @@ def headers(program):
         (2, "error: --zone-field: several fields of the header are named 'x'; its fields are 'x', 'x'"))
     words[4] = "zone"
     column = written("column", [b'zone,time,"', b"Etc/UTC,0\n" * (size * MIB // 10)])
-    run(f"a stray quote in a header before {size} MiB", words, column, bound, (0, ""))
+    run(f"a stray quote in a header before {size} MiB", words, column, bound, (1, "row 0: RowQuote"))
+    run(f"a stray quote in a header before {size} MiB, which may be there", [*words, "--quotes", "lenient"], column, bound, (0, ""))
 
 
 def main():

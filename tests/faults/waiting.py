@@ -63,6 +63,11 @@ def shortest(chosen):
     return name + instant(chosen) + b"\n"
 
 
+def header_of(chosen):
+    """the shortest line that is a header and no row, where there is one"""
+    return b"x\n" if {"header", "skip"} & {*chosen} else b""
+
+
 def faulty(chosen, length):
     """a line of so many bytes that isn't a record as it has to be. Where records are lines, it has an open double quote"""
     start = b'"' if "lines" in chosen else b"x"
@@ -74,12 +79,14 @@ def line_of(chosen, length, is_first):
     least = len(shortest(chosen))
     if length == 1:
         return b"\n"
+    if header_of(chosen) and is_first:
+        return b"x" * (length - 1) + b"\n"
     if instant(chosen) == b"0" and least <= length < least + 18:
         return shortest(chosen)[:-1] + b"0" * (length - least) + b"\n"
     if length > least and "append" in chosen:
         start = shortest(chosen)[:-1] + (b";" if "delimiter" in chosen else b",")
         return start + b"x" * (length - len(start) - 1) + b"\n"
-    if {"going", "rejects"} & {*chosen} or {"header", "skip"} & {*chosen} and is_first:
+    if {"going", "rejects"} & {*chosen}:
         return faulty(chosen, length)
     return None
 
@@ -108,9 +115,9 @@ def columns_of(chosen):
             yield f"a first line of {length} bytes", SIZES[0], list(lines_of(chosen, [length, *rest], False))
     mark = [MARK[:1], MARK[1:2], MARK[2:]]
     yield "a mark byte by byte", SIZES[0], mark + list(lines_of(chosen, LINES, False))
-    yield "a mark with the first line", SIZES[0], [MARK + shortest(chosen), *lines_of(chosen, LINES, True)]
+    yield "a mark with the first line", SIZES[0], [MARK + (header_of(chosen) or shortest(chosen)), *lines_of(chosen, LINES, True)]
     for size, length in itertools.product(SIZES, BURSTS):
-        parts = [burst_of(chosen, length), burst_of(chosen, SIZES[0]), shortest(chosen)]
+        parts = [header_of(chosen) + burst_of(chosen, length), burst_of(chosen, SIZES[0]), shortest(chosen)]
         yield f"a burst of {length} bytes first, a pipe of {size}", size, parts
 
 

@@ -821,8 +821,17 @@ static void convert_by_layouts(void) {
     CHECK(convert_by(&files, &layout, "", "\"Test/Fixed\",-1\nTest/York,1720000000\nTest/York,0\n", &rows) == PZIC_BAD_ROW);
     expect_rows(&rows, "Test/Fixed,-1,1970-01-01T00:59:59,+01:00:00,0,XYZ\n");
     CHECK(pzic_rows_faults(&rows, faults, 3, &count) == PZIC_OK && count == 1 && faults[0].row == 2 && faults[0].kind == 44);
+    // The header is row 0: one that is too long, or is a row.
     layout.header = PZIC_HEADER_SKIPPED;
-    CHECK(convert_by(&files, &layout, "", column, &rows) == PZIC_NO_MEMORY && rows.kind == 0);
+    CHECK(convert_by(&files, &layout, "", column, &rows) == PZIC_BAD_ROW);
+    expect_rows(&rows, "");
+    CHECK(pzic_rows_faults(&rows, faults, 3, &count) == PZIC_OK && count == 1 && faults[0].row == 0 && faults[0].kind == 44);
+    layout = (pzic_layout)PZIC_LAYOUT_INIT;
+    layout.header = PZIC_HEADER_FIRST;
+    CHECK(convert_by(&files, &layout, "", column, &rows) == PZIC_BAD_ROW);
+    expect_rows(&rows, "zone,instant,local,offset,daylight,abbreviation\n");
+    CHECK(pzic_rows_len(&rows, &many) == PZIC_OK && many == 0);
+    CHECK(pzic_rows_faults(&rows, faults, 3, &count) == PZIC_OK && count == 1 && faults[0].row == 0 && faults[0].kind == 45);
     layout = (pzic_layout)PZIC_LAYOUT_INIT;
     // Double quotes that RFC 4180 doesn't have are a fault, unless the layout is lenient.
     static const char *const stray = "Test/Fixed,\"-\"1\n";

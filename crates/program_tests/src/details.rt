@@ -1,4 +1,4 @@
-//! What is noted of rows with faults where details are requested, and headers that are too long. Columns
+//! What is noted of rows with faults where details are requested, and headers with a fault. Columns
 //! come in reads of each length, and in pieces for one worker and for several.
 
 use crate::files::built;
@@ -7,14 +7,14 @@ use std::alloc::{AllocError, Global};
 use std::process::Abort;
 use std::sync::Wait;
 use std::thread::Threads;
-use zic_base::{RowKind, RunStop};
+use zic_base::{RowFault, RowKind, RunStop};
 use zic_convert::{Conversion, convert_column, rows_by_layout};
 use zic_counted::Counted;
 use zic_files::Files;
 use zic_pieces::Open;
 use zic_plan::{
-    AtFault, Delimiter, FaultyRow, FieldCount, Header, Layout, Notes, Plan, Records, RowLog,
-    ZoneFrom,
+    AtFault, Delimiter, FaultyRow, FieldCount, Header, Layout, Notes, Plan, Quotes, Records,
+    RowLog, ZoneFrom,
 };
 use zic_zones::SourceZones;
 
@@ -187,6 +187,7 @@ fn open_and_long_lines_are_noted(rt: HostRuntime) {
     let files = must(&rt, built(&rt, alloc, "Zone Etc/UTC 0 - UTC\n", 1, &Open));
     let mut layout = layout_of(Header::First, Records::Lines);
     layout.max_record = Some(12);
+    layout.quotes = Quotes::Lenient;
     let case = Case {
         files: &files,
         layout: &layout,
@@ -252,31 +253,78 @@ fn a_given_name_is_the_value(rt: HostRuntime) {
     }
 }
 
+/// Columns, the greatest number of bytes of their records, and the faults of their headers.
+static FAULTY_HEADERS: [(&[u8], u64, RowKind); 4] = [
+    (b"\nzone,instant\nEtc/UTC,x\n", 11, RowKind::RowTooLong),
+    (
+        b"\xEF\xBB\xBF\nEtc/UTC,7\nEtc/UTC,x\n",
+        50,
+        RowKind::HeaderIsRow,
+    ),
+    (b"Etc/UTC,999999999999\n", 50, RowKind::HeaderIsRow),
+    (b"zone,\"instant\" \nEtc/UTC,x\n", 50, RowKind::RowQuote),
+];
+
+/// Expects that a column ends at its header, with this fault.
+fn expect_row_0(
+    rt: &(impl Threads + Wait + Sync + Abort),
+    alloc: Global,
+    case: &Case<'_>,
+    kind: RowKind,
+) {
+    let names = match case.layout.header {
+        Header::First => &b"zone,instant,local,offset,daylight,abbreviation\n"[..],
+        Header::Absent | Header::Skipped => &b""[..],
+    };
+    for step in STEPS {
+        let (answer, rows, notes) = converted(rt, alloc, case, step, (1, 1));
+        expect(
+            rt,
+            answer == Err(RunStop::Row { row: 0, kind }),
+            "the row 0",
+        );
+        expect_text(rt, &rows, names, "the line of names");
+        expect_text(rt, &notes, b"", "no note");
+    }
+}
+
 #[test]
-fn a_long_header_is_row_0(rt: HostRuntime) {
+fn a_header_with_a_fault_is_row_0(rt: HostRuntime) {
     let alloc = rt.alloc();
     let files = must(&rt, built(&rt, alloc, "Zone Etc/UTC 0 - UTC\n", 1, &Open));
-    for header in [Header::First, Header::Skipped] {
-        let mut layout = layout_of(header, Records::Csv);
-        layout.max_record = Some(11);
-        let case = Case {
-            files: &files,
-            layout: &layout,
-            column: b"\nzone,instant\nEtc/UTC,x\n",
-            max_faults: None,
-        };
-        let names = match header {
-            Header::First => &b"zone,instant,local,offset,daylight,abbreviation\n"[..],
-            Header::Absent | Header::Skipped => &b""[..],
-        };
-        for step in STEPS {
-            let (answer, rows, notes) = converted(&rt, alloc, &case, step, (1, 1));
-            let row = 0;
-            let kind = RowKind::RowTooLong;
-            expect(&rt, answer == Err(RunStop::Row { row, kind }), "the row 0");
-            expect_text(&rt, &rows, names, "the line of names");
-            expect_text(&rt, &notes, b"", "no note");
+    for (column, most, kind) in &FAULTY_HEADERS {
+        for header in [Header::First, Header::Skipped] {
+            let mut layout = layout_of(header, Records::Csv);
+            layout.max_record = Some(*most);
+            layout.quotes = Quotes::Strict;
+            let case = Case {
+                files: &files,
+                layout: &layout,
+                column: *column,
+                max_faults: None,
+            };
+            expect_row_0(&rt, alloc, &case, *kind);
         }
+    }
+}
+
+#[test]
+fn a_header_in_memory_with_a_fault_is_row_0(rt: HostRuntime) {
+    let alloc = rt.alloc();
+    let files = must(&rt, built(&rt, alloc, "Zone Etc/UTC 0 - UTC\n", 1, &Open));
+    let plan = must(&rt, Plan::new(1, 1, 1, 100, 1000).ok_or(()));
+    for (column, most, kind) in &FAULTY_HEADERS {
+        let mut layout = layout_of(Header::Skipped, Records::Csv);
+        layout.max_record = Some(*most);
+        layout.quotes = Quotes::Strict;
+        let rows = must(&rt, rows_by_layout(alloc, &files, &plan, &layout, *column));
+        let fault = RowFault {
+            row: 0,
+            kind: *kind,
+        };
+        expect(&rt, rows.fault == Some(fault), "the row 0");
+        expect(&rt, rows.count == 0, "no row");
+        expect_text(&rt, &rows.text, b"", "no text");
     }
 }
 

@@ -1,10 +1,9 @@
 -- What the calls on rows by a layout return. Own choice.
-use Rattle.std.specs.Prelude.{◌≡◌, ◌⊎◌, ℕ, ◌+◌, ◌<◌, ◌≤◌, ℤ, List, [], ◌∷◌, ◌++◌, length, map, Option, Some, None, IsSomeAnd}
-use Rattle.zic_convert.specs.Column.{AreRowsByLayout}
+use Rattle.std.specs.Prelude.{◌≡◌, ◌⊎◌, ℕ, ◌<◌, ◌≤◌, ℤ, List, [], ◌∷◌, ◌++◌, length, map, Option, Some, None, IsSomeAnd}
+use Rattle.zic_convert.specs.Memory.{IsConvertedTo}
 use Rattle.zic_files.specs.File.{File}
 use Rattle.zic_base.specs.RowFault.{row_kind_number}
 use Rattle.zic_base.specs.declared.row_fault.RowFault.{RowFault}
-use Rattle.zic_base.specs.declared.row_fault.RowKind.{RowKind}
 use Rattle.zic_plan.specs.declared.layout.Layout.{Layout}
 use Rattle.zic_plan.specs.Noted.{RowNote}
 use Rattle.zic_plan.specs.declared.plan.TheConstants.{MAX_BYTES, MAX_ROWS}
@@ -25,21 +24,21 @@ fault_seen fault = record { row = fault.row; kind = row_kind_number fault.kind }
 abbrev pub note_seen : RowNote → made.RowFault
 note_seen note = fault_seen note.fault
 
--- the rows with a fault, and last the one that ends the run, which is the row after this number of rows
-abbrev pub faults_with_end : List RowNote → ℕ → Option RowKind → List RowNote
-faults_with_end faults count None = faults
-faults_with_end faults count (Some kind) = faults ++ record { fault = record { row = count + 1; kind = kind }; own = [] } ∷ []
+-- the rows with a fault, and last the one that ends the run
+abbrev pub faults_with_end : List RowNote → Option RowFault → List RowNote
+faults_with_end faults None = faults
+faults_with_end faults (Some fault) = faults ++ record { fault = fault; own = [] } ∷ []
 
 -- the status of rows that a fault ended, or none did
-abbrev pub status_of_end : Option RowKind → ℤ
+abbrev pub status_of_end : Option RowFault → ℤ
 status_of_end None = OK
-status_of_end (Some kind) = BAD_ROW
+status_of_end (Some fault) = BAD_ROW
 
--- They are the header and the rows of the column by the layout, up to the first that ends the run, and the faults.
+-- They are the header and the rows of the column by the layout, up to the first that ends the run, and the faults; the header is row 0.
 abbrev pub AreMadeBy : List File → Layout → List ℕ → ℤ → Made → Type 0
 AreMadeBy files layout column status made =
-    (fault : Option RowKind) × (faults : List RowNote) × AreRowsByLayout (alone files) layout MAX_ROWS column made.text.items made.count fault faults
-    × (made.faults.items ≡ map note_seen (faults_with_end faults made.count fault)) × (status ≡ status_of_end fault)
+    (fault : Option RowFault) × (faults : List RowNote) × IsConvertedTo (alone files) layout MAX_ROWS column made.text.items made.count fault faults
+    × (made.faults.items ≡ map note_seen (faults_with_end faults fault)) × (status ≡ status_of_end fault)
 
 -- The handle holds them, or nothing, since memory ran out.
 abbrev pub AreRowsBy : List File → Layout → List ℕ → ℤ → Option Held → Type 0

@@ -42,15 +42,11 @@ fn made_of(alloc: Global, rows: LayoutRows) -> Result<Made, AllocError>
     ensures text { IfOk result (λ made. made.text ≡ rows.text) }
     ensures count { IfOk result (λ made. made.count ≡ rows.count) }
     ensures faults { IfOk result (λ made. made.faults.items
-        ≡ map note_seen (faults_with_end rows.faults.items rows.count rows.fault)) }
+        ≡ map note_seen (faults_with_end rows.faults.items rows.fault)) }
 {
     let mut faults = all_seen(alloc, &rows.faults)?;
-    if let Some(kind) = rows.fault {
-        // A column has too few rows for this to fail.
-        let Some(row) = rows.count.checked_add(1) else {
-            return Err(AllocError);
-        };
-        faults.push(seen(row, kind))?;
+    if let Some(fault) = rows.fault {
+        faults.push(seen(fault.row, fault.kind))?;
     }
     Ok(Made {
         text: rows.text,
@@ -60,7 +56,7 @@ fn made_of(alloc: Global, rows: LayoutRows) -> Result<Made, AllocError>
 }
 
 /// Returns the status of rows that a fault ended, or none did.
-fn status_of(fault: Option<RowKind>) -> i32
+fn status_of(fault: Option<zic_base::RowFault>) -> i32
     ensures { result ≡ status_of_end fault }
 {
     match fault {

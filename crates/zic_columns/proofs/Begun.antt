@@ -1,5 +1,5 @@
 -- A record whose first bytes are in hand: its own bytes are these, and perhaps more.
-use Rattle.std.proofs.Common.{◌≡◌, ◌⊎◌, ◌+◌, ◌<◌, ◌≤◌, ℕ, suc, true, false, List, [], ◌∷◌, ◌++◌, length, length-append, map, Option, Some, None, refl, sym, ap, ◌∙◌, append_assoc, subst, ⊎_elim, arith}
+use Rattle.std.proofs.Common.{◌≡◌, ◌+◌, ◌<◌, ◌≤◌, ℕ, suc, true, false, List, [], ◌∷◌, ◌++◌, length, length-append, map, Option, Some, None, refl, sym, ap, ◌∙◌, append_assoc, subst, ⊎_elim, arith}
 use Rattle.std.specs.Io.KnownBytes.{prepend_known}
 use Rattle.std.proofs.lemmas.Bool.{cases_Bool}
 use Rattle.std.proofs.lemmas.List.Elements.{All-append}
@@ -9,12 +9,11 @@ use Rattle.csv.specs.declared.parser.State.{State}
 use Rattle.csv.specs.declared.parser.State.TheVariants as st
 use Rattle.zic_plan.specs.declared.layout.Records.{Records}
 use Rattle.zic_plan.specs.declared.layout.Records.TheVariants as by
-use Rattle.zic_columns.specs.Column.{ends_line, lines_of}
+use Rattle.zic_columns.specs.Column.{HasNoLineEnd, ends_line, lines_of}
 use Rattle.zic_columns.specs.Lines.{records_by, texts_by}
 use Rattle.zic_columns.specs.Own.{CsvRecord, own_from, own_texts}
 use Rattle.zic_columns.specs.Round.{BeginsTooLong, IsNextTooLong, may_have}
 use Rattle.zic_columns.specs.code.Hand.{AreBegun, UnendedBy}
-use Rattle.zic_columns.specs.code.LineScan.{HasNoLineEnd}
 use Rattle.zic_columns.specs.code.Machine.{BeginsRecord, ReadsTo, state_at}
 use Rattle.zic_columns.specs.declared.machine.Place.{Place}
 use Rattle.zic_columns.proofs.ByMode.{owns_by}

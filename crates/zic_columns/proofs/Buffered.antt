@@ -1,12 +1,11 @@
 -- How long a column's buffer grows.
-use Rattle.std.proofs.Common.{◌≡◌, ◌↔◌, ◌⊎◌, ⊎_elim, ℕ, ◌+◌, ◌-◌, ◌/◌, ◌<◌, ◌≤◌, Bool, true, false, List, length, max, take, drop, slice_range, Option, None, Some, arith}
+use Rattle.std.proofs.Common.{◌≡◌, ◌↔◌, ⊎_elim, ℕ, ◌-◌, ◌<◌, ◌≤◌, Bool, true, false, List, length, max, drop, slice_range, Option, None, Some, arith}
 use Rattle.std.specs.Prelude.{IsTrue}
 use Rattle.std.proofs.lemmas.Bool.{cases_lt}
 use Rattle.std.proofs.lemmas.Bool.Decides.{nat_tests}
 use Rattle.std.proofs.lemmas.List.{length-drop, length-take}
 use Rattle.zic_columns.specs.Round.{ColumnOf, GrowsFor, buffer_for, may_have}
 use Rattle.zic_columns.specs.code.Mark.{ShowsMark}
-use Rattle.zic_columns.specs.declared.buffer.TheConstants.{FIRST_ROOM}
 use Rattle.zic_columns.proofs.MarkFacts.{mark_shown}
 
 -- a part of a list is no longer than the list

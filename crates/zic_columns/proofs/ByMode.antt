@@ -1,14 +1,14 @@
 -- Records wherever they end.
-use Rattle.std.proofs.Common.{◌≡◌, ◌⊎◌, ℕ, List, [], ◌∷◌, ◌++◌, length, map, refl, sym, ap, ◌∙◌}
+use Rattle.std.proofs.Common.{◌≡◌, ◌⊎◌, ℕ, List, [], ◌∷◌, ◌++◌, map, refl, ap}
 use Rattle.zic_plan.specs.declared.layout.Records.{Records}
 use Rattle.zic_plan.specs.declared.layout.Records.TheVariants as by
 use Rattle.zic_columns.specs.Column.{AreWholeRecords, lines_of}
 use Rattle.zic_columns.specs.Laws.{TextsByAreOfRecords}
-use Rattle.zic_columns.specs.Lines.{line_record, records_by, texts_by}
+use Rattle.zic_columns.specs.Lines.{line_record, records_by}
 use Rattle.zic_columns.specs.Own.{CsvRecord, csv_records}
 use Rattle.zic_columns.specs.code.Hand.{ClosedBy}
 use Rattle.zic_columns.proofs.ClosedLines.{closed_alike, closed_front, closed_joined}
-use Rattle.zic_columns.proofs.PieceRecords.{wholes_joined, wholes_none, wholes_owns}
+use Rattle.zic_columns.proofs.PieceRecords.{wholes_joined, wholes_owns}
 
 -- records, and those of what follows, which follows whole records or is nothing
 pub joined_by : (mode : Records) (first rest : List ℕ) → (rest ≡ []) ⊎ AreWholeRecords first → ClosedBy mode first → records_by mode (first ++ rest) ≡ csv_records first ++ records_by mode rest

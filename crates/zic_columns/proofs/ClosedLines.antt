@@ -5,14 +5,14 @@ use Rattle.std.proofs.lemmas.Bool.{cases_Bool}
 use Rattle.std.proofs.lemmas.List.{append-nil, map-append, take_at}
 use Rattle.std.proofs.lemmas.List.Elements.{All-append, All-cons, All-filter, All-head, All-nil, All-tail, All-take, All-weaker, filter-append}
 use Rattle.std.proofs.lemmas.List.Splits.{length-slice_split, slice_split-cons_no, slice_split-cons_yes, slice_split_none}
-use Rattle.zic_columns.specs.Column.{AreWholeRecords, HasNoQuote, ends_line, has_byte, lines_of}
+use Rattle.zic_columns.specs.Column.{AreWholeRecords, HasNoLineEnd, HasNoQuote, ends_line, has_byte, lines_of}
 use Rattle.zic_columns.specs.Laws.{LinesAreCut, LinesWithoutQuotesAreCsv}
 use Rattle.zic_columns.specs.Lines.{line_record, line_records, open_record}
 use Rattle.zic_columns.specs.Quotes.{is_open}
 use Rattle.zic_columns.specs.Own.{CsvRecord, csv_records, own_texts}
 use Rattle.zic_columns.specs.Record.{own_record}
 use Rattle.zic_columns.specs.code.Line.{AreWholeLines}
-use Rattle.zic_columns.specs.code.LineScan.{AllClosed, AreClosedLines, HasNoLineEnd}
+use Rattle.zic_columns.specs.code.LineScan.{AllClosed, AreClosedLines}
 use Rattle.zic_columns.proofs.CutLaw.{line_end_whole}
 use Rattle.zic_columns.proofs.LineStates.{EndsWithLine, own_ended, own_unended, plain_closed, whole_ends, whole_line}
 use Rattle.zic_columns.proofs.OwnLens.{own_end, own_nil}

@@ -34,6 +34,7 @@ pub mod PieceRecords
 pub mod Written
 pub mod OwnRecords
 pub mod OwnLaw
+pub mod FirstRecords
 pub mod Spans
 pub mod WalkFacts
 pub mod SplitFacts

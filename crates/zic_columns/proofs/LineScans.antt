@@ -1,15 +1,15 @@
 -- Whole lines among bytes, as they are looked for.
-use Rattle.std.proofs.Common.{◌≡◌, ◌⊎◌, ℕ, ◌+◌, ◌<◌, ◌≤◌, true, false, List, [], ◌∷◌, ◌++◌, length, take, drop, get_or, Option, Some, None, inl, inr, refl, sym, ap, ap₂, ◌∙◌, arith, append_assoc, subst}
-use Rattle.std.specs.Prelude.{All, MatchOption, is_some}
+use Rattle.std.proofs.Common.{◌≡◌, ℕ, ◌+◌, ◌<◌, ◌≤◌, true, false, List, [], ◌∷◌, ◌++◌, length, take, drop, get_or, Option, Some, None, sym, ap, ap₂, ◌∙◌, arith, append_assoc, subst}
+use Rattle.std.specs.Prelude.{MatchOption, is_some}
 use Rattle.std.proofs.Math.Seq.{take-add}
-use Rattle.std.proofs.lemmas.List.{append-nil, drop-append-le, drop-drop, drop_all, length-drop, length-take-le, take-append-drop, take-append-le, take-take, take_all, take_more}
+use Rattle.std.proofs.lemmas.List.{drop-append-le, drop_all, length-take-le, take-append-drop, take-append-le, take-take, take_more}
 use Rattle.std.proofs.lemmas.List.Elements.{All-append}
 use Rattle.memchr.specs.Find.{IsFirstByte}
-use Rattle.zic_columns.specs.Column.{ends_line}
+use Rattle.zic_columns.specs.Column.{HasNoLineEnd, ends_line}
 use Rattle.zic_columns.specs.Lines.{line_records, open_record}
 use Rattle.zic_columns.specs.Quotes.{is_open}
 use Rattle.zic_columns.specs.code.Hand.{BeginWithLines}
-use Rattle.zic_columns.specs.code.LineScan.{AreClosedLines, HasNoLineEnd, IsFirstLine, IsLineScan, IsOpenLine}
+use Rattle.zic_columns.specs.code.LineScan.{AreClosedLines, IsFirstLine, IsLineScan, IsOpenLine}
 use Rattle.zic_columns.specs.declared.line_scan.FirstLine.TheVariants as first
 use Rattle.zic_columns.specs.declared.line_scan.LineScan.{LineScan}
 use Rattle.zic_columns.specs.declared.line_scan.OpenLine.{OpenLine}

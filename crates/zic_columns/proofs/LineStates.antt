@@ -10,10 +10,9 @@ use Rattle.csv.specs.declared.parser.Action.TheVariants as act
 use Rattle.csv.specs.declared.parser.State.{State}
 use Rattle.csv.specs.declared.parser.State.TheVariants as st
 use Rattle.csv.specs.declared.parser.Terminator.TheVariants as term
-use Rattle.zic_columns.specs.Column.{AreWholeRecords, HasNoQuote, ends_line, state_after}
+use Rattle.zic_columns.specs.Column.{AreWholeRecords, HasNoLineEnd, HasNoQuote, ends_line, state_after}
 use Rattle.zic_columns.specs.Quotes.{is_open, is_quoted}
 use Rattle.zic_columns.specs.Own.{own_from, own_texts}
-use Rattle.zic_columns.specs.code.LineScan.{HasNoLineEnd}
 use Rattle.zic_columns.specs.code.Machine.{state_at}
 use Rattle.zic_columns.specs.declared.machine.Place.{Place}
 use Rattle.zic_columns.specs.declared.machine.Place.TheVariants as place

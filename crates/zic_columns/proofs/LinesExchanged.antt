@@ -1,6 +1,6 @@
 -- Lines as records, in a column in which the delimiter and the comma stand in each other's place.
 use Rattle.zic_plan.specs.Delimiter.{exchange}
-use Rattle.std.proofs.Common.{◌≡◌, ◌==◌, ◌||◌, ◌<◌, ℕ, Bool, true, false, All, List, [], ◌∷◌, ◌++◌, length, map, filter, refl, sym, ap, ap₂, ◌∙◌, subst, ⊎_elim, arith}
+use Rattle.std.proofs.Common.{◌≡◌, ◌||◌, ◌<◌, ℕ, Bool, true, false, All, List, [], ◌∷◌, length, map, filter, refl, sym, ap, ap₂, ◌∙◌, subst, ⊎_elim, arith}
 use Rattle.std.specs.List.{onto_first, slice_split}
 use Rattle.std.specs.Prelude.{if◌then◌else◌}
 use Rattle.std.proofs.lemmas.Bool.{cases_Bool}
@@ -11,14 +11,13 @@ use Rattle.csv.specs.Reading.{default_config, strip_bom}
 use Rattle.csv.specs.declared.parser.State.{State}
 use Rattle.csv.specs.declared.parser.State.TheVariants as st
 use Rattle.zic_plan.specs.declared.layout.Records.TheVariants as by
-use Rattle.zic_columns.specs.Column.{column_records, ends_line, has_byte, lines_of, state_after}
+use Rattle.zic_columns.specs.Column.{HasNoLineEnd, column_records, ends_line, has_byte, lines_of, state_after}
 use Rattle.zic_columns.specs.Exchange.{AreDelimitedRecords, CanDelimit, config_of, exchanged}
 use Rattle.zic_columns.specs.Laws.{RecordsByAreExchanged, RecordsByAreOne, TextsByAreExchanged}
 use Rattle.zic_columns.specs.Lines.{AreLineFields, AreLineRecords, IsLineRecord, exchanged_record, line_record}
 use Rattle.zic_columns.specs.Quotes.{is_open, is_quoted}
-use Rattle.zic_columns.specs.Own.{CsvRecord, paired, csv_records, delimited_texts, own_texts}
+use Rattle.zic_columns.specs.Own.{CsvRecord, paired, delimited_texts, own_texts}
 use Rattle.zic_columns.specs.Record.{first_fields, own_record}
-use Rattle.zic_columns.specs.code.LineScan.{HasNoLineEnd}
 use Rattle.zic_columns.proofs.Exchanges.{are_exchanged, as_other, records_exchanged, step_exchanged, strip_exchanged, texts_exchanged, twice}
 use Rattle.zic_columns.proofs.LineStates.{own_unended}
 use Rattle.zic_columns.proofs.OwnRecords.{of_own_bytes}

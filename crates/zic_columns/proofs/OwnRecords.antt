@@ -1,8 +1,8 @@
 -- The own bytes of a record, by themselves, are that record alone.
-use Rattle.std.proofs.Common.{◌≡◌, ◌+◌, ◌<◌, ℕ, zero, suc, true, false, All, List, [], ◌∷◌, ◌++◌, length, map, refl, sym, ap, ◌∙◌, subst, ⊎_elim, append_assoc, arith}
+use Rattle.std.proofs.Common.{◌≡◌, ◌+◌, ◌<◌, ℕ, zero, suc, true, false, All, List, [], ◌∷◌, ◌++◌, length, map, take, refl, sym, ap, ◌∙◌, subst, ⊎_elim, append_assoc, arith}
 use Rattle.std.proofs.lemmas.Bool.{both_ways, cases_Bool}
 use Rattle.std.proofs.lemmas.List.{append-nil}
-use Rattle.std.proofs.lemmas.List.Elements.{All-cons, All-nil}
+use Rattle.std.proofs.lemmas.List.Elements.{All-cons, All-head, All-nil}
 use Rattle.csv.specs.Machine.{field_after, fields_after, is_end, next_record, step}
 use Rattle.csv.specs.Reading.{default_config}
 use Rattle.csv.specs.declared.parser.Action.{Action}
@@ -11,7 +11,7 @@ use Rattle.csv.specs.declared.parser.State.{State}
 use Rattle.csv.specs.declared.parser.State.TheVariants as st
 use Rattle.zic_columns.specs.Column.{column_records, ends_line}
 use Rattle.zic_columns.specs.Ends.{BeginsWithin}
-use Rattle.zic_columns.specs.Own.{CsvRecord, paired, own_from, own_texts, csv_records}
+use Rattle.zic_columns.specs.Own.{CsvRecord, paired, first_text, own_from, own_texts, csv_records}
 use Rattle.zic_columns.specs.Record.{first_fields, own_record}
 use Rattle.zic_columns.proofs.CutLaw.{in_record, stays}
 use Rattle.zic_columns.proofs.MachineFacts as Machine
@@ -47,6 +47,7 @@ pub record IsRead (s : State) (fields : List (List ℕ)) (field own bytes : List
   pub owns : own_from default_config s own bytes ≡ (own ++ front) ∷ own_from default_config after [] rest
   pub reads : next_record default_config s fields field bytes ≡ took all after rest
   pub alone : next_record default_config s fields field front ≡ took all st.StartRecord []
+  pub single : own_from default_config s own front ≡ (own ++ front) ∷ []
   pub more : ReadsAll s fields field (front ++ 120 ∷ [])
 
 read_last : (s : State) (fields : List (List ℕ)) (field : List ℕ) → in_record s ≡ true
@@ -60,6 +61,9 @@ end_fields act.EndField fields field ends = absurd (cc ends)
 end_fields act.Copy fields field ends = absurd (cc ends)
 end_fields act.Skip fields field ends = absurd (cc ends)
 
+owns_none : (s : State) (own : List ℕ) → in_record s ≡ true → own_from default_config s own [] ≡ (own ++ []) ∷ []
+owns_none s own is = own_last s own is ∙ ap (λ (b : List ℕ). b ∷ []) (sym (append-nil own))
+
 pub read_on : (s : State) (fields : List (List ℕ)) (field own bytes : List ℕ) → in_record s ≡ true → IsRead s fields field own bytes
 read_on s fields field own [] is = record {
   front = [];
@@ -69,6 +73,7 @@ read_on s fields field own [] is = record {
   owns = own_last s own is ∙ ap (λ (b : List ℕ). b ∷ []) (sym (append-nil own)) ∙ ap (λ (t : List (List ℕ)). (own ++ []) ∷ t) (sym own_nil);
   reads = read_last s fields field is;
   alone = read_last s fields field is;
+  single = owns_none s own is;
   more = read_letter s fields field is;
 }
 read_on s fields field own (byte ∷ bytes) is =
@@ -82,6 +87,7 @@ read_on s fields field own (byte ∷ bytes) is =
       owns = own_then s byte own bytes ends ∙ ap (λ (b : List ℕ). b ∷ own_from default_config to.0 [] bytes) (sym (append-nil own));
       reads = next_ends s byte fields field bytes ends ∙ ap (λ (f : List (List ℕ)). took f to.0 bytes) (end_fields to.1 fields field ends);
       alone = read_last s fields field is;
+      single = owns_none s own is;
       more = read_letter s fields field is;
     })
     (λ (goes : is_end to.1 ≡ false).
@@ -95,6 +101,7 @@ read_on s fields field own (byte ∷ bytes) is =
           ∙ ap (λ (b : List ℕ). b ∷ own_from default_config later.after [] later.rest) (append_assoc own (byte ∷ []) later.front);
       reads = next_goes s byte fields field bytes goes ∙ later.reads;
       alone = next_goes s byte fields field later.front goes ∙ later.alone;
+      single = own_more s byte own later.front is goes ∙ later.single ∙ ap (λ (b : List ℕ). b ∷ []) (append_assoc own (byte ∷ []) later.front);
       more = (later.more.0, next_goes s byte fields field (later.front ++ 120 ∷ []) goes ∙ later.more.1);
     })
     (cases_Bool (is_end to.1))
@@ -110,6 +117,7 @@ pub record IsFirstOwn (bytes own rest : List ℕ) : Type 0 where
   pub owns : own_texts bytes ≡ own ∷ own_texts rest
   pub reads : column_records bytes ≡ fields ∷ column_records rest
   pub alone : column_records own ≡ fields ∷ []
+  pub single : own_texts own ≡ own ∷ []
   pub trimmed : IsTrimmed own
 
 read_first : (byte : ℕ) (bytes : List ℕ) → ends_line byte ≡ false
@@ -137,11 +145,15 @@ read_first byte bytes within =
         reads = only (byte ∷ bytes) (later.all ∷ others)
             (records-cons st.StartRecord later.after (byte ∷ bytes) later.rest later.all others reads (Machine.before_record later.after later.rest others left.0 (are_read later.rest)));
         alone = only own (later.all ∷ []) (records-cons st.StartRecord st.StartRecord own [] later.all [] alone records-nil);
+        single = starts byte later.front within ∙ own_more s byte [] later.front refl goes ∙ later.single;
         trimmed = (within, ap length (only (own ++ 120 ∷ []) (later.more.0 ∷ []) (records-cons st.StartRecord st.StartRecord (own ++ 120 ∷ []) [] later.more.0 [] more records-nil)));
       },
     )
 
 -- ---- all records
+
+abbrev IsSingle : List ℕ → Type 0
+IsSingle own = own_texts own ≡ own ∷ []
 
 abbrev IsAlone : CsvRecord → Type 0
 IsAlone w = column_records w.own ≡ w.fields ∷ []
@@ -150,6 +162,7 @@ record AreAlone (bytes : List ℕ) : Type 0 where
   pub each : All IsAlone (csv_records bytes)
   pub same : csv_records bytes ≡ map own_record (own_texts bytes)
   pub trimmed : All IsTrimmed (own_texts bytes)
+  pub single : All IsSingle (own_texts bytes)
 
 wholes_first : (bytes own rest : List ℕ) (is : IsFirstOwn bytes own rest) → csv_records bytes ≡ record { own = own; fields = is.fields } ∷ csv_records rest
 wholes_first bytes own rest is =
@@ -165,13 +178,14 @@ alone_first bytes own rest is later =
           ∙ ap (λ (r : List (List (List ℕ))). record { own = own; fields = first_fields r } ∷ map own_record (own_texts rest)) (sym is.alone)
           ∙ ap (map own_record) (sym is.owns);
       trimmed = subst (All IsTrimmed) (sym is.owns) (All-cons IsTrimmed own (own_texts rest) is.trimmed later.trimmed);
+      single = subst (All IsSingle) (sym is.owns) (All-cons IsSingle own (own_texts rest) is.single later.single);
     }
 
 alone_up_to : (n : ℕ) (bytes : List ℕ) → length bytes < n → AreAlone bytes
 alone_up_to zero bytes few = absurd (omega (arith, few))
 alone_up_to (suc n) [] few =
     let none : csv_records [] ≡ [] = ap (λ (t : List (List ℕ)). paired t (column_records [])) own_nil in
-    record { each = subst (All IsAlone) (sym none) (All-nil IsAlone); same = none ∙ ap (map own_record) (sym own_nil); trimmed = subst (All IsTrimmed) (sym own_nil) (All-nil IsTrimmed) }
+    record { each = subst (All IsAlone) (sym none) (All-nil IsAlone); same = none ∙ ap (map own_record) (sym own_nil); trimmed = subst (All IsTrimmed) (sym own_nil) (All-nil IsTrimmed); single = subst (All IsSingle) (sym own_nil) (All-nil IsSingle) }
 alone_up_to (suc n) (byte ∷ bytes) few = ⊎_elim
     (λ (ends : ends_line byte ≡ true).
     let later = alone_up_to n bytes (omega (arith, few)) in
@@ -181,6 +195,7 @@ alone_up_to (suc n) (byte ∷ bytes) few = ⊎_elim
       each = subst (All IsAlone) (sym same) later.each;
       same = same ∙ later.same ∙ ap (map own_record) (sym (own_end byte bytes ends));
       trimmed = subst (All IsTrimmed) (sym (own_end byte bytes ends)) later.trimmed;
+      single = subst (All IsSingle) (sym (own_end byte bytes ends)) later.single;
     })
     (λ (within : ends_line byte ≡ false).
     let first = read_first byte bytes within in
@@ -198,3 +213,16 @@ each_trimmed bytes = (are_alone bytes).trimmed
 
 pub of_own_bytes : (bytes : List ℕ) → csv_records bytes ≡ map own_record (own_texts bytes)
 of_own_bytes bytes = (are_alone bytes).same
+
+-- ---- the first record
+
+csv_first_none : csv_records [] ≡ []
+csv_first_none = of_own_bytes [] ∙ ap (map own_record) own_nil
+
+csv_first : (bytes : List ℕ) (texts : List (List ℕ)) → own_texts bytes ≡ texts → All IsSingle texts → csv_records (first_text texts) ≡ take 1 (map own_record texts)
+csv_first bytes [] is all = csv_first_none
+csv_first bytes (own ∷ texts) is all = of_own_bytes own ∙ ap (map own_record) (All-head IsSingle own texts all)
+
+-- the own bytes of the first record, by themselves, are that record
+pub first_alone : (bytes : List ℕ) → csv_records (first_text (own_texts bytes)) ≡ take 1 (csv_records bytes)
+first_alone bytes = csv_first bytes (own_texts bytes) refl (are_alone bytes).single ∙ sym (ap (take 1) (of_own_bytes bytes))

@@ -4,13 +4,12 @@ use Rattle.std.specs.Prelude.{IfSome, MatchOption}
 use Rattle.std.specs.Io.KnownBytes.{IsAtEnd}
 use Rattle.std.proofs.lemmas.List.{append-nil, drop_all, take_all}
 use Rattle.csv.specs.declared.parser.State.TheVariants as st
-use Rattle.zic_plan.specs.declared.layout.Records.{Records}
 use Rattle.zic_plan.specs.declared.layout.Records.TheVariants as by
-use Rattle.zic_columns.specs.Column.{AreWholeRecords, column_records}
-use Rattle.zic_columns.specs.Lines.{line_records, open_record, records_by}
+use Rattle.zic_columns.specs.Column.{AreWholeRecords, HasNoLineEnd, column_records}
+use Rattle.zic_columns.specs.Lines.{line_records, open_record}
 use Rattle.zic_columns.specs.Quotes.{is_open}
 use Rattle.zic_columns.specs.code.Hand.{AreBegun, CanBeCut, ClosedBy, IsScannedBy, OpensWith, UnendedBy, mode_of, open_of_scan, whole_of_scan}
-use Rattle.zic_columns.specs.code.LineScan.{HasNoLineEnd, IsOpenLine}
+use Rattle.zic_columns.specs.code.LineScan.{IsOpenLine}
 use Rattle.zic_columns.specs.code.Machine.{BeginsRecord, ReadsTo, state_at}
 use Rattle.zic_columns.specs.declared.line_scan.OpenLine.{OpenLine}
 use Rattle.zic_columns.specs.declared.machine.Place.{Place}

@@ -29,6 +29,10 @@ HasNoQuote bytes = All (λ byte. byte ≢ 34) bytes
 abbrev pub ends_line : ℕ → Bool
 ends_line byte = byte == 13 || byte == 10
 
+-- no line ends in these bytes
+abbrev pub HasNoLineEnd : List ℕ → Type 0
+HasNoLineEnd bytes = All (λ byte. ends_line byte ≡ false) bytes
+
 abbrev pub has_byte : List ℕ → Bool
 has_byte [] = false
 has_byte (byte ∷ bytes) = true

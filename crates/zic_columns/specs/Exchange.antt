@@ -1,6 +1,6 @@
 -- Columns with another byte than a comma between fields.
 use Rattle.zic_plan.specs.Delimiter.{exchange}
-use Rattle.std.specs.Prelude.{◌≢◌, ◌<◌, ◌==◌, ℕ, List, map, if◌then◌else◌}
+use Rattle.std.specs.Prelude.{◌≢◌, ◌<◌, ℕ, List, map}
 use Rattle.csv.specs.Reading.{AreRecords, default_config}
 use Rattle.csv.specs.declared.parser.Config.{Config}
 use Rattle.csv.specs.declared.parser.State.TheVariants as st

@@ -2,12 +2,12 @@
 use Rattle.std.specs.Prelude.{◌≡◌, ◌<◌, ℕ, true, false, List, [], ◌∷◌, ◌++◌, All, Some, length, map, take}
 use Rattle.csv.specs.Reading.{strip_bom}
 use Rattle.csv.specs.Writing.{default_writer, row_text, with_delimiter}
-use Rattle.zic_columns.specs.Column.{AreColumnRecords, AreWholeRecords, HasNoQuote, IsBeforeRecord, column_records, ends_line, lines_of, plain_records}
+use Rattle.zic_columns.specs.Column.{AreColumnRecords, AreWholeRecords, HasNoLineEnd, HasNoQuote, IsBeforeRecord, column_records, ends_line, lines_of, plain_records}
 use Rattle.zic_columns.specs.Ends.{AreBetweenEnds, BeginsWithin}
 use Rattle.zic_columns.specs.Exchange.{AreDelimitedRecords, CanDelimit, exchanged}
-use Rattle.zic_columns.specs.Lines.{AreRecordsBy, delimited_texts_by, exchanged_record, line_records, records_by, texts_by}
-use Rattle.zic_columns.specs.Own.{CsvRecord, paired, delimited_texts, own_texts, csv_records}
-use Rattle.zic_columns.specs.Quotes.{IsRfcField, delimited, has_stray}
+use Rattle.zic_columns.specs.Lines.{AreRecordsBy, delimited_texts_by, exchanged_record, line_records, open_record, records_by, texts_by}
+use Rattle.zic_columns.specs.Own.{CsvRecord, paired, delimited_texts, first_text, own_texts, csv_records}
+use Rattle.zic_columns.specs.Quotes.{IsRfcField, delimited, has_stray, is_open}
 use Rattle.zic_columns.specs.Record.{own_record}
 use Rattle.zic_columns.specs.Truncated.{truncated}
 use Rattle.zic_plan.specs.declared.layout.Records.{Records}
@@ -136,3 +136,11 @@ PlainBytesHaveNoStray = (delimiter : ℕ) (own : List ℕ) → CanDelimit delimi
 -- The own bytes of a record as RFC 4180 has it have no stray double quote.
 abbrev pub RfcRecordsHaveNoStray : Type 0
 RfcRecordsHaveNoStray = (delimiter : ℕ) (fields : List (List ℕ)) → CanDelimit delimiter → All (IsRfcField delimiter) fields → has_stray delimiter (delimited delimiter fields) ≡ false
+
+-- The own bytes of the first record, by themselves, are that record alone. A line has no line end. By itself it is what a CSV reader makes of
+-- it, or, where it is open, a record without fields.
+pub record FirstRecordIsAlone : Type 0 where
+  pub same : (by : Records) (bytes : List ℕ) → records_by by (first_text (texts_by by bytes)) ≡ take 1 (records_by by bytes)
+  pub ended : (bytes : List ℕ) → HasNoLineEnd (first_text (lines_of bytes))
+  pub closed : (line : List ℕ) → HasNoLineEnd line → is_open 44 line ≡ false → line_records line ≡ csv_records line
+  pub opened : (line : List ℕ) → HasNoLineEnd line → is_open 44 line ≡ true → line_records line ≡ open_record line ∷ []

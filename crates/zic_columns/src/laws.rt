@@ -4,7 +4,7 @@ ghost use Rattle.zic_columns.specs.Laws.{ColumnRecordsAreRead, PlainRecordsAreRe
 ghost use Rattle.zic_columns.specs.Laws.{DelimitedRecordsAreOne, RecordsAreExchanged, RecordsAreOne};
 ghost use Rattle.zic_columns.specs.Laws.{RowsAreExchanged};
 ghost use Rattle.zic_columns.specs.Laws.{PairsAreMapped, OwnTextsAreOfRecords, PiecesHaveRecords};
-ghost use Rattle.zic_columns.specs.Laws.{ColumnIsOwnBytes, OwnBytesAreRecords, OwnBytesAreTrimmed, RecordsAreOfOwnBytes};
+ghost use Rattle.zic_columns.specs.Laws.{ColumnIsOwnBytes, FirstRecordIsAlone, OwnBytesAreRecords, OwnBytesAreTrimmed, RecordsAreOfOwnBytes};
 ghost use Rattle.zic_columns.specs.Laws.{LinesAreCut, LinesAreTruncated, LinesWithoutQuotesAreCsv};
 ghost use Rattle.zic_columns.specs.Laws.{PlainBytesHaveNoStray, RecordsByAreExchanged, RfcRecordsHaveNoStray, StraysAreExchanged};
 ghost use Rattle.zic_columns.specs.Laws.{RecordsByAreOne, TextsByAreExchanged, TextsByAreOfRecords};
@@ -150,4 +150,9 @@ pub fn plain_bytes_have_no_stray()
 /// States that a record as RFC 4180 has it has no stray double quote.
 pub fn rfc_records_have_no_stray()
     ensures { RfcRecordsHaveNoStray }
+{}
+
+/// States that the own bytes of the first record, by themselves, are that record alone.
+pub fn first_record_is_alone()
+    ensures { FirstRecordIsAlone }
 {}

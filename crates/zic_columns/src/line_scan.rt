@@ -1,9 +1,9 @@
 //! Whole lines among the bytes in hand, where each line is a record.
 
 ghost use Rattle.std.specs.Prelude.{◌≡◌, ◌≤◌, All, drop, false, length, take};
-ghost use Rattle.zic_columns.specs.Column.{ends_line};
+ghost use Rattle.zic_columns.specs.Column.{HasNoLineEnd, ends_line};
 ghost use Rattle.zic_columns.specs.Quotes.{is_open};
-ghost use Rattle.zic_columns.specs.code.LineScan.{AreClosedLines, HasNoLineEnd, IsFirstLine, IsLineScan};
+ghost use Rattle.zic_columns.specs.code.LineScan.{AreClosedLines, IsFirstLine, IsLineScan};
 
 use crate::hand::lines_before_quote;
 use crate::machine::{Place, place_after};
@@ -47,6 +47,17 @@ pub(crate) fn is_open(line: &[u8]) -> bool
         }
     }
     matches!(place_now, Place::Quoted)
+}
+
+/// Returns whether the double quotes of a line are open at its end. Returns false for bytes with a line
+/// end.
+pub fn is_open_line(line: &[u8]) -> bool
+    ensures { HasNoLineEnd line.now → result ≡ is_open 44 line.now }
+{
+    match memchr2(b'\r', b'\n', line) {
+        None => is_open(line),
+        Some(_) => false,
+    }
 }
 
 /// Finds the end of the first line.

@@ -1,6 +1,6 @@
 //! A round of a column.
 
-ghost use Rattle.std.specs.Prelude.{◌≡◌, ◌<◌, ◌≤◌, length, take, Some};
+ghost use Rattle.std.specs.Prelude.{◌≡◌, ◌<◌, ◌≤◌, ◌∷◌, [], length, take, Some};
 ghost use Rattle.std.specs.List.{slice_get};
 
 use crate::pieces::PieceRange;
@@ -55,6 +55,7 @@ impl<'a> Round<'a> {
         let range = ranges[index];
         &self.bytes[range.start..range.end]
     }
+
     /// Returns the number of line feeds in the column before the piece with this index, where they are
     /// counted. Clauses don't see it.
     pub fn lines_before(&self, index: usize) -> Option<u64>
@@ -63,5 +64,50 @@ impl<'a> Round<'a> {
         let ranges = self.ranges;
         let range = ranges[index];
         range.lines_before
+    }
+}
+
+/// Some bytes as a round by themselves. Clauses see the bytes.
+#[derive(Drop)]
+pub struct OnePiece<'a> {
+    bytes: &'a [u8],
+    ranges: [PieceRange; 1],
+}
+
+impl<'a> Model for OnePiece<'a> {
+    ghost use Rattle.std.specs.Prelude.{◌≡◌, [], ◌∷◌, ℕ, List, None, length};
+
+    ghost Value = { List ℕ };
+
+    ghost view = { λ one. one.bytes.now };
+
+    ghost invariant = { λ one. one.ranges
+        ≡ record { start = 0; «end» = length one.bytes.now; lines_before = None } ∷ [] };
+}
+
+impl<'a> OnePiece<'a> {
+    /// Returns a round of these bytes.
+    pub fn new(bytes: &'a [u8]) -> OnePiece<'a>
+        ensures { result ≡ bytes.now }
+    {
+        let range = PieceRange {
+            start: 0,
+            end: bytes.len(),
+            lines_before: None,
+        };
+        OnePiece {
+            bytes,
+            ranges: [range],
+        }
+    }
+
+    /// Returns the round, which has one piece.
+    pub fn round(&self) -> Round<'_>
+        ensures { result ≡ self.now ∷ [] }
+    {
+        Round {
+            bytes: self.bytes,
+            ranges: &self.ranges,
+        }
     }
 }

@@ -1,6 +1,6 @@
 -- Rows that are made in memory, round after round.
 use Rattle.std.proofs.Common.{◌≡◌, ◌≤◌, ◌+◌, ◌∙◌, ℕ, true, false, List, [], ◌∷◌, ◌++◌, length, map, take, drop, Option, Some, None, Result, Ok, Err, refl, sym, ap, ap₂, subst, append_assoc, arith}
-use Rattle.std.specs.Prelude.{IsSome, IfSome, OnOk, is_err, is_some, slice_get}
+use Rattle.std.specs.Prelude.{IsSome, IfSome, OnOk, is_err, is_some, option_map, slice_get}
 use Rattle.std.specs.Io.KnownBytes.{Appends}
 use Rattle.std.proofs.lemmas.List.{append-nil, drop-map, take-append-drop}
 use Rattle.csv.specs.Reading.{strip_bom}
@@ -15,16 +15,23 @@ use Rattle.zic_zones.specs.declared.releases.Releases.{Releases}
 use Rattle.zic_plan.specs.Delimiter.{is_delimiter}
 use Rattle.zic_plan.specs.Layout.{records_before}
 use Rattle.zic_plan.specs.declared.layout.Layout.{Layout}
+use Rattle.zic_base.specs.declared.row_fault.RowFault.{RowFault}
 use Rattle.zic_base.specs.declared.row_fault.RowKind.{RowKind}
-use Rattle.zic_convert.specs.Column.{AreRowsByLayout, names_line, own_line, read_by}
+use Rattle.zic_base.specs.declared.run_stop.RunStop.TheVariants as stop
+use Rattle.zic_convert.specs.declared.memory.LayoutRows.{LayoutRows}
+use Rattle.zic_convert.specs.declared.halt.Halt.{Halt}
+use Rattle.zic_convert.specs.declared.halt.Halt.TheVariants as halt
+use Rattle.zic_counted.specs.Counts.{Counts}
+use Rattle.zic_convert.specs.Memory.{AreRowsByLayout, IsEndAtHeader}
+use Rattle.zic_convert.specs.Column.{names_line, own_line, read_by}
 use Rattle.zic_layout_rows.specs.LayoutRows.{RecordsConvertBy, ends_by}
-use Rattle.zic_convert.specs.code.Memory.{AreRowsOfLeft, AreRowsSoFar}
+use Rattle.zic_convert.specs.code.Memory.{AreRowsBelow, AreRowsOfLeft, AreRowsSoFar, IsEndOfHeader}
 use Rattle.zic_layout_rows.specs.code.Row.{followed_by}
-use Rattle.zic_convert.specs.code.Progress.{BeginsRows, Takes, longest_of, own_line_in}
+use Rattle.zic_convert.specs.code.Progress.{BeginsRows, HaltsAtHead, Takes, header_fault_in, longest_of, own_line_in}
 use Rattle.zic_convert.specs.code.Row.{records_in, records_of_all}
 use Rattle.zic_layout_rows.specs.PieceRows.{AreRowsOf, RowsOf, csv_records_in}
 use Rattle.zic_layout_rows.proofs.Coming.{no_rows, one_fault, rows_followed, within}
-use Rattle.zic_convert.proofs.Delimited.{own_line_delimited, records_alike}
+use Rattle.zic_convert.proofs.Delimited.{header_put_back, own_line_delimited, records_alike}
 use Rattle.zic_convert.proofs.Halts.{as_many}
 use Rattle.zic_convert.proofs.Options.{for_some, if_some}
 use Rattle.zic_convert.proofs.Progress.{long_comes_next}
@@ -38,6 +45,9 @@ none_if (Some x) e = absurd (cc e)
 pub ok_if : {X E : Type 0} (r : Result X E) (P : Type 0) → is_err r ≡ false → OnOk r P → P
 ok_if (Ok x) P e h = h
 ok_if (Err x) P e h = absurd (cc e)
+
+same_row : (row : ℕ) (kind other : RowKind) → stop.Row row kind ≡ stop.Row 0 other → ◌≡◌ {A = RowFault} (record { row = row; kind = kind }) (record { row = 0; kind = other })
+same_row row kind other same = cc same
 
 module _ (layout : Layout) (releases : Releases) (most : ℕ) where
   -- there are no more rows than there may be
@@ -135,24 +145,53 @@ module _ (layout : Layout) (releases : Releases) (most : ℕ) where
 
   -- the header and the rows of a column in which the delimiter and commas are exchanged
   pub rows_by : RecordsByAreExchanged → TextsByAreExchanged → is_delimiter layout.delimiter ≡ true → (column : List ℕ) (inside left : Option (List ℕ)) → inside ≡ Some (exchanged layout.delimiter (read_by layout column))
-      → IfSome inside (λ bytes. BeginsRows layout bytes left) → (empty named headed text : List ℕ) → empty ≡ [] → Appends (Some empty) (Some named) (names_line layout)
-      → IfSome inside (λ bytes. Appends (Some named) (Some headed) (own_line_in layout bytes)) → (rows : RowsOf) → AreRowsOfLeft layout releases most left rows → text ≡ headed ++ rows.text
-      → AreRowsByLayout releases layout most column text rows.count rows.fault rows.faults
-  rows_by law own_law can column inside left is begins empty named headed text none names head rows are e =
+      → IfSome inside (λ bytes. BeginsRows layout bytes left) → IfSome inside (λ bytes. header_fault_in layout releases.zones bytes ≡ None)
+      → (empty named headed : List ℕ) → empty ≡ [] → Appends (Some empty) (Some named) (names_line layout)
+      → IfSome inside (λ bytes. Appends (Some named) (Some headed) (own_line_in layout bytes)) → (made : LayoutRows) → AreRowsBelow layout releases most left headed made
+      → AreRowsByLayout releases layout most column made.text.items made.count made.fault made.faults.items
+  rows_by law own_law can column inside left is begins right empty named headed none names head made below =
       let d = layout.delimiter in
       let k = records_before layout.header in
       let bytes = exchanged d (read_by layout column) in
+      let rows = below.rows in
       let (rest, at, same) = for_some inside _ bytes begins is in
       let all : records_in layout rest ≡ drop k (records_in layout (strip_bom bytes)) =
       ap (map (exchanged_record d)) same ∙ sym (drop-map (exchanged_record d) k (records_by layout.records (strip_bom bytes))) in
       let line = subst (λ (l : List ℕ). Appends (Some named) (Some headed) l) (own_line_delimited layout own_law can column) (for_some inside _ bytes head is) in
-      let made = subst (λ (l : List CsvRecord). AreRowsOf layout releases most 1 l rows) all (for_some left _ rest are at) in
+      let of_rest = subst (λ (l : List CsvRecord). AreRowsOf layout releases most 1 l rows) all (for_some left _ rest below.are at) in
       record {
+        header = header_put_back layout law can column releases.zones None (sym (for_some inside _ bytes right is));
         row_records = drop k (records_in layout (strip_bom bytes));
         are = records_alike layout law can column;
-        texts = made.texts;
-        rows = made.come;
-        text_is = e ∙ ap₂ (λ (a b : List ℕ). a ++ b) (line ∙ ap (λ (l : List ℕ). l ++ own_line layout column) (names ∙ ap (λ (l : List ℕ). l ++ names_line layout) none)) made.text;
-        count_is = made.count;
-        faults_are = made.faults;
+        texts = of_rest.texts;
+        kind = rows.fault;
+        rows = of_rest.come;
+        text_is = below.text ∙ ap₂ (λ (a b : List ℕ). a ++ b) (line ∙ ap (λ (l : List ℕ). l ++ own_line layout column) (names ∙ ap (λ (l : List ℕ). l ++ names_line layout) none)) of_rest.text;
+        count_is = below.count ∙ of_rest.count;
+        fault_is = below.fault ∙ ap (λ (n : ℕ). option_map (λ kind. record { row = n + 1; kind = kind }) rows.fault) (sym below.count);
+        faults_are = below.faults ∙ of_rest.faults;
       }
+
+  -- or the header has a fault
+  pub header_refused : {W : Type 0} (contents : W → Option (List ℕ)) (items : W → List ℕ) (old new : Counts W) → RecordsByAreExchanged → is_delimiter layout.delimiter ≡ true → (column : List ℕ) (inside : Option (List ℕ))
+      → inside ≡ Some (exchanged layout.delimiter (read_by layout column)) → (empty : List ℕ) → empty ≡ [] → Appends (Some empty) (Some (items old.inner)) (names_line layout)
+      → (why : Halt) → HaltsAtHead contents old new layout releases.zones inside why → (made : LayoutRows) → IsEndOfHeader why (items new.inner) made
+      → IsEndAtHeader releases layout column made.text.items made.count made.fault made.faults.items
+  header_refused contents items old new law can column inside is empty none names (halt.Stop (stop.Row row kind)) ends made end =
+      let at = ends.1 in
+      record {
+        kind = at.kind;
+        header = header_put_back layout law can column releases.zones (Some at.kind) (sym (for_some inside _ (exchanged layout.delimiter (read_by layout column)) at.fault is));
+        text_is = end.0 ∙ ap (λ (w : Counts _). items w.inner) ends.0 ∙ names ∙ ap (λ (l : List ℕ). l ++ names_line layout) none;
+        count_is = end.1;
+        fault_is = end.2 ∙ ap (λ (f : RowFault). Some f) (same_row row kind at.kind at.is);
+        faults_are = end.3;
+      }
+  header_refused contents items old new law can column inside is empty none names halt.Unread ends made end = absurd end
+  header_refused contents items old new law can column inside is empty none names (halt.Stop (stop.Source fault)) ends made end = absurd end
+  header_refused contents items old new law can column inside is empty none names (halt.Stop stop.ReadFailed) ends made end = absurd end
+  header_refused contents items old new law can column inside is empty none names (halt.Stop stop.WriteFailed) ends made end = absurd end
+  header_refused contents items old new law can column inside is empty none names (halt.Stop stop.ColumnTooLong) ends made end = absurd end
+  header_refused contents items old new law can column inside is empty none names (halt.Stop stop.Memory) ends made end = absurd end
+  header_refused contents items old new law can column inside is empty none names (halt.Stop stop.NoThread) ends made end = absurd end
+  header_refused contents items old new law can column inside is empty none names (halt.Stop stop.LogFailed) ends made end = absurd end

@@ -1,5 +1,5 @@
 -- Rows below a header that was written.
-use Rattle.std.proofs.Common.{◌≡◌, ◌∙◌, ◌++◌, ◌-◌, ◌⊎◌, ℕ, zero, suc, List, [], ◌∷◌, Option, take, inl, inr, refl, sym, ap, subst, append_assoc, arith}
+use Rattle.std.proofs.Common.{◌≡◌, ◌∙◌, ◌++◌, ◌-◌, ◌⊎◌, ℕ, zero, suc, List, [], ◌∷◌, Option, None, take, inl, inr, refl, sym, ap, subst, append_assoc, arith}
 use Rattle.std.proofs.lemmas.List.{append-nil}
 use Rattle.std.specs.Io.{StartsWith}
 use Rattle.std.specs.Io.KnownBytes.{Appends}
@@ -17,6 +17,7 @@ use Rattle.zic_base.specs.declared.run_stop.RunStop.{RunStop}
 use Rattle.zic_base.specs.declared.run_stop.RunStop.TheVariants as stop
 use Rattle.zic_convert.specs.Column.{AreRowRecords, header_of, header_text, names_added, names_line, names_of, own_line}
 use Rattle.zic_layout_rows.specs.LayoutRows.{faults_by}
+use Rattle.zic_convert.specs.Header.{IsHeaderFault}
 use Rattle.zic_convert.specs.Run.{AreFew, EndsAfterLines, EndsAtHeader, EndsIn, HasNames, Notes, WritesRows}
 use Rattle.zic_convert.specs.code.Progress.{ConvertsColumn, EndsInColumn, output}
 use Rattle.zic_convert.proofs.Bytes.{starts_later}
@@ -158,28 +159,27 @@ module _ (layout : Layout) (releases : Releases) (most : ℕ) (limit : Option �
 
 module _ (layout : Layout) (most : ℕ) (limit : Option ℕ) (known : Option (List ℕ)) (releases : Releases) (old mid new : Option (List ℕ)) (log last : Option (List RowNote)) (begun : Appends old mid (names_line layout)) where
   pub column_after_names : (n : ℕ) → ConvertsColumn layout most limit known n (output mid new log last) releases
-      → IfSome known (λ column. (row_records : List CsvRecord) × AreRowRecords layout column row_records × WritesRows layout releases most limit (header_text layout column) row_records n (output old new log last))
+      → IfSome known (λ column. IsHeaderFault layout releases.zones column None
+      × (row_records : List CsvRecord) × AreRowRecords layout column row_records × WritesRows layout releases most limit (header_text layout column) row_records n (output old new log last))
   column_after_names n all = if_some known _ (λ column e.
-      let (row_records, are, w) = for_some known _ column all e in
-      (row_records, are, rows_after_names layout releases most limit column row_records old mid new log last begun n w))
+      let (fault, row_records, are, w) = for_some known _ column all e in
+      (fault, row_records, are, rows_after_names layout releases most limit column row_records old mid new log last begun n w))
 
   pub column_ends_after_names : (why : RunStop) → EndsInColumn layout most limit known why (output mid new log last) releases
-      → IfSome known (λ column. EndsAtHeader layout column why (names_line layout) (output old new log last)
+      → IfSome known (λ column. EndsAtHeader layout releases.zones column why (names_line layout) (output old new log last)
       ⊎ ((row_records : List CsvRecord) × AreRowRecords layout column row_records × EndsIn layout releases most limit (header_text layout column) row_records why (output old new log last)
       × HasNames layout (output old new log last)))
   column_ends_after_names why ends = if_some known _ (λ column e. below column (for_some known _ column ends e))
     where
-      below : (column : List ℕ) → EndsAtHeader layout column why [] (output mid new log last)
+      below : (column : List ℕ) → EndsAtHeader layout releases.zones column why [] (output mid new log last)
           ⊎ ((row_records : List CsvRecord) × AreRowRecords layout column row_records × EndsIn layout releases most limit (own_line layout column) row_records why (output mid new log last))
-          → EndsAtHeader layout column why (names_line layout) (output old new log last)
+          → EndsAtHeader layout releases.zones column why (names_line layout) (output old new log last)
           ⊎ ((row_records : List CsvRecord) × AreRowRecords layout column row_records × EndsIn layout releases most limit (header_text layout column) row_records why (output old new log last)
           × HasNames layout (output old new log last))
       below column (inl h) = inl (record {
+        kind = h.kind;
         is = h.is;
-        header = h.header;
-        all = h.all;
-        are = h.are;
-        long = h.long;
+        fault = h.fault;
         wrote = subst (λ (l : List ℕ). Appends old new l) (append-nil (names_line layout)) (appends-more old mid new (names_line layout) [] begun h.wrote);
         noted = h.noted;
       })

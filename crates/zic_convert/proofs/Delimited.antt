@@ -1,5 +1,5 @@
 -- Columns in which the delimiter and the comma stand in each other's place.
-use Rattle.std.proofs.Common.{◌≡◌, ◌≢◌, ◌<◌, ◌==◌, ℕ, Bool, true, false, not, List, [], ◌∷◌, map, drop, refl, sym, ap, ◌∙◌, arith}
+use Rattle.std.proofs.Common.{◌≡◌, ◌≢◌, ◌<◌, ◌==◌, ℕ, Bool, true, false, not, List, [], ◌∷◌, Option, map, drop, refl, sym, ap, ◌∙◌, arith}
 use Rattle.std.specs.Prelude.{nat_le, ◌&&◌, ◌||◌, if◌then◌else◌, length}
 use Rattle.std.specs.Char.{is_ascii_alphanumeric}
 use Rattle.std.specs.List.{list_all, slice_split}
@@ -10,6 +10,8 @@ use Rattle.csv.specs.Reading.{strip_bom}
 use Rattle.zic_words.specs.Dash.{is_dash}
 use Rattle.zic_words.specs.Name.{is_name, is_name_byte, is_name_part}
 use Rattle.zic_words.specs.declared.name.TheConstants.{LONGEST_NAME}
+use Rattle.zic_base.specs.declared.row_fault.RowKind.{RowKind}
+use Rattle.zic_files.specs.File.{File}
 use Rattle.zic_columns.specs.Exchange.{CanDelimit, exchanged}
 use Rattle.zic_columns.specs.Laws.{RecordsByAreExchanged, TextsByAreExchanged}
 use Rattle.zic_columns.specs.Lines.{delimited_texts_by, texts_by}
@@ -22,7 +24,8 @@ use Rattle.zic_plan.specs.declared.layout.Layout.{Layout}
 use Rattle.zic_zones.specs.Zones.{field_at}
 use Rattle.zic_layout_rows.specs.LayoutRows.{if_aside}
 use Rattle.zic_convert.specs.Column.{AreRowRecords, header_aside, header_of, names_added, own_header, own_line, read_by}
-use Rattle.zic_convert.specs.code.Progress.{header_aside_in, own_line_in}
+use Rattle.zic_convert.specs.Header.{IsHeaderFault}
+use Rattle.zic_convert.specs.code.Progress.{header_aside_in, header_fault_in, own_line_in}
 use Rattle.zic_convert.specs.code.Row.{records_in}
 
 -- what a byte that can stand between fields is not
@@ -103,6 +106,15 @@ records_alike layout law is column = record {
   all = records_in layout (strip_bom (exchanged layout.delimiter (read_by layout column)));
   are = law layout.records layout.delimiter (read_by layout column) (can_delimit layout.delimiter is);
   is = refl;
+}
+
+-- and so is the fault of its header
+pub header_put_back : (layout : Layout) → RecordsByAreExchanged → is_delimiter layout.delimiter ≡ true → (column : List ℕ) (files : List File) (fault : Option RowKind)
+    → fault ≡ header_fault_in layout files (exchanged layout.delimiter (read_by layout column)) → IsHeaderFault layout files column fault
+header_put_back layout law can column files fault same = record {
+  all = records_in layout (strip_bom (exchanged layout.delimiter (read_by layout column)));
+  are = law layout.records layout.delimiter (read_by layout column) (can_delimit layout.delimiter can);
+  is = same;
 }
 
 first_put : (d : ℕ) (texts : List (List ℕ)) → exchanged d (first_text texts) ≡ first_text (map (exchanged d) texts)

@@ -86,7 +86,7 @@ read_as layout releases most limit header row_records why out w = record {
 
 module _ (layout : Layout) (most : ℕ) (limit : Option ℕ) (known : Option (List ℕ)) (out : Output) (releases : Releases) where
   all_read : (n : ℕ) → ConvertsColumn layout most limit known n out releases → EndsInColumn layout most limit known stop.ReadFailed out releases
-  all_read n all = if_some known _ (λ column e. (let (row_records, are, w) = for_some known _ column all e in inr (row_records, are, all_lines layout releases most limit _ row_records n stop.ReadFailed out w)))
+  all_read n all = if_some known _ (λ column e. (let (_, row_records, are, w) = for_some known _ column all e in inr (row_records, are, all_lines layout releases most limit _ row_records n stop.ReadFailed out w)))
 
   ends_as_read : {R : Type 0} (reader : Counts R) (failures taken most_bytes : ℕ) (why : RunStop) → IsReadingStop reader failures taken most_bytes why → EndsInColumn layout most limit known stop.ReadFailed out releases
       → EndsInColumn layout most limit known why out releases

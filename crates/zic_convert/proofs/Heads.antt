@@ -1,5 +1,5 @@
 -- The header before rows, and the rows of a column after it.
-use Rattle.std.proofs.Common.{◌≡◌, ◌∙◌, ◌⊎◌, ℕ, true, List, [], ◌∷◌, Option, Some, drop, map, inl, inr, refl, sym, ap, ap₂, subst}
+use Rattle.std.proofs.Common.{◌≡◌, ◌∙◌, ◌⊎◌, ℕ, true, List, [], ◌∷◌, Option, Some, None, drop, map, take, inl, inr, refl, sym, ap, ap₂, subst}
 use Rattle.std.proofs.lemmas.List.{append-nil, drop-map, length-map}
 use Rattle.std.specs.Io.{StartsWith}
 use Rattle.std.specs.Io.KnownBytes.{Appends}
@@ -22,24 +22,48 @@ use Rattle.zic_plan.specs.declared.layout.Layout.{Layout}
 use Rattle.zic_plan.specs.declared.layout.Records.{Records}
 use Rattle.zic_plan.specs.Noted.{RowNote}
 use Rattle.zic_base.specs.declared.row_fault.RowKind.{RowKind}
+use Rattle.zic_base.specs.declared.row_fault.RowKind.TheVariants as kinds
+use Rattle.zic_files.specs.File.{File}
 use Rattle.zic_base.specs.declared.run_stop.RunStop.{RunStop}
 use Rattle.zic_base.specs.declared.run_stop.RunStop.TheVariants as stop
 use Rattle.zic_convert.specs.Column.{AreRowRecords, header_aside, header_of, names_added, own_header, own_line, read_by}
 use Rattle.zic_convert.specs.Run.{EndsAfterLines, EndsAtHeader, EndsIn, LogBegan, WritesRows}
 use Rattle.zic_convert.specs.code.Halt.{IsCauseOfHalt, stop_of}
-use Rattle.zic_convert.specs.code.Progress.{BeginsRows, ConvertsColumn, ConvertsRest, EndsInColumn, EndsInRest, HaltsAtBegin, HaltsAtHead, HaltsAtHeader, IsAtLongHeader, header_aside_in, output, own_line_in}
+use Rattle.zic_convert.specs.Header.{header_fault}
+use Rattle.zic_convert.specs.code.Progress.{BeginsRows, ConvertsColumn, ConvertsRest, EndsInColumn, EndsInRest, HaltsAtBegin, HaltsAtHead, HaltsAtHeader, IsAtHeader, IsAtLongHeader, header_aside_in, header_fault_in, output, own_line_in}
 use Rattle.zic_convert.specs.code.Row.{records_in}
 use Rattle.zic_convert.specs.code.Written.{EndsAtHead, Wrote}
 use Rattle.zic_convert.specs.declared.halt.Halt.{Halt}
 use Rattle.zic_convert.specs.declared.halt.Halt.TheVariants as halt
 use Rattle.zic_convert.proofs.Below.{ends_below, rows_below}
 use Rattle.zic_convert.proofs.Bytes.{fails_later, starts_later, wrote_both}
-use Rattle.zic_convert.proofs.Delimited.{aside_delimited, can_delimit, own_line_delimited, records_alike}
+use Rattle.zic_convert.proofs.Delimited.{aside_delimited, header_put_back, own_line_delimited, records_alike}
 use Rattle.zic_convert.proofs.Logs.{notes_none}
 use Rattle.zic_convert.proofs.Options.{for_some, if_some}
 use Rattle.zic_convert.proofs.Sounds.{both_known}
 use Rattle.zic_convert.proofs.TooMany.{none_few}
 use Rattle.zic_convert.proofs.Totals.{all_come}
+
+-- the first record is as long with the delimiter put back
+long_put : (d : ℕ) (most : Option ℕ) (given : List CsvRecord) → BeginsTooLong most given → BeginsTooLong most (map (exchanged_record d) given)
+long_put d most [] none = none
+long_put d most (first ∷ others) is = rw (length-map first.own (exchange d)) is
+
+-- a header that has too many bytes has that fault
+long_fault : (layout : Layout) (files : List File) (given : List CsvRecord) → BeginsTooLong layout.max_record given → header_fault layout files (take 1 given) ≡ Some kinds.RowTooLong
+long_fault layout files [] none = absurd none
+long_fault layout files (first ∷ others) is = rw is refl
+
+at_long : (layout : Layout) (files : List File) (known : Option (List ℕ)) (why : RunStop) → IsAtLongHeader layout known why → IsAtHeader layout files known why
+at_long layout files known why at = record {
+  kind = kinds.RowTooLong;
+  is = at.is;
+  fault = if_some known _ (λ column e.
+      let records = records_by layout.records (strip_bom column) in
+      let long = for_some known _ column at.long e in
+      ap (λ (n : ℕ). header_fault layout files (take n (records_in layout (strip_bom column)))) at.header
+      ∙ long_fault layout files (records_in layout (strip_bom column)) (long_put layout.delimiter layout.max_record records long));
+}
 
 module _ {W : Type 0} (contents : W → Option (List ℕ)) where
   -- a header was written, and then passed on
@@ -54,10 +78,10 @@ module _ {W : Type 0} (contents : W → Option (List ℕ)) where
   head_unchanged a b c head (Err why) wrote failed =
       rw failed.0 (subst (λ (l : List ℕ). FailsWithin contents a c l) (append-nil head) (fails_later contents a b c head [] wrote failed.1))
 
-  module _ (old new : Counts W) (layout : Layout) (known : Option (List ℕ)) where
+  module _ (old new : Counts W) (layout : Layout) (files : List File) (known : Option (List ℕ)) where
     -- a header was not written whole
     pub halts_before : (own : List ℕ) → IfSome known (λ column. own ≡ own_header layout.header (texts_by layout.records (strip_bom column))) → (why : RunStop)
-        → EndsAtHead contents old new (header_of layout.start (names_added layout) layout.delimiter (exchanged layout.delimiter own)) why → HaltsAtHead contents old new layout known (halt.Stop why)
+        → EndsAtHead contents old new (header_of layout.start (names_added layout) layout.delimiter (exchanged layout.delimiter own)) why → HaltsAtHead contents old new layout files known (halt.Stop why)
     halts_before own is stop.WriteFailed fails = (
       fails.failed,
       if_some known _ (λ column e. subst (λ (l : List ℕ). FailsWithin contents old new (header_of layout.start (names_added layout) layout.delimiter (exchanged layout.delimiter l))) (for_some known _ column is e) fails),
@@ -71,9 +95,9 @@ module _ {W : Type 0} (contents : W → Option (List ℕ)) where
     halts_before own is stop.LogFailed ends = absurd ends
 
     -- the column was not begun, and nothing was written
-    pub halts_begun : (why : Halt) → HaltsAtBegin layout known why → new ≡ old → HaltsAtHead contents old new layout known why
+    pub halts_begun : (why : Halt) → HaltsAtBegin layout known why → new ≡ old → HaltsAtHead contents old new layout files known why
     halts_begun halt.Unread begun same = same
-    halts_begun (halt.Stop (stop.Row row kind)) begun same = (same, begun)
+    halts_begun (halt.Stop (stop.Row row kind)) begun same = (same, at_long layout files known (stop.Row row kind) begun)
     halts_begun (halt.Stop (stop.Source fault)) begun same = absurd begun
     halts_begun (halt.Stop stop.ReadFailed) begun same = absurd begun
     halts_begun (halt.Stop stop.WriteFailed) begun same = absurd begun
@@ -83,7 +107,7 @@ module _ {W : Type 0} (contents : W → Option (List ℕ)) where
     halts_begun (halt.Stop stop.LogFailed) begun same = absurd begun
 
     -- the cause
-    pub cause_at_head : (why : Halt) → HaltsAtHead contents old new layout known why → IsCauseOfHalt old new why
+    pub cause_at_head : (why : Halt) → HaltsAtHead contents old new layout files known why → IsCauseOfHalt old new why
     cause_at_head halt.Unread same = tt
     cause_at_head (halt.Stop stop.Memory) same = tt
     cause_at_head (halt.Stop stop.WriteFailed) failed = failed.0
@@ -111,11 +135,6 @@ header_halts layout known left mode by bytes header (halt.Stop stop.ColumnTooLon
 header_halts layout known left mode by bytes header (halt.Stop stop.Memory) is = absurd is
 header_halts layout known left mode by bytes header (halt.Stop stop.NoThread) is = absurd is
 header_halts layout known left mode by bytes header (halt.Stop stop.LogFailed) is = absurd is
-
--- the first record is as long with the delimiter put back
-long_put : (d : ℕ) (most : Option ℕ) (given : List CsvRecord) → BeginsTooLong most given → BeginsTooLong most (map (exchanged_record d) given)
-long_put d most [] none = none
-long_put d most (first ∷ others) is = rw (length-map first.own (exchange d)) is
 
 -- not even a header was written whole
 no_line : FilesAnswerOnce → (layout : Layout) (releases : Releases) (most : ℕ) (limit : Option ℕ) → AreSoundReleases releases → (head : List ℕ) (row_records : List CsvRecord) (why : RunStop) (old new : Option (List ℕ)) (log : Option (List RowNote))
@@ -149,7 +168,7 @@ module _ (layout : Layout) (most : ℕ) (limit : Option ℕ) (law : RecordsByAre
 
   -- the rows of a column did not begin
   module _ {W : Type 0} (contents : W → Option (List ℕ)) (once : FilesAnswerOnce) (old new : Counts W) (log : Option (List RowNote)) (releases : Releases) (sound : AreSoundReleases releases) where
-    none_written : (why : RunStop) → IfSome known (λ column. EndsAtHeader layout column why [] (output (contents old.inner) (contents old.inner) log log)
+    none_written : (why : RunStop) → IfSome known (λ column. EndsAtHeader layout releases.zones column why [] (output (contents old.inner) (contents old.inner) log log)
         ⊎ ((row_records : List CsvRecord) × AreRowRecords layout column row_records
         × EndsAfterLines layout releases most limit (own_line layout column) row_records why (output (contents old.inner) (contents old.inner) log log)))
     none_written why = if_some known _ (λ column e. inr (
@@ -158,21 +177,18 @@ module _ (layout : Layout) (most : ℕ) (limit : Option ℕ) (law : RecordsByAre
       no_line once layout releases most limit sound (own_line layout column) (row_wholes column) why (contents old.inner) (contents old.inner) log [] refl (appends-none (contents old.inner)) (inl refl),
     ))
 
-    -- the header has too many bytes
-    header_long : (why : RunStop) → IsAtLongHeader layout inside why → EndsInColumn layout most limit known why (output (contents old.inner) (contents old.inner) log log) releases
-    header_long why at = if_some known _ (λ column e.
-        let text = exchanged layout.delimiter (read_by layout column) in
+    -- the header has a fault
+    header_faulty : (why : RunStop) → IsAtHeader layout releases.zones inside why → EndsInColumn layout most limit known why (output (contents old.inner) (contents old.inner) log log) releases
+    header_faulty why at = if_some known _ (λ column e.
         inl (record {
+          kind = at.kind;
           is = at.is;
-          header = at.header;
-          all = records_in layout (strip_bom text);
-          are = law layout.records layout.delimiter (read_by layout column) (can_delimit layout.delimiter can);
-          long = long_put layout.delimiter layout.max_record (records_by layout.records (strip_bom text)) (for_some inside _ text at.long (within column e));
+          fault = header_put_back layout law can column releases.zones (Some at.kind) (sym (for_some inside _ (exchanged layout.delimiter (read_by layout column)) at.fault (within column e)));
           wrote = appends-none (contents old.inner);
           noted = notes_none log;
         }))
 
-    pub ends_at_head : (why : Halt) → HaltsAtHead contents old new layout inside why → EndsInColumn layout most limit known (stop_of why) (output (contents old.inner) (contents new.inner) log log) releases
+    pub ends_at_head : (why : Halt) → HaltsAtHead contents old new layout releases.zones inside why → EndsInColumn layout most limit known (stop_of why) (output (contents old.inner) (contents new.inner) log log) releases
     ends_at_head halt.Unread same = rw same (none_written stop.ReadFailed)
     ends_at_head (halt.Stop stop.Memory) same = rw same (none_written stop.Memory)
     ends_at_head (halt.Stop stop.WriteFailed) failed = if_some known _ (λ column e.
@@ -184,7 +200,7 @@ module _ (layout : Layout) (most : ℕ) (limit : Option ℕ) (law : RecordsByAre
           no_line once layout releases most limit sound (own_line layout column) (row_wholes column) stop.WriteFailed (contents old.inner) (contents new.inner) log fails.part
               (subst (λ (l : List ℕ). StartsWith l fails.part) same fails.starts) fails.wrote (inr refl),
         ))
-    ends_at_head (halt.Stop (stop.Row row kind)) ends = rw ends.0 (header_long (stop.Row row kind) ends.1)
+    ends_at_head (halt.Stop (stop.Row row kind)) ends = rw ends.0 (header_faulty (stop.Row row kind) ends.1)
     ends_at_head (halt.Stop (stop.Source fault)) ends = absurd ends
     ends_at_head (halt.Stop stop.ReadFailed) ends = absurd ends
     ends_at_head (halt.Stop stop.ColumnTooLong) ends = absurd ends
@@ -214,10 +230,15 @@ module _ (layout : Layout) (most : ℕ) (limit : Option ℕ) (law : RecordsByAre
           below column (drop k (records_in layout (strip_bom text))) line (subst P all (for_some left _ rest p at)),
         ))
 
-    pub converts_column : (n : ℕ) → ConvertsRest layout most limit left n (output mid new log last) releases → ConvertsColumn layout most limit known n (output old new log last) releases
-    converts_column n = begun_as (λ row_records. WritesRows layout releases most limit [] row_records n (output mid new log last))
+    pub converts_column : (n : ℕ) → IfSome inside (λ bytes. header_fault_in layout releases.zones bytes ≡ None) → ConvertsRest layout most limit left n (output mid new log last) releases
+        → ConvertsColumn layout most limit known n (output old new log last) releases
+    converts_column n none rest = if_some known _ (λ column e.
+        let fault = header_put_back layout law can column releases.zones None (sym (for_some inside _ (exchanged layout.delimiter (read_by layout column)) none (within column e))) in
+        let rows = begun_as (λ row_records. WritesRows layout releases most limit [] row_records n (output mid new log last))
         (λ column row_records. WritesRows layout releases most limit (own_line layout column) row_records n (output old new log last))
-        (λ column row_records line w. rows_below layout releases most limit row_records (own_line layout column) old mid new log last line n w)
+        (λ column row_records line w. rows_below layout releases most limit row_records (own_line layout column) old mid new log last line n w) rest in
+        let (row_records, are, w) = for_some known _ column rows e in
+        (fault, row_records, are, w))
 
     pub ends_column : (why : RunStop) → EndsInRest layout most limit left why (output mid new log last) releases → EndsInColumn layout most limit known why (output old new log last) releases
     ends_column why ends = if_some known _ (λ column e. inr (for_some known _ column

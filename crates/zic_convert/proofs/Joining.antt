@@ -390,3 +390,8 @@ on_err (Err e) P Q f is = f e is
 pub rows_of_bytes : (p : Pieces) (i : ℕ) (piece : List ℕ) (rows : RowsOf) → slice_get p.pieces i ≡ Some piece
     → AreRowsOf p.layout p.releases p.most (p.first + i * p.size) (csv_records_in p.layout.delimiter piece) rows → AreRowsOfPiece p i rows
 rows_of_bytes p i piece rows at are = rw at are
+
+-- what holds of a result holds together
+pub ok_both : {X E : Type 0} (result : Result X E) (P Q : X → Type 0) → IfOk result P → IfOk result Q → IfOk result (λ x. P x × Q x)
+ok_both (Ok x) P Q p q = (p, q)
+ok_both (Err e) P Q p q = tt

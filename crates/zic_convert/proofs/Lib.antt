@@ -5,6 +5,7 @@ pub mod Ends
 pub mod Fronts
 pub mod Halts
 pub mod Headers
+pub mod HeaderFaults
 pub mod Heads
 pub mod InMemory
 pub mod Joining

@@ -26,6 +26,7 @@ use Rattle.zic_convert.specs.Convert.{WritesAll, WritesAt, WritesPartOf}
 use Rattle.zic_convert.specs.Laws.{PlainColumnsConvertAlike}
 use Rattle.zic_layout_rows.specs.LayoutRows.{RecordsConvertBy}
 use Rattle.zic_layout_rows.specs.Rows.{RecordsConvertTo}
+use Rattle.zic_convert.specs.Header.{IsHeaderFault, header_fault}
 use Rattle.zic_convert.specs.Run.{EndsAfterLines, EndsAtNames, EndsBy, EndsByZones, EndsIn, Run, WritesRows}
 use Rattle.zic_convert.specs.code.Progress.{output}
 use Rattle.zic_layout_rows.specs.PieceRows.{csv_records_in}
@@ -56,10 +57,11 @@ module _ (alike : PlainColumnsConvertAlike) (layout : Layout) (plain : HasPlainR
 
   -- all of a column was converted
   pub source_converts : (known : Option (List ℕ)) (held held' : Option (List ℕ)) (log log' : Option (List RowNote)) (n : ℕ)
-      → IfSome known (λ column. (row_records : List CsvRecord) × AreRowRecords layout column row_records × WritesRows layout (alone files) most None (header_text layout column) row_records n (output held held' log log'))
+      → IfSome known (λ column. IsHeaderFault layout files column None
+      × (row_records : List CsvRecord) × AreRowRecords layout column row_records × WritesRows layout (alone files) most None (header_text layout column) row_records n (output held held' log log'))
       → IfSome known (λ column. WritesAll files most column n held held')
   source_converts known held held' log log' n all = if_some known _ (λ column e.
-      let (row_records, are, w) = for_some known _ column all e in
+      let (_, row_records, are, w) = for_some known _ column all e in
       record {
         texts = w.0.texts;
         converts = converts column row_records are w.0.texts None w.0.converts;
@@ -137,7 +139,7 @@ module _ (alike : PlainColumnsConvertAlike) (layout : Layout) (plain : HasPlainR
         let by = ends.by (alone files) (ap alone (sym same), subst AreSoundFiles (sym same) sound) in
         if_some run.column _ (λ column e.
         elim (for_some run.column _ column by e) [
-          | inl long ↦ absurd (let some : 0 ≡ 1 = sym (ap records_before none) ∙ long.header in cc some)
+          | inl header ↦ absurd (let no : Some header.kind ≡ None = header.fault.is ∙ ap (λ (n : ℕ). header_fault layout files (take n header.fault.all)) (ap records_before none) in cc no)
           | inr rows ↦ ends_in run column rows.0 rows.1 why rows.2
         ])
 

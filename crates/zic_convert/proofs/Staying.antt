@@ -110,7 +110,7 @@ module _ (known files : List File) (still : (file : File) → Contains known fil
         ∷ [])) (named_same (zone_in layout.zone fields) (only refl))
         (ap (λ (file : Option File). time_by layout file (count_in layout fields)) (file_same (zone_in layout.zone fields) (only refl)))
 
-    fault_same : (number : ℕ) (w : CsvRecord) → IsKnownZone layout.zone known files w → fault_by layout known most number w ≡ fault_by layout files most number w
+    pub fault_same : (number : ℕ) (w : CsvRecord) → IsKnownZone layout.zone known files w → fault_by layout known most number w ≡ fault_by layout files most number w
     fault_same number w only = fault_made number w.own w.fields only
 
     -- and the row

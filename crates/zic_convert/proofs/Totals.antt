@@ -19,7 +19,7 @@ use Rattle.zic_zones.specs.declared.releases.Releases.{Releases}
 use Rattle.zic_base.specs.declared.row_fault.RowKind.{RowKind}
 use Rattle.zic_base.specs.declared.row_fault.RowKind.TheVariants as kind
 use Rattle.zic_zones.specs.Zones.{is_named, number_of, zone_in}
-use Rattle.zic_layout_rows.specs.Rows.{is_closed, is_row_instant}
+use Rattle.zic_layout_rows.specs.Rows.{is_row_instant}
 use Rattle.zic_layout_rows.specs.LayoutRows.{RecordsConvertBy, IsAnswer, IsAnswerAt, IsRowAt, IsRowBy, IsTextBy, IsWrittenAt, empty_fields, old_files, with_answer, count_in, ends_by, fault_by, faulty_text, has_right_quotes, instant_by, rest_by, start_text, time_by, time_in, ok_count, err_fault}
 use Rattle.zic_layout_rows.specs.PieceRows.{AreRowsOf, RowsOf}
 use Rattle.zic_layout_rows.proofs.Coming.{come_after, come_more}

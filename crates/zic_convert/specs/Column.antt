@@ -27,9 +27,8 @@ use Rattle.zic_plan.specs.declared.layout.Written.{Written}
 use Rattle.zic_plan.specs.declared.layout.Written.TheVariants as written
 use Rattle.zic_base.specs.declared.row_fault.RowKind.{RowKind}
 use Rattle.zic_layout_rows.specs.Rows.{RecordsConvertTo}
-use Rattle.zic_plan.specs.Noted.{RowNote}
 use Rattle.zic_zones.specs.declared.releases.Releases.{Releases}
-use Rattle.zic_layout_rows.specs.LayoutRows.{RecordsConvertBy, faults_by, if_aside}
+use Rattle.zic_layout_rows.specs.LayoutRows.{RecordsConvertBy, if_aside}
 
 -- The texts of a column's rows up to the first that has a fault, and that fault, or none. Rows count from 1, and there may be at most
 -- this number. The records are those of CSV with commas and double quotes, without a header row. A byte order mark at the start is none
@@ -152,14 +151,3 @@ pub record AreRowsOfColumn (files : List File) (most : ℕ) (column text : List 
   pub converts : ConvertsTo files most column texts fault
   pub text_is : text ≡ concat texts
   pub count_is : count ≡ length texts
-
--- The text of a column's header and of its rows by a layout, up to the first that ends the run, how many rows there are, the fault that ends
--- the run, or none, and what is noted of the rows before it that have one.
-pub record AreRowsByLayout (releases : Releases) (layout : Layout) (most : ℕ) (column text : List ℕ) (count : ℕ) (fault : Option RowKind) (faults : List RowNote) : Type 0 where
-  pub row_records : List CsvRecord
-  pub are : AreRowRecords layout column row_records
-  pub texts : List (List ℕ)
-  pub rows : RecordsConvertBy layout releases most 1 row_records texts fault
-  pub text_is : text ≡ header_text layout column ++ concat texts
-  pub count_is : count ≡ length texts
-  pub faults_are : faults ≡ faults_by layout releases.zones most 1 row_records

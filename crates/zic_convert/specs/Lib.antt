@@ -1,6 +1,8 @@
 pub mod code
 pub mod Column
 pub mod Convert
+pub mod Header
+pub mod Memory
 pub mod Run
 pub mod Laws
 pub use Rattle.zic_rows.specs.Instant

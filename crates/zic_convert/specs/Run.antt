@@ -3,22 +3,19 @@ use Rattle.std.specs.Prelude.{◌≡◌, ◌≤◌, ◌⊎◌, ℕ, ◌-◌, Lis
 use Rattle.std.specs.List.{concat}
 use Rattle.std.specs.Io.{StartsWith}
 use Rattle.std.specs.Io.KnownBytes.{Appends}
-use Rattle.csv.specs.Reading.{strip_bom}
-use Rattle.zic_columns.specs.Lines.{AreRecordsBy}
 use Rattle.zic_columns.specs.Own.{CsvRecord}
-use Rattle.zic_columns.specs.Round.{BeginsTooLong}
 use Rattle.zic_counted.specs.Counts.{Counts}
 use Rattle.zic_zones.specs.declared.releases.Releases.{Releases}
-use Rattle.zic_plan.specs.Layout.{records_before}
 use Rattle.zic_plan.specs.declared.layout.Layout.{Layout}
 use Rattle.zic_base.specs.Growth.{Gains}
 use Rattle.zic_plan.specs.Noted.{RowNote}
 use Rattle.zic_base.specs.declared.row_fault.RowKind.{RowKind}
-use Rattle.zic_base.specs.declared.row_fault.RowKind.TheVariants as kind
 use Rattle.zic_base.specs.declared.run_stop.RunStop.{RunStop}
 use Rattle.zic_base.specs.declared.run_stop.RunStop.TheVariants as stop
-use Rattle.zic_convert.specs.Column.{AreRowRecords, header_text, names_line, read_by}
+use Rattle.zic_convert.specs.Column.{AreRowRecords, header_text, names_line}
 use Rattle.zic_convert.specs.Convert.{WritesAllOf, WritesUpToOf}
+use Rattle.zic_convert.specs.Header.{IsHeaderFault}
+use Rattle.zic_files.specs.File.{File}
 use Rattle.zic_layout_rows.specs.LayoutRows.{RecordsConvertBy, faults_by}
 
 -- what the writer held and holds, and what the log had noted of rows with a fault and has noted, where these are known
@@ -116,30 +113,27 @@ EndsIn layout releases most limit header row_records (stop.Row row kind) out =
 EndsIn layout releases most limit header row_records (stop.Source fault) out = ⊥
 EndsIn layout releases most limit header row_records why out = EndsAfterLines layout releases most limit header row_records why out
 
--- by these releases, all rows of the column were written, there are n, and their faults, which are few, were noted
+-- by these releases, the column's header has no fault, all rows were written, there are n, and their faults, which are few, were noted
 abbrev pub ConvertsAllBy : {R W : Type 0} → Layout → ℕ → Option ℕ → ℕ → Run R W → Releases → Type 0
-ConvertsAllBy layout most limit n run releases = IfSome run.column (λ column.
-    (row_records : List CsvRecord) × AreRowRecords layout column row_records × WritesRows layout releases most limit (header_text layout column) row_records n run.output)
+ConvertsAllBy layout most limit n run releases = IfSome run.column (λ column. IsHeaderFault layout releases.zones column None
+    × (row_records : List CsvRecord) × AreRowRecords layout column row_records × WritesRows layout releases most limit (header_text layout column) row_records n run.output)
 
 -- all of the line of names was written, if there is to be one, and perhaps more
 abbrev pub HasNames : Layout → Output → Type 0
 HasNames layout out = (rest : List ℕ) × Appends out.held out.held' (names_line layout ++ rest)
 
--- The header has more bytes of its own than a record may have. Rows count from 1, and row 0 is the header: the conversion ends there. Nothing
--- was written but these bytes, and no fault was noted.
-pub record EndsAtHeader (layout : Layout) (column : List ℕ) (why : RunStop) (bytes : List ℕ) (out : Output) : Type 0 where
-  pub is : why ≡ stop.Row 0 kind.RowTooLong
-  pub header : records_before layout.header ≡ 1
-  pub all : List CsvRecord
-  pub are : AreRecordsBy layout.records layout.delimiter (strip_bom (read_by layout column)) all
-  pub long : BeginsTooLong layout.max_record all
+-- The header has a fault, as row 0: the conversion ends there. Nothing was written but these bytes, and no fault was noted.
+pub record EndsAtHeader (layout : Layout) (files : List File) (column : List ℕ) (why : RunStop) (bytes : List ℕ) (out : Output) : Type 0 where
+  pub kind : RowKind
+  pub is : why ≡ stop.Row 0 kind
+  pub fault : IsHeaderFault layout files column (Some kind)
   pub wrote : Appends out.held out.held' bytes
   pub noted : Notes out.log out.log' []
 
 -- by these releases, the conversion of the column ended early, after the line of names: at the header, or later
 abbrev pub EndsBy : {R W : Type 0} → Layout → ℕ → Option ℕ → RunStop → Run R W → Releases → Type 0
 EndsBy layout most limit why run releases = IfSome run.column (λ column.
-    EndsAtHeader layout column why (names_line layout) run.output
+    EndsAtHeader layout releases.zones column why (names_line layout) run.output
     ⊎ ((row_records : List CsvRecord) × AreRowRecords layout column row_records × EndsIn layout releases most limit (header_text layout column) row_records why run.output × HasNames layout run.output))
 
 -- the log began with the own bytes of such a header of the column, where both are known

@@ -1,6 +1,6 @@
 //! Converts columns.
 
-ghost use Rattle.std.specs.Prelude.{◌≡◌, ◌≤◌, ◌<◌, ◌+◌, ◌⊎◌, List, All, IfOk, IfErr, IfSome, IsErr, IsErrOf, length, map};
+ghost use Rattle.std.specs.Prelude.{◌≡◌, ◌≤◌, ◌<◌, ◌+◌, ◌⊎◌, List, None, All, IfOk, IfErr, IfSome, IsErr, IsErrOf, length, map};
 ghost use Rattle.std.specs.Io.KnownBytes.{Appends};
 ghost use Rattle.csv.specs.Reading.{strip_bom};
 ghost use Rattle.zic_columns.specs.Lines.{texts_by};
@@ -15,14 +15,15 @@ ghost use Rattle.zic_convert.specs.Column.{header_aside, own_header};
 ghost use Rattle.zic_convert.specs.Convert.{IsCauseOf, IsCauseWithLog, WritesAll, WritesAt};
 ghost use Rattle.zic_convert.specs.Run.{ConvertsAllBy, EndsAtNames, EndsBy, EndsByZones, LogBegan};
 ghost use Rattle.zic_convert.specs.Run.{output_of, run_of};
-ghost use Rattle.zic_convert.specs.code.Halt.{IsCauseWith, IsEnd, IsReadingStop, stop_of};
+ghost use Rattle.zic_convert.specs.code.Halt.{IsCauseOfHalt, IsCauseWith, IsEnd, IsReadingStop, stop_of};
 ghost use Rattle.zic_convert.specs.code.Progress.{BeginsRows, ConvertsColumn, ConvertsRest};
 ghost use Rattle.zic_convert.specs.code.Progress.{EndsInColumn, EndsInRest, HaltsAtBegin, HaltsAtHead, HaltsAtHeader};
-ghost use Rattle.zic_convert.specs.code.Progress.{EndsAtTaking, EndsInTaken, TakesNext, WritesTaken, header_aside_in, longest_of, own_line_in};
+ghost use Rattle.zic_convert.specs.code.Progress.{EndsAtTaking, EndsInTaken, TakesNext, WritesTaken, header_aside_in, header_fault_in, longest_of, own_line_in, passed_in};
 ghost use Rattle.zic_convert.specs.code.Row.{taken_rows};
 ghost use Rattle.zic_convert.specs.code.Written.{EndsInRecords, WritesRecords};
 
 use crate::halt::Halt;
+use crate::header::{ReadBy, check_header, kept_of};
 use crate::laws::plain_columns_convert_alike;
 use crate::long::{end_at_long, longest_of, read_of_lines};
 use crate::opened::write_open_line;
@@ -37,7 +38,8 @@ use std::sync::Wait;
 use std::thread::Threads;
 use zic_base::{RowKind, RunStop};
 use zic_columns::laws::{
-    column_records_are_read, records_by_are_exchanged, texts_by_are_exchanged,
+    column_records_are_read, first_record_is_alone, records_by_are_exchanged, records_by_are_one,
+    texts_by_are_exchanged,
 };
 use zic_columns::{Column, Exchanged, PassStop, Round, Taken, Truncated};
 use zic_counted::Counted;
@@ -271,8 +273,7 @@ fn convert_rounds<T: Threads + Wait + Sync, G: Gate + Sync, Z: Zones, R: Read, W
     Ok(count)
 }
 
-/// A column after its header, and the own bytes of the header that is written, which are none where
-/// none is.
+/// A column after its header, and the own bytes of the header, which are none where it has none.
 #[derive(Drop)]
 struct Begun<R: Read> {
     column: Column<R>,
@@ -285,20 +286,15 @@ struct Begun<R: Read> {
 ///
 /// `Unread` where the column can't be read on, or the row 0 where the header has more bytes than the
 /// layout allows: rows count from 1.
-fn pass_header<R: Read>(
-    alloc: Global,
-    plan: &Plan,
-    layout: &Layout,
-    column: &mut Column<R>,
-) -> Result<Vec<u8>, Halt>
+fn pass_header<R: Read>(by: &ReadBy<'_>, column: &mut Column<R>) -> Result<Vec<u8>, Halt>
     ensures by { column.new.by ≡ column.old.by }
     ensures passes { IfOk result (λ _. PassesRecord R.remaining column.old column.new) }
     ensures own { IfOk result (λ own. IfSome (unread R.remaining column.old)
         (λ bytes. own.items ≡ first_text (texts_by column.old.by bytes))) }
-    ensures halt { IfErr result (HaltsAtHeader layout.now.max_record column.old.by
+    ensures halt { IfErr result (HaltsAtHeader by.now.layout.now.max_record column.old.by
         (unread R.remaining column.old)) }
 {
-    match column.pass_record(alloc, round_len(plan), layout.max_record) {
+    match column.pass_record(by.alloc, round_len(by.plan), by.layout.max_record) {
         Ok(own) => Ok(own),
         Err(PassStop::Unread) => Err(Halt::Unread),
         Err(PassStop::TooLong) => Err(Halt::Stop(RunStop::Row {
@@ -313,70 +309,68 @@ fn pass_header<R: Read>(
 /// # Errors
 ///
 /// As [`pass_header`].
-fn begin_column<R: Read + Drop>(
-    alloc: Global,
-    plan: &Plan,
-    layout: &Layout,
-    reader: R,
-) -> Result<Begun<R>, Halt>
-    ensures by { IfOk result (λ begun. begun.column.by ≡ layout.now.records) }
+fn begin_column<R: Read + Drop>(by: &ReadBy<'_>, reader: R) -> Result<Begun<R>, Halt>
+    ensures by { IfOk result (λ begun. begun.column.by ≡ by.now.layout.now.records) }
     ensures begins { IfOk result (λ begun. IfSome (R.remaining reader)
-        (λ bytes. BeginsRows layout.now bytes (unread R.remaining begun.column))) }
+        (λ bytes. BeginsRows by.now.layout.now bytes (unread R.remaining begun.column))) }
     ensures header { IfOk result (λ begun. IfSome (R.remaining reader)
-        (λ bytes. begun.header.items
-        ≡ own_header layout.now.header (texts_by layout.now.records (strip_bom bytes)))) }
-    ensures halt { IfErr result (HaltsAtBegin layout.now (R.remaining reader)) }
+        (λ bytes. begun.header.items ≡ passed_in by.now.layout.now bytes)) }
+    ensures halt { IfErr result (HaltsAtBegin by.now.layout.now (R.remaining reader)) }
 {
-    let most = plan.max_bytes();
-    let mut column = Column::new(alloc, reader, most, layout.records, layout.notes)?;
+    let layout = by.layout;
+    let most = by.plan.max_bytes();
+    let mut column = Column::new(by.alloc, reader, most, layout.records, layout.notes)?;
     match layout.header {
         Header::Absent => {
-            let header = Vec::new(alloc);
+            let header = Vec::new(by.alloc);
             Ok(Begun { column, header })
         }
-        Header::First => {
-            let header = pass_header(alloc, plan, layout, &mut column)?;
-            Ok(Begun { column, header })
-        }
-        Header::Skipped => {
-            let _skipped = pass_header(alloc, plan, layout, &mut column)?;
-            let header = Vec::new(alloc);
+        Header::First | Header::Skipped => {
+            let header = pass_header(by, &mut column)?;
             Ok(Begun { column, header })
         }
     }
 }
 
-/// Skips the header of a column, if it has one. Writes it with names added if rows begin with their
-/// records, and logs it if records are put aside.
+/// Skips the header of a column, if it has one, and makes the zone ready that it names. Writes it with
+/// names added if rows begin with their records, and logs it if records are put aside.
 ///
 /// # Errors
 ///
-/// As [`pass_header`], `Memory`, or `WriteFailed`.
-pub(crate) fn begin_rows<R: Read + Drop, W: Write, L: RowLog>(
-    alloc: Global,
-    plan: &Plan,
-    layout: &Layout,
+/// As [`pass_header`] and [`check_header`], or `WriteFailed`.
+pub(crate) fn begin_rows<Z: Zones, R: Read + Drop, W: Write, L: RowLog>(
+    by: &ReadBy<'_>,
+    zones: &mut Z,
     reader: R,
     writer: &mut Counted<W>,
     log: &mut L,
 ) -> Result<Column<R>, Halt>
     ensures noted { L.noted log.new ≡ L.noted log.old }
-    ensures began { LogBegan (header_aside_in layout.now) (R.remaining reader) (L.began log.new)
+    ensures began { LogBegan (header_aside_in by.now.layout.now) (R.remaining reader) (L.began log.new)
         ⊎ (IsErr result × (L.began log.new ≡ L.began log.old)) }
-    ensures by { IfOk result (λ column. column.by ≡ layout.now.records) }
+    ensures by { IfOk result (λ column. column.by ≡ by.now.layout.now.records) }
     ensures begins { IfOk result (λ column. IfSome (R.remaining reader)
-        (λ bytes. BeginsRows layout.now bytes (unread R.remaining column))) }
+        (λ bytes. BeginsRows by.now.layout.now bytes (unread R.remaining column))) }
     ensures head { IfOk result (λ _. IfSome (R.remaining reader) (λ bytes.
         Appends (W.contents writer.old.inner) (W.contents writer.new.inner)
-        (own_line_in layout.now bytes))) }
+        (own_line_in by.now.layout.now bytes))) }
+    ensures grown { IfOk result (λ _. Z.grown zones.old zones.new) }
+    ensures none { IfOk result (λ _. (releases : Releases) → Z.may_be zones.new releases
+        → IfSome (R.remaining reader)
+        (λ bytes. header_fault_in by.now.layout.now releases.zones bytes ≡ None)) }
     ensures flushed { IfOk result (λ _. writer.new.failures ≡ writer.old.failures) }
-    ensures halt { IfErr result (HaltsAtHead W.contents writer.old writer.new layout.now
-        (R.remaining reader)) }
+    ensures halt { IfErr result (λ halt. EndsByZones Z.grown Z.broken Z.may_be zones.old zones.new
+        (stop_of halt) (λ releases. HaltsAtHead W.contents writer.old writer.new
+        by.now.layout.now releases.zones (R.remaining reader) halt)) }
+    ensures cause { IfErr result (IsCauseOfHalt writer.old writer.new) }
 {
-    let Begun { column, header } = begin_column(alloc, plan, layout, reader)?;
-    let own = aside(alloc, layout, &header)?;
+    first_record_is_alone();
+    let Begun { column, header } = begin_column(by, reader)?;
+    check_header(by, zones, &header)?;
+    let header = kept_of(by.layout.header, header);
+    let own = aside(by.alloc, by.layout, &header)?;
     log.begin(&own);
-    write_header(writer, layout, header)?;
+    write_header(writer, by.layout, header)?;
     Ok(column)
 }
 
@@ -422,14 +416,12 @@ fn convert_rows<
     let most = conversion.plan.max_bytes();
     let short = Truncated::new(reader, read_of_lines(layout), most);
     let exchanged = Exchanged::new(short, layout.delimiter.byte());
-    let mut column = begin_rows(
-        conversion.alloc,
-        conversion.plan,
+    let by = ReadBy {
+        alloc: conversion.alloc,
+        plan: conversion.plan,
         layout,
-        exchanged,
-        writer,
-        log,
-    )?;
+    };
+    let mut column = begin_rows(&by, zones, exchanged, writer, log)?;
     convert_rounds(conversion, zones, &mut column, writer, log)
 }
 
@@ -524,9 +516,11 @@ fn ended<R>(
 ///   more than one has, or a whole second out of range. All rows before it were written and flushed, and
 ///   no failure of the writer was counted.
 ///   Where rows with faults are written or their records put aside, `Row` is only `TooManyRows`,
-///   `RowTooLong` of a record of CSV, and the fault after `max_faults` others. Row 0 is the header: `Row`
-///   with `RowTooLong` where it has more bytes than the layout allows, also where rows with faults are
-///   written. Only the line of names was written then, and no fault was noted.
+///   `RowTooLong` of a record of CSV, and the fault after `max_faults` others. Row 0 is the header, also
+///   where it is skipped and where rows with faults are written: `RowTooLong` where it has more bytes than
+///   the layout allows, `RowQuote` where it has a stray double quote and the layout's quotes are strict,
+///   and `HeaderIsRow` where it names a zone that has a file, and has an instant or a local time. Only the
+///   line of names was written then, and no fault was noted.
 /// - `ReadFailed` or `WriteFailed` where the reader or writer counted a failure. Each error of the
 ///   reader or writer ends the call, also one at which others try again, and so does a write that
 ///   takes no byte. A reader that ended is not read again. Where the line of names can't be written,

@@ -4,6 +4,7 @@
 mod column;
 mod conversion;
 mod halt;
+mod header;
 pub mod laws;
 mod log;
 mod long;

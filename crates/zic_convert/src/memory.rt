@@ -1,12 +1,11 @@
 //! Converts columns in memory by layouts.
 
-ghost use Rattle.std.specs.Prelude.{◌≡◌, ◌+◌, ◌^◌, ◌<◌, ◌≤◌, List, ℕ, Option, None, Some, IfOk, IfSome, OnOk, length};
-ghost use Rattle.std.specs.Io.KnownBytes.{Appends};
+ghost use Rattle.std.specs.Prelude.{◌≡◌, ◌+◌, ◌^◌, ◌<◌, ◌≤◌, None, IfOk, OnOk, length};
 ghost use Rattle.zic_columns.specs.Round.{unread};
+ghost use Rattle.zic_files.specs.Sound.{AreSoundFiles};
 ghost use Rattle.zic_plan.specs.declared.plan.TheConstants.{MAX_ROWS};
-ghost use Rattle.zic_convert.specs.Column.{AreRowsByLayout};
-ghost use Rattle.zic_convert.specs.code.Memory.{AreRowsOfLeft};
-ghost use Rattle.zic_convert.specs.code.Progress.{BeginsRows, own_line_in};
+ghost use Rattle.zic_convert.specs.Memory.{IsConvertedTo};
+ghost use Rattle.zic_convert.specs.code.Memory.{AreRowsBelow, AreRowsOfLeft, IsEndOfHeader};
 ghost use Rattle.zic_layout_rows.specs.code.Row.{followed_by};
 ghost use Rattle.zic_convert.specs.code.Row.{records_of_all, taken_rows};
 ghost use Rattle.zic_layout_rows.specs.PieceRows.{AreRowsOf};
@@ -14,13 +13,15 @@ ghost use Rattle.zic_zones.specs.Zones.{alone};
 
 use crate::column::zones_for;
 use crate::conversion::begin_rows;
+use crate::halt::Halt;
+use crate::header::ReadBy;
 use crate::long::{long_kind, longest_of, read_of_lines};
 use crate::opened::open_row;
 use crate::output::write_names;
 use crate::pieces::room_for;
 use std::alloc::{AllocError, Global};
 use std::io::Read;
-use zic_base::RowKind;
+use zic_base::{RowFault, RunStop};
 use zic_columns::laws::{records_by_are_exchanged, texts_by_are_exchanged};
 use zic_columns::{Column, Exchanged, Round, Taken, Truncated};
 use zic_counted::Counted;
@@ -36,7 +37,7 @@ use zic_zones::{Releases, SourceZones, Zones};
 pub struct LayoutRows {
     pub text: Vec<u8>,
     pub count: u64,
-    pub fault: Option<RowKind>,
+    pub fault: Option<RowFault>,
     pub faults: Vec<FaultyRow>,
 }
 
@@ -147,80 +148,112 @@ fn rows_of_left<R: Read>(by: &RowsBy<'_, '_>, column: &mut Column<R>) -> Result<
     Err(AllocError)
 }
 
-/// Writes the header of a column, if one is written, and returns the rows below it, up to the first that
-/// ends the run. The delimiter and the comma stand in each other's place.
+/// Returns the rows below the header of a column, after what was written before them. The delimiter and the
+/// comma stand in each other's place.
 ///
 /// # Errors
 ///
-/// As [`rows_of_left`], and where the header has more bytes than a record may have.
-fn rows_below_header<R: Read + Drop>(
+/// As [`rows_of_left`].
+fn rows_below<R: Read + Drop>(
     by: &RowsBy<'_, '_>,
-    plan: &Plan,
-    reader: R,
-    writer: &mut Counted<Vec<u8>>,
-) -> Result<Rows, AllocError>
-    requires { by.now.most ≤ MAX_ROWS }
-    ensures rows { IfOk result (λ rows. (left : Option (List ℕ))
-        × IfSome (R.remaining reader) (λ bytes. BeginsRows by.now.layout.now bytes left)
-        × AreRowsOfLeft by.now.layout.now by.now.releases.now by.now.most left rows) }
-    ensures header { IfOk result (λ _. IfSome (R.remaining reader) (λ bytes.
-        Appends (Some writer.old.inner.items) (Some writer.new.inner.items)
-        (own_line_in by.now.layout.now bytes))) }
-{
-    let log = &mut Unnoted;
-    let Ok(mut left) = begin_rows(by.alloc, plan, by.layout, reader, writer, log) else {
-        return Err(AllocError);
-    };
-    let rows = rows_of_left(by, &mut left);
-    drop(left);
-    rows
-}
-
-/// Converts a column in memory by a layout and these zones, as [`rows_by_layout`] does.
-fn rows_by_zones(
-    alloc: Global,
-    zones: &SourceZones<'_>,
-    plan: &Plan,
-    layout: &Layout,
-    column: &[u8],
+    left: Column<R>,
+    writer: Counted<Vec<u8>>,
 ) -> Result<LayoutRows, AllocError>
-    ensures { IfOk result (λ rows. AreRowsByLayout (alone zones.now) layout.now plan.now.max_rows
-        column.now rows.text.items rows.count rows.fault rows.faults.items) }
+    requires mode { left.by ≡ by.now.layout.now.records }
+    requires most { by.now.most ≤ MAX_ROWS }
+    ensures { IfOk result (AreRowsBelow by.now.layout.now by.now.releases.now by.now.most
+        (unread R.remaining left) writer.inner.items) }
 {
-    records_by_are_exchanged();
-    texts_by_are_exchanged();
-    let ready = zones.ready();
-    let by = RowsBy {
-        alloc,
-        releases: &ready,
-        layout,
-        most: plan.max_rows(),
-    };
-    let mut writer = Counted::new(Vec::new(alloc));
-    if write_names(&mut writer, layout).is_err() {
-        return Err(AllocError);
-    }
-    let short = Truncated::new(column, read_of_lines(layout), plan.max_bytes());
-    let exchanged = Exchanged::new(short, layout.delimiter.byte());
-    let rows = rows_below_header(&by, plan, exchanged, &mut writer)?;
+    let mut column = left;
+    let rows = rows_of_left(by, &mut column)?;
+    drop(column);
     let mut text = writer.into_inner();
     text.extend_from_slice(rows.text.bytes())?;
+    let count = rows.count;
+    let fault = match rows.fault {
+        Some(kind) => {
+            // There are no more rows than there may be.
+            let Some(row) = count.checked_add(1) else {
+                return Err(AllocError);
+            };
+            Some(RowFault { row, kind })
+        }
+        None => None,
+    };
     Ok(LayoutRows {
         text,
-        count: rows.count,
-        fault: rows.fault,
+        count,
+        fault,
         faults: rows.faults,
     })
 }
 
-/// Converts a column in memory by a layout, on the calling thread, to the header and the rows of
-/// [`crate::convert_column`]. Returns those up to the first that ends the run, and the faults. The
-/// plan says how many rows and bytes the column may have; its workers and pieces change nothing. There
-/// is no other release: where the layout compares, it answers nothing, and its fields are empty.
+/// Returns the end at a header with a fault, after what was written before.
 ///
 /// # Errors
 ///
-/// Fails where memory is refused, the column has more bytes, or its header more than a record may have.
+/// Fails for another halt.
+fn ended_at_header(
+    alloc: Global,
+    halt: Halt,
+    writer: Counted<Vec<u8>>,
+) -> Result<LayoutRows, AllocError>
+    ensures { IfOk result (IsEndOfHeader halt writer.inner.items) }
+{
+    let Halt::Stop(RunStop::Row { row, kind }) = halt else {
+        return Err(AllocError);
+    };
+    Ok(LayoutRows {
+        text: writer.into_inner(),
+        count: 0,
+        fault: Some(RowFault { row, kind }),
+        faults: Vec::new(alloc),
+    })
+}
+
+/// Converts a column in memory by a layout and these zones, as [`rows_by_layout`] does.
+fn rows_by_zones(
+    by: &ReadBy<'_>,
+    zones: &mut SourceZones<'_>,
+    column: &[u8],
+) -> Result<LayoutRows, AllocError>
+    requires sound { AreSoundFiles zones.old }
+    ensures { IfOk result (λ rows. IsConvertedTo (alone zones.old) by.now.layout.now
+        by.now.plan.now.max_rows column.now rows.text.items rows.count rows.fault rows.faults.items) }
+{
+    records_by_are_exchanged();
+    texts_by_are_exchanged();
+    let layout = by.layout;
+    let mut writer = Counted::new(Vec::new(by.alloc));
+    if write_names(&mut writer, layout).is_err() {
+        return Err(AllocError);
+    }
+    let short = Truncated::new(column, read_of_lines(layout), by.plan.max_bytes());
+    let exchanged = Exchanged::new(short, layout.delimiter.byte());
+    match begin_rows(by, zones, exchanged, &mut writer, &mut Unnoted) {
+        Ok(left) => {
+            let ready = zones.ready();
+            let by = RowsBy {
+                alloc: by.alloc,
+                releases: &ready,
+                layout,
+                most: by.plan.max_rows(),
+            };
+            rows_below(&by, left, writer)
+        }
+        Err(halt) => ended_at_header(by.alloc, halt, writer),
+    }
+}
+
+/// Converts a column in memory by a layout, on the calling thread, to the header and the rows of
+/// [`crate::convert_column`]. Returns those up to the first that ends the run, and the faults; the header is
+/// the row 0. The plan says how many rows and bytes the column may have; its workers and pieces change
+/// nothing. There is no other release: where the layout compares, it answers nothing, and its fields are
+/// empty.
+///
+/// # Errors
+///
+/// Fails where memory is refused, or the column has more bytes.
 pub fn rows_by_layout(
     alloc: Global,
     files: &Files,
@@ -228,15 +261,22 @@ pub fn rows_by_layout(
     layout: &Layout,
     column: &[u8],
 ) -> Result<LayoutRows, AllocError>
-    ensures rows { IfOk result (λ rows. AreRowsByLayout (alone files.now) layout.now plan.now.max_rows
+    ensures rows { IfOk result (λ rows. IsConvertedTo (alone files.now) layout.now plan.now.max_rows
         column.now rows.text.items rows.count rows.fault rows.faults.items) }
     ensures within { IfOk result (λ _. length column.now ≤ plan.now.max_bytes) }
 {
+    // Each file of a release is sound.
+    prove!(files.len() <= usize::MAX);
     if plan.max_bytes() < column.len() as u64 {
         return Err(AllocError);
     }
-    let zones = zones_for(alloc, files, column.len())?;
-    let rows = rows_by_zones(alloc, &zones, plan, layout, column);
+    let mut zones = zones_for(alloc, files, column.len())?;
+    let by = ReadBy {
+        alloc,
+        plan,
+        layout,
+    };
+    let rows = rows_by_zones(&by, &mut zones, column);
     drop(zones);
     rows
 }

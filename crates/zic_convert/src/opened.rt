@@ -26,7 +26,7 @@ use zic_rows::RowText;
 /// Returns the fault of an open line, the row of this number: `TooManyRows` if that is above `most`, else
 /// `RowTooLong` if the line is too long, else `RowQuote`. The line has the delimiter and the comma in each
 /// other's place.
-fn open_kind(layout: &Layout, most: u64, number: u64, line: &[u8]) -> RowKind
+pub(crate) fn open_kind(layout: &Layout, most: u64, number: u64, line: &[u8]) -> RowKind
     ensures { (files : List File) → fault_by layout.now files most number
         (exchanged_record layout.now.delimiter (open_record line.now)) ≡ Some result }
 {

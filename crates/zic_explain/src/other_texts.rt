@@ -81,7 +81,7 @@ const GROUP_1: [Entry; 6] = [
   `--quotes lenient`, the default for a plain column, it's no fault, unless it
   is open at the end of a line with `--records lines`. With `--keep-going`, and
   without `--rejects`, the record is written as it stands, without empty fields
-  of local time. A header may have one.
+  of local time. A header with one is row 0.
 "#,
         expected: r#"  A field that begins with a double quote ends with one, and has each that is
   in it twice: `"5"" wide"`. In other fields double quotes are text.
@@ -244,6 +244,25 @@ const GROUP_2: [Entry; 6] = [
 "#,
     },
     Entry {
+        name: "HeaderIsRow",
+        meaning: "The record that `--header` or `--skip-header` takes names a zone that there is, and has an instant or a local time: it's a row.",
+        says: r#"  The record that `--header` or `--skip-header` takes names a zone that there
+  is, and has an instant or a local time: it's a row. It is row 0, and ends the
+  command, also with `--keep-going`. A time that is out of range, or that
+  clocks don't show once, makes a row of it too.
+"#,
+        expected: r#"  A header has another text than a known zone's name, or than a time, in these
+  fields: `zone,instant`.
+"#,
+        setup: SETUP_1,
+        wrong: "  $ printf 'Etc/UTC,0\\nEtc/UTC,1\\n' | pzic convert --skip-header utc.zi\n",
+        prints: "  row 0: HeaderIsRow\n",
+        right: "  $ printf 'zone,instant\\nEtc/UTC,1\\n' | pzic convert --skip-header utc.zi\n",
+        cause: r#"  A column without a header, or a part of one that was cut by `split`, whose
+  first part alone has the header. Leave the option out.
+"#,
+    },
+    Entry {
         name: "ColumnTooLong",
         meaning: "The column has more bytes than `--max-bytes` allows.",
         says: "  The column has more bytes than `--max-bytes` allows.\n",
@@ -257,6 +276,9 @@ const GROUP_2: [Entry; 6] = [
         right: "  $ echo 'Etc/UTC,0' | pzic convert --max-bytes 10 utc.zi\n",
         cause: "  A longer column: convert it in parts. Or an endless input.\n",
     },
+];
+
+const GROUP_3: [Entry; 6] = [
     Entry {
         name: "Short",
         meaning: "The file ends before all the data that its headers announce.",
@@ -270,9 +292,6 @@ const GROUP_2: [Entry; 6] = [
         right: "  $ pzic show tree/NY 0\n",
         cause: "  A truncated or empty file.\n",
     },
-];
-
-const GROUP_3: [Entry; 6] = [
     Entry {
         name: "Magic",
         meaning: "The file doesn't begin with `TZif`.",
@@ -338,6 +357,9 @@ const GROUP_3: [Entry; 6] = [
   name outside it.
 "#,
     },
+];
+
+const GROUP_4: [Entry; 6] = [
     Entry {
         name: "TimesNotRising",
         meaning: "The transition times don't rise.",
@@ -349,9 +371,6 @@ const GROUP_3: [Entry; 6] = [
         right: "  $ pzic show tree/NY 0\n",
         cause: "  A damaged file.\n",
     },
-];
-
-const GROUP_4: [Entry; 6] = [
     Entry {
         name: "TypeIndex",
         meaning: "A transition refers to a local time type that doesn't exist.",
@@ -416,6 +435,9 @@ const GROUP_4: [Entry; 6] = [
   3 (see ZIC.md), or a TZ string without rules, such as `EST5EDT`.
 "#,
     },
+];
+
+const GROUP_5: [Entry; 6] = [
     Entry {
         name: "TrailingBytes",
         meaning: "The file goes on after the footer.",
@@ -427,9 +449,6 @@ const GROUP_4: [Entry; 6] = [
         right: "  $ pzic show tree/NY 0\n",
         cause: "  Two files in one, or a newline added by an editor.\n",
     },
-];
-
-const GROUP_5: [Entry; 6] = [
     Entry {
         name: "TooLarge",
         meaning: "The file has more than 1,048,576 bytes.",
@@ -500,6 +519,9 @@ const GROUP_5: [Entry; 6] = [
   has exited.
 "#,
     },
+];
+
+const GROUP_6: [Entry; 6] = [
     Entry {
         name: "cannot write output",
         meaning: "The output of `check`, `verify`, `diff`, `show`, `dump`, `explain` or `--version` can't be written.",
@@ -513,9 +535,6 @@ const GROUP_5: [Entry; 6] = [
         right: "  $ pzic check utc.zi >listing\n",
         cause: "  A full disk, or a program at the other end of the pipe that has exited.\n",
     },
-];
-
-const GROUP_6: [Entry; 5] = [
     Entry {
         name: "unknown zone NAME",
         meaning: "The source has no zone or link of the name that `--zone` gives.",

@@ -78,7 +78,7 @@ fn run_noted<
     noted: &mut Noted,
 ) -> Result<Ending, Refusal> {
     if let Request::Convert(order) = request {
-        take_stack(rt.alloc(), order.plan.workers() as usize)?;
+        take_stack(rt.alloc(), order.plan.workers())?;
         read_header(rt.alloc(), order, rt.reader(), noted)?;
         if let Some(explainer) = explainer {
             explainer.read_by(&order.layout);

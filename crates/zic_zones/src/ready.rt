@@ -22,6 +22,9 @@ use zic_local::LocalIndex;
 use zic_rows::StateText;
 use zic_tzif::Zone;
 
+/// The least number of bytes of a file in which changes may come close together: some 450 changes.
+const LONG_FILE: usize = 4_096;
+
 /// What is made ready of a zone.
 #[derive(Drop)]
 struct ReadyZone {
@@ -64,14 +67,14 @@ impl Ready {
     {
         self.names.extend(alloc, files)?;
         for file in self.zones.len()..files.len() {
-            let zone = self.zone(alloc, files.zone(file))?;
+            let zone = self.zone(alloc, files.zone(file), files.bytes(file).len())?;
             self.zones.push(zone)?;
         }
         Ok(())
     }
 
-    /// Makes a zone ready.
-    fn zone(&mut self, alloc: Global, zone: &Zone) -> Result<ReadyZone, AllocError>
+    /// Makes a zone ready, whose file has so many bytes.
+    fn zone(&mut self, alloc: Global, zone: &Zone, len: usize) -> Result<ReadyZone, AllocError>
         requires { HaveOffsets zone.now }
         ensures names { self.new.names ≡ self.old.names }
         ensures zones { self.new.zones ≡ self.old.zones }
@@ -81,7 +84,7 @@ impl Ready {
     {
         let numbers = self.texts.add_zone(alloc, zone)?;
         let tables = self.tables.add_zone(alloc, zone, &numbers)?;
-        let index = LocalIndex::for_zone(alloc, zone)?;
+        let index = index_for(alloc, zone, len)?;
         Ok(ReadyZone {
             numbers,
             tables,
@@ -196,4 +199,16 @@ impl Ready {
     {
         self.texts.get(self.state(file, number))
     }
+}
+
+/// Returns the index by which local times of a zone are found whose file has so many bytes. A short file has
+/// too few changes for a walk over them to be slow.
+fn index_for(alloc: Global, zone: &Zone, len: usize) -> Result<Option<LocalIndex>, AllocError>
+    requires { HaveOffsets zone.now }
+    ensures { IfOk result (λ made. IfSome made (IsIndexOf zone.now)) }
+{
+    if len < LONG_FILE {
+        return Ok(None);
+    }
+    LocalIndex::for_zone(alloc, zone)
 }

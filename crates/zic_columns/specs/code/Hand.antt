@@ -1,12 +1,12 @@
 -- The bytes in hand.
-use Rattle.std.specs.Prelude.{◌≡◌, ◌<◌, ◌≤◌, ◌⊎◌, ℕ, List, [], ◌∷◌, ◌++◌, length, take, drop, Option, Some, None, MatchOption, IfSome}
+use Rattle.std.specs.Prelude.{◌≡◌, ◌<◌, ◌≤◌, ◌⊎◌, ℕ, List, [], ◌∷◌, ◌++◌, length, take, drop, Option, None, MatchOption, IfSome}
 use Rattle.std.specs.Io.KnownBytes.{IsAtEnd, prepend_known}
 use Rattle.csv.specs.declared.parser.State.TheVariants as st
 use Rattle.zic_plan.specs.declared.layout.Records.{Records}
 use Rattle.zic_plan.specs.declared.layout.Records.TheVariants as by
-use Rattle.zic_columns.specs.Column.{AreWholeRecords, HasNoQuote, column_records}
+use Rattle.zic_columns.specs.Column.{AreWholeRecords, HasNoLineEnd, HasNoQuote, column_records}
 use Rattle.zic_columns.specs.Lines.{open_record, records_by}
-use Rattle.zic_columns.specs.code.LineScan.{AllClosed, HasNoLineEnd, IsLineScan}
+use Rattle.zic_columns.specs.code.LineScan.{AllClosed, IsLineScan}
 use Rattle.zic_columns.specs.declared.columns.AtHand.{AtHand}
 use Rattle.zic_columns.specs.declared.columns.AtHand.TheVariants as hand
 use Rattle.zic_columns.specs.declared.line_scan.OpenLine.{OpenLine}

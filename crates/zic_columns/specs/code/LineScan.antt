@@ -1,16 +1,12 @@
 -- Whole lines among bytes, where each line is a record.
 use Rattle.std.specs.Prelude.{◌≡◌, ◌<◌, ◌≤◌, ℕ, false, List, ◌∷◌, ◌++◌, length, take, drop, MatchOption, All}
-use Rattle.zic_columns.specs.Column.{AreWholeRecords, ends_line, lines_of}
+use Rattle.zic_columns.specs.Column.{AreWholeRecords, HasNoLineEnd, lines_of}
 use Rattle.zic_columns.specs.Lines.{line_records, open_record}
 use Rattle.zic_columns.specs.Quotes.{is_open}
 use Rattle.zic_columns.specs.declared.line_scan.FirstLine.{FirstLine}
 use Rattle.zic_columns.specs.declared.line_scan.FirstLine.TheVariants as first
 use Rattle.zic_columns.specs.declared.line_scan.LineScan.{LineScan}
 use Rattle.zic_columns.specs.declared.line_scan.OpenLine.{OpenLine}
-
--- no line ends in these bytes
-abbrev pub HasNoLineEnd : List ℕ → Type 0
-HasNoLineEnd bytes = All (λ byte. ends_line byte ≡ false) bytes
 
 -- no line is open
 abbrev pub AllClosed : List ℕ → Type 0

@@ -1,11 +1,13 @@
 -- How far a conversion has come.
-use Rattle.std.specs.Prelude.{◌≡◌, ◌≤◌, ◌<◌, ◌↔◌, ◌⊎◌, ℕ, false, List, [], ◌∷◌, ◌++◌, length, drop, Option, Some, None, IfSome}
+use Rattle.std.specs.Prelude.{◌≡◌, ◌≤◌, ◌<◌, ◌↔◌, ◌⊎◌, ℕ, Bool, false, List, [], ◌∷◌, ◌++◌, length, drop, take, Option, Some, None, IfSome}
 use Rattle.std.specs.List.{concat}
 use Rattle.std.specs.Io.KnownBytes.{Appends}
 use Rattle.csv.specs.Reading.{strip_bom}
+use Rattle.zic_columns.specs.Column.{HasNoLineEnd}
 use Rattle.zic_columns.specs.Exchange.{exchanged}
 use Rattle.zic_columns.specs.Lines.{records_by, texts_by}
-use Rattle.zic_columns.specs.Own.{CsvRecord}
+use Rattle.zic_columns.specs.Own.{CsvRecord, first_text}
+use Rattle.zic_columns.specs.Quotes.{is_open}
 use Rattle.zic_columns.specs.Round as Columns
 use Rattle.zic_columns.specs.Round.{ArePiecesOf, BeginsTooLong, ColumnOf, HasNoRecord, IsNextTooLong, may_have, taken_records, unread}
 use Rattle.zic_columns.specs.declared.columns.Taken.{Taken}
@@ -13,19 +15,24 @@ use Rattle.zic_columns.specs.declared.columns.Taken.TheVariants as taken
 use Rattle.zic_columns.specs.declared.pieces.TheConstants.{MAX_ROUND_PIECES}
 use Rattle.zic_counted.specs.Counts.{Counts, HasFailedSince}
 use Rattle.zic_counted.specs.Written.{FailsWithin}
+use Rattle.zic_files.specs.File.{File}
 use Rattle.zic_plan.specs.Layout.{records_before}
 use Rattle.zic_plan.specs.declared.layout.AtFault.{AtFault}
 use Rattle.zic_plan.specs.declared.layout.AtFault.TheVariants as at
+use Rattle.zic_plan.specs.declared.layout.Header.{Header}
+use Rattle.zic_plan.specs.declared.layout.Header.TheVariants as header
 use Rattle.zic_plan.specs.declared.layout.Layout.{Layout}
 use Rattle.zic_plan.specs.declared.layout.Records.{Records}
 use Rattle.zic_plan.specs.declared.layout.Records.TheVariants as by
 use Rattle.zic_plan.specs.Noted.{RowNote}
+use Rattle.zic_base.specs.declared.row_fault.RowKind.{RowKind}
 use Rattle.zic_base.specs.declared.row_fault.RowKind.TheVariants as kinds
 use Rattle.zic_base.specs.declared.run_stop.RunStop.{RunStop}
 use Rattle.zic_base.specs.declared.run_stop.RunStop.TheVariants as stop
 use Rattle.zic_zones.specs.declared.releases.Releases.{Releases}
 use Rattle.zic_convert.specs.Column.{AreRowRecords, header_of, names_added, own_header, own_line}
 use Rattle.zic_layout_rows.specs.LayoutRows.{RecordsConvertBy, faults_by, if_aside}
+use Rattle.zic_convert.specs.Header.{IsHeaderFault, header_fault}
 use Rattle.zic_convert.specs.Run.{EndsAtHeader, EndsIn, Notes, Output, WritesRows}
 use Rattle.zic_convert.specs.code.Row.{records_in, taken_rows}
 use Rattle.zic_convert.specs.code.Written.{EndsInRecords, IsLeft, WritesRecords}
@@ -69,13 +76,13 @@ EndsInRest layout most limit known why out releases = IfSome known (λ bytes. En
 
 -- by these releases, all rows of a column were written below its own header
 abbrev pub ConvertsColumn : Layout → ℕ → Option ℕ → Option (List ℕ) → ℕ → Output → Releases → Type 0
-ConvertsColumn layout most limit known n out releases = IfSome known (λ column.
-    (row_records : List CsvRecord) × AreRowRecords layout column row_records × WritesRows layout releases most limit (own_line layout column) row_records n out)
+ConvertsColumn layout most limit known n out releases = IfSome known (λ column. IsHeaderFault layout releases.zones column None
+    × (row_records : List CsvRecord) × AreRowRecords layout column row_records × WritesRows layout releases most limit (own_line layout column) row_records n out)
 
 -- the conversion of that column ended early: at its header, or later
 abbrev pub EndsInColumn : Layout → ℕ → Option ℕ → Option (List ℕ) → RunStop → Output → Releases → Type 0
 EndsInColumn layout most limit known why out releases = IfSome known (λ column.
-    EndsAtHeader layout column why [] out
+    EndsAtHeader layout releases.zones column why [] out
     ⊎ ((row_records : List CsvRecord) × AreRowRecords layout column row_records × EndsIn layout releases most limit (own_line layout column) row_records why out))
 
 -- the column's own header with names added, but for the delimiter of the column
@@ -85,6 +92,47 @@ own_line_in layout column = header_of layout.start (names_added layout) layout.d
 -- and its own bytes alone, where records are put aside
 abbrev pub header_aside_in : Layout → List ℕ → List ℕ
 header_aside_in layout column = if_aside layout.at_fault (exchanged layout.delimiter (own_header layout.header (texts_by layout.records (strip_bom column))))
+
+-- the own bytes of a column's header, also where it is skipped; none where it has none
+abbrev pub passed_in : Layout → List ℕ → List ℕ
+passed_in layout column = first_text (take (records_before layout.header) (texts_by layout.records (strip_bom column)))
+
+-- the own bytes that are kept of a header
+abbrev pub kept_of : Header → List ℕ → List ℕ
+kept_of header.Absent own = own
+kept_of header.First own = own
+kept_of header.Skipped own = []
+
+-- the header's fault, or none
+abbrev pub header_fault_in : Layout → List File → List ℕ → Option RowKind
+header_fault_in layout files column = header_fault layout files (take (records_before layout.header) (records_in layout (strip_bom column)))
+
+-- where each line is a record, there is no line end
+abbrev pub EndsNoLine : Records → List ℕ → Type 0
+EndsNoLine by.Csv own = Unit {0}
+EndsNoLine by.Lines own = HasNoLineEnd own
+
+-- the own bytes are those of an open line
+abbrev pub is_open_by : Records → List ℕ → Bool
+is_open_by by.Csv own = false
+is_open_by by.Lines own = is_open 44 own
+
+-- some own bytes are those of one record, or of none
+pub record AreOfOne (mode : Records) (own : List ℕ) : Type 0 where
+  pub one : (own ≡ []) ⊎ ((given : CsvRecord) × (records_by mode own ≡ given ∷ []))
+  pub ended : EndsNoLine mode own
+
+-- the fault of a header with these own bytes, or none
+abbrev pub IsOwnFault : Layout → List File → List ℕ → Option RowKind → Type 0
+IsOwnFault layout files own fault = AreOfOne layout.records own → fault ≡ header_fault layout files (records_in layout own)
+
+-- The zones got to know the name in the header. Memory was refused, or the header has this fault by all files that rows may be made by.
+abbrev pub HaltsAtCheck : {Z : Type 0} → (Z → Z → Type 0) → (Z → Z → Type 0) → (Z → Releases → Type 0) → Z → Z → Layout → List ℕ → Halt → Type 0
+HaltsAtCheck grown broken may_be old new layout own halt.Unread = ⊥
+HaltsAtCheck grown broken may_be old new layout own (halt.Stop stop.Memory) = grown old new ⊎ broken old new
+HaltsAtCheck grown broken may_be old new layout own (halt.Stop (stop.Row row kind)) =
+    (row ≡ 0) × grown old new × ((releases : Releases) → may_be new releases → IsOwnFault layout releases.zones own (Some kind))
+HaltsAtCheck grown broken may_be old new layout own (halt.Stop _) = ⊥
 
 -- The bytes that are left of a column have its records after those that are a header.
 abbrev pub BeginsRows : Layout → List ℕ → Option (List ℕ) → Type 0
@@ -108,13 +156,19 @@ HaltsAtBegin layout known halt.Unread = Unit {0}
 HaltsAtBegin layout known (halt.Stop (stop.Row row kind)) = IsAtLongHeader layout known (stop.Row row kind)
 HaltsAtBegin layout known (halt.Stop _) = ⊥
 
+-- a stop at the header of a column, which has a fault, where the bytes of the column are known
+pub record IsAtHeader (layout : Layout) (files : List File) (known : Option (List ℕ)) (why : RunStop) : Type 0 where
+  pub kind : RowKind
+  pub is : why ≡ stop.Row 0 kind
+  pub fault : IfSome known (λ column. header_fault_in layout files column ≡ Some kind)
+
 -- the conversion of a column, where its bytes are known, ended before its rows began
-abbrev pub HaltsAtHead : {W : Type 0} → (W → Option (List ℕ)) → Counts W → Counts W → Layout → Option (List ℕ) → Halt → Type 0
-HaltsAtHead contents old new layout known halt.Unread = new ≡ old
-HaltsAtHead contents old new layout known (halt.Stop stop.Memory) = new ≡ old
-HaltsAtHead contents old new layout known (halt.Stop stop.WriteFailed) = HasFailedSince new old.failures × IfSome known (λ column. FailsWithin contents old new (own_line_in layout column))
-HaltsAtHead contents old new layout known (halt.Stop (stop.Row row kind)) = (new ≡ old) × IsAtLongHeader layout known (stop.Row row kind)
-HaltsAtHead contents old new layout known (halt.Stop _) = ⊥
+abbrev pub HaltsAtHead : {W : Type 0} → (W → Option (List ℕ)) → Counts W → Counts W → Layout → List File → Option (List ℕ) → Halt → Type 0
+HaltsAtHead contents old new layout files known halt.Unread = new ≡ old
+HaltsAtHead contents old new layout files known (halt.Stop stop.Memory) = new ≡ old
+HaltsAtHead contents old new layout files known (halt.Stop stop.WriteFailed) = HasFailedSince new old.failures × IfSome known (λ column. FailsWithin contents old new (own_line_in layout column))
+HaltsAtHead contents old new layout files known (halt.Stop (stop.Row row kind)) = (new ≡ old) × IsAtHeader layout files known (stop.Row row kind)
+HaltsAtHead contents old new layout files known (halt.Stop _) = ⊥
 
 -- the most bytes that a record may have, where one with more ends the run
 abbrev pub end_limit : AtFault → Records → Option ℕ → Option ℕ

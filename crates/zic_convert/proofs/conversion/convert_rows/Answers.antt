@@ -6,9 +6,9 @@ use Rattle.zic_columns.specs.Round.{unread}
 use Rattle.zic_columns.specs.Truncated.{truncated_known}
 use Rattle.zic_convert.specs.Column.{read_by}
 use Rattle.zic_convert.specs.code.Halt.{stop_of}
-use Rattle.zic_convert.proofs.Heads.{began_as, cause_at_head, converts_column, ends_at_head, ends_column}
-use Rattle.zic_convert.proofs.Joining.{on_err, on_ok}
-use Rattle.zic_convert.proofs.Rounds.{ends_map}
+use Rattle.zic_convert.proofs.Heads.{began_as, converts_column, ends_at_head, ends_column}
+use Rattle.zic_convert.proofs.Joining.{ok_both, on_err, on_ok}
+use Rattle.zic_convert.proofs.Rounds.{ends_from}
 use Rattle.zic_convert.proofs.Sounds.{agree_sound}
 use Rattle.zic_convert.proofs.conversion.convert_rows.Goals as goal
 
@@ -21,22 +21,25 @@ returns-in_err-column-clause-halt g c =
     let inside = option_map (exchanged c.new-exchanged.result.delimiter) (truncated_known short.most short.room (g.R.Read.remaining short.inner)) in
     let is : inside ≡ option_map (exchanged layout.delimiter) (option_map (read_by layout) known) =
     rw (c.new-exchanged.ensures.delimiter, c.byte.ensures.byte, c.new-exchanged.ensures.inner, c.new-short.ensures, c.read_of_lines.ensures) refl in
+    let ends = c.in_err-column.ensures.halt in
     rw (p.1, p.2, c.begin_rows.ensures.noted) (record {
-      then = c.args.zones.now;
-      grown = g.met.Z.Zones.same c.args.zones.now;
-      ends = inl refl;
+      then = ends.then;
+      grown = ends.grown;
+      ends = ends.ends;
       by = λ releases may.
           ends_at_head layout c.args.conversion.now.plan.now.max_rows c.args.conversion.now.max_faults c.records_by_are_exchanged.ensures c.texts_by_are_exchanged.ensures c.byte.ensures.sound known inside is g.W.Write.contents
-          c.files_answer_once.ensures c.args.writer.now c.begin_rows.new.writer (g.L.RowLog.noted c.args.log.now) releases (agree_sound (g.met.Z.Zones.agrees c.args.zones.now releases may)) c.in_err-column.field-0.0
-          c.in_err-column.ensures.halt;
+          c.files_answer_once.ensures c.args.writer.now c.begin_rows.new.writer (g.L.RowLog.noted c.args.log.now) releases (agree_sound (g.met.Z.Zones.agrees ends.then releases may)) c.in_err-column.field-0.0
+          (ends.by releases may);
     })
 
 pub returns-in_err-column-clause-cause : goal.returns-in_err-column-clause-cause
 returns-in_err-column-clause-cause g c =
     let p = err_from_is_err_and c.from_residual.result c.from_residual.ensures.1 in
-    let short = c.new-exchanged.result.inner in
-    let inside = option_map (exchanged c.new-exchanged.result.delimiter) (truncated_known short.most short.room (g.R.Read.remaining short.inner)) in
-    rw (p.1, p.2) (inl (cause_at_head g.W.Write.contents c.args.writer.now c.begin_rows.new.writer c.args.conversion.now.layout.now inside c.in_err-column.field-0.0 c.in_err-column.ensures.halt))
+    rw (p.1, p.2) (inl c.in_err-column.ensures.cause)
+
+pub returns-clause-grown : goal.returns-clause-grown
+returns-clause-grown g c =
+    on_ok c.convert_rounds.result _ _ (λ n grown. g.met.Z.Zones.then c.args.zones.now c.begin_rows.new.zones c.convert_rounds.new.zones c.in_ok-column.ensures.grown grown) c.convert_rounds.ensures.grown
 
 pub returns-clause-all : goal.returns-clause-all
 returns-clause-all g c =
@@ -49,10 +52,11 @@ returns-clause-all g c =
     rw (c.new-exchanged.ensures.delimiter, c.byte.ensures.byte, c.new-exchanged.ensures.inner, c.new-short.ensures, c.read_of_lines.ensures) refl in
     let left = unread (λ r. option_map (exchanged r.delimiter) (truncated_known r.inner.most r.inner.room (g.R.Read.remaining r.inner.inner))) c.in_ok-column.column in
     λ releases may. on_ok c.convert_rounds.result _ _
-    (λ n w. converts_column layout most c.args.conversion.now.max_faults c.records_by_are_exchanged.ensures c.texts_by_are_exchanged.ensures c.byte.ensures.sound known inside is releases left (g.W.Write.contents c.args.writer.now.inner)
+    (λ n both. converts_column layout most c.args.conversion.now.max_faults c.records_by_are_exchanged.ensures c.texts_by_are_exchanged.ensures c.byte.ensures.sound known inside is releases left (g.W.Write.contents c.args.writer.now.inner)
     (g.W.Write.contents c.begin_rows.new.writer.inner) (g.W.Write.contents c.convert_rounds.new.writer.inner) (g.L.RowLog.noted c.args.log.now) (g.L.RowLog.noted c.convert_rounds.new.log)
-    c.in_ok-column.ensures.begins c.in_ok-column.ensures.head n w)
-    (rw c.begin_rows.ensures.noted at (c.convert_rounds.ensures.all releases may))
+    c.in_ok-column.ensures.begins c.in_ok-column.ensures.head n
+    (c.in_ok-column.ensures.none releases (g.met.Z.Zones.narrows c.begin_rows.new.zones c.convert_rounds.new.zones releases both.0 may)) both.1)
+    (ok_both c.convert_rounds.result _ _ c.convert_rounds.ensures.grown (rw c.begin_rows.ensures.noted at (c.convert_rounds.ensures.all releases may)))
 
 pub returns-clause-halt : goal.returns-clause-halt
 returns-clause-halt g c =
@@ -65,7 +69,7 @@ returns-clause-halt g c =
     rw (c.new-exchanged.ensures.delimiter, c.byte.ensures.byte, c.new-exchanged.ensures.inner, c.new-short.ensures, c.read_of_lines.ensures) refl in
     let left = unread (λ r. option_map (exchanged r.delimiter) (truncated_known r.inner.most r.inner.room (g.R.Read.remaining r.inner.inner))) c.in_ok-column.column in
     on_err c.convert_rounds.result _ _
-    (λ why ends. ends_map g.Z.Zones.grown g.Z.Zones.broken g.Z.Zones.may_be c.args.zones.now c.convert_rounds.new.zones (stop_of why) (stop_of why) _ _ (λ e. e)
+    (λ why ends. ends_from g.Z.Zones.grown g.Z.Zones.broken g.Z.Zones.may_be g.met.Z.Zones.then c.args.zones.now c.begin_rows.new.zones c.convert_rounds.new.zones c.in_ok-column.ensures.grown (stop_of why) _ _
     (λ releases w. ends_column layout most c.args.conversion.now.max_faults c.records_by_are_exchanged.ensures c.texts_by_are_exchanged.ensures c.byte.ensures.sound known inside is releases left (g.W.Write.contents c.args.writer.now.inner)
     (g.W.Write.contents c.begin_rows.new.writer.inner) (g.W.Write.contents c.convert_rounds.new.writer.inner) (g.L.RowLog.noted c.args.log.now) (g.L.RowLog.noted c.convert_rounds.new.log)
     c.in_ok-column.ensures.begins c.in_ok-column.ensures.head (stop_of why) w) ends)
