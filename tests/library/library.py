@@ -243,7 +243,7 @@ def compare_names():
     page = os.path.join(os.path.dirname(os.path.abspath(__file__)), "../../docs/errors.txt")
     with open(page, encoding="utf-8") as file:
         printed = re.findall(r"^## (\w+)$", file.read(), re.M)
-    got = [name_of(c.name_of_fault, number) for number in range(45)]
+    got = [name_of(c.name_of_fault, number) for number in range(46)]
     got += ["ColumnTooLong"] + [name_of(c.name_of_reason, number) for number in range(16)]
     # The page has the faults of a row in the order of its checks.
     check(sorted(name for name in got if name) == sorted(printed[: printed.index("TooLarge") + 1]), "names")
