@@ -25,6 +25,9 @@ use zic_tzif::Zone;
 /// The least number of bytes of a file in which changes may come close together: some 450 changes.
 const LONG_FILE: usize = 4_096;
 
+/// The most zones that have an index.
+const MOST_INDEXES: usize = 4;
+
 /// What is made ready of a zone.
 #[derive(Drop)]
 struct ReadyZone {
@@ -84,7 +87,7 @@ impl Ready {
     {
         let numbers = self.texts.add_zone(alloc, zone)?;
         let tables = self.tables.add_zone(alloc, zone, &numbers)?;
-        let index = index_for(alloc, zone, len)?;
+        let index = index_for(alloc, zone, len, &self.zones)?;
         Ok(ReadyZone {
             numbers,
             tables,
@@ -201,14 +204,31 @@ impl Ready {
     }
 }
 
-/// Returns the index by which local times of a zone are found whose file has so many bytes. A short file has
-/// too few changes for a walk over them to be slow.
-fn index_for(alloc: Global, zone: &Zone, len: usize) -> Result<Option<LocalIndex>, AllocError>
+/// Returns the index by which local times of a zone are found whose file has so many bytes, after these
+/// zones. A short file has too few changes for a walk over them to be slow, and only a few zones have an
+/// index, since each takes twice the bytes of its file.
+fn index_for(
+    alloc: Global,
+    zone: &Zone,
+    len: usize,
+    before: &[ReadyZone],
+) -> Result<Option<LocalIndex>, AllocError>
     requires { HaveOffsets zone.now }
     ensures { IfOk result (λ made. IfSome made (IsIndexOf zone.now)) }
 {
-    if len < LONG_FILE {
+    if len < LONG_FILE || MOST_INDEXES <= index_count(before) {
         return Ok(None);
     }
     LocalIndex::for_zone(alloc, zone)
+}
+
+/// Returns how many zones have an index.
+fn index_count(zones: &[ReadyZone]) -> usize {
+    let mut count = 0usize;
+    for zone in zones {
+        if zone.index.is_some() {
+            count = count.saturating_add(1);
+        }
+    }
+    count
 }
