@@ -30,7 +30,7 @@ fn block(alloc: Global, len: usize) -> Result<Vec<u8>, AllocError> {
     Vec::with_capacity(alloc, len)
 }
 
-/// Has the system give the calling thread the stack that a conversion by so many workers needs. The system
+/// Has the system give the calling thread the stack that a conversion by `workers` workers needs. The system
 /// gives a program little of it at first and the rest as it is used, and ends the program by a signal where a
 /// limit on its memory (`ulimit -v`) refuses more. So ask for it before texts and rows take what is left.
 ///

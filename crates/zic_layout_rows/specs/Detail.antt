@@ -10,7 +10,7 @@ use Rattle.zic_zones.specs.Zones.{field_at, zone_in}
 abbrev pub line_feeds_before : List ℕ → ℕ → ℕ
 line_feeds_before piece at = length (filter (λ byte. byte == 10) (take at piece))
 
--- the number of the line where an index of a piece stands, with so many line feeds before the piece: one more than the line feeds before it, up
+-- the number of the line where an index of a piece stands, with `before` line feeds before the piece: one more than the line feeds before it, up
 -- to the greatest number of 64 bits
 abbrev pub line_at : ℕ → List ℕ → ℕ → ℕ
 line_at before piece at = min (before + line_feeds_before piece at + 1) (2 ^ 64 - 1)

@@ -76,7 +76,7 @@ impl Ready {
         Ok(())
     }
 
-    /// Makes a zone ready, whose file has so many bytes.
+    /// Makes a zone ready. `len` is the number of bytes of its file.
     fn zone(&mut self, alloc: Global, zone: &Zone, len: usize) -> Result<ReadyZone, AllocError>
         requires { HaveOffsets zone.now }
         ensures names { self.new.names ≡ self.old.names }
@@ -204,9 +204,10 @@ impl Ready {
     }
 }
 
-/// Returns the index by which local times of a zone are found whose file has so many bytes, after these
-/// zones. A short file has too few changes for a walk over them to be slow, and only a few zones have an
-/// index, since each takes twice the bytes of its file.
+/// Returns the index by which local times of a zone are found, if it gets one. `len` is the number of
+/// bytes of its file, and `before` has the zones that are ready. A short file has too few changes for a
+/// walk over them to be slow, and only a few zones have an index, since each takes twice the bytes of its
+/// file.
 fn index_for(
     alloc: Global,
     zone: &Zone,
