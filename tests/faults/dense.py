@@ -6,8 +6,9 @@ usage: dense.py PROGRAM FOLDER
 The UT offsets of a file are two in turn, or 200 at random, within 24 hours. Local times are at random round the changes, and one in
 four is far from them. What each means is found here by the definitions themselves: an instant of a local time is one at which the file's
 offset makes it, and a gap is at the first change that passes over it. Of 20,000 rows more for each file some are compared; the
-program has 30 seconds for them, where a walk over the changes round each takes minutes. Files are made in FOLDER. Prints a line for
-each file; the status is 1 where a row differs or the program takes longer.
+program has 30 seconds for them, where a walk over the changes round each takes minutes. One more column of 20,000 rows has eight names of
+six files in turn. Files are made in FOLDER. Prints a line for each column; the status is 1 where a row differs or the program takes
+longer.
 """
 import os
 import random
@@ -105,19 +106,25 @@ def some_locals(count):
         yield random.randrange(0, 2 ** 32) if i % 4 == 0 else random.randrange(START - WINDOW, START + COUNT + WINDOW)
 
 
-def compare(program, name, file, choice, times, step=1, seconds=None):
-    """compares every row, or one in so many, with what is meant"""
+def compare(program, files, choice, times, step=1, seconds=None):
+    """compares every row, or one in so many, with what is meant: the names of the files stand in the records in turn"""
+    names = [list(files)[i % len(files)] for i in range(len(times))]
     try:
-        rows, faults = convert(program, choice, [f"{name},{text_of(local)}" for local in times], seconds)
+        rows, faults = convert(program, choice, [f"{name},{text_of(local)}" for name, local in zip(names, times)], seconds)
     except subprocess.TimeoutExpired:
-        found.append(f"{name}: {len(times)} rows by {choice} take more than {seconds} seconds")
+        found.append(f"{names[0]}: {len(times)} rows by {choice} take more than {seconds} seconds")
         return
-    for number, (local, row) in list(enumerate(zip(times, rows), 1))[::step]:
+    for number, (name, local, row) in list(enumerate(zip(names, times, rows), 1))[::step]:
         told = faults.get(str(number)) or int(row.split(",")[2])
-        if told != file.meant(local, choice):
-            found.append(f"{name}: {text_of(local)} by {choice}: {told}, and not {file.meant(local, choice)}")
+        if told != files[name].meant(local, choice):
+            found.append(f"{name}: {text_of(local)} by {choice}: {told}, and not {files[name].meant(local, choice)}")
     if len(rows) != len(times):
-        found.append(f"{name}: {len(rows)} rows of {len(times)}")
+        found.append(f"{names[0]}: {len(rows)} rows of {len(times)}")
+
+
+def place(name, file):
+    with open(f"tree/{name}", "wb") as out:
+        out.write(file.octets())
 
 
 def main():
@@ -126,14 +133,19 @@ def main():
     os.chdir(folder)
     os.mkdir("tree")
     for name, make in FILES.items():
-        file = make()
-        with open(f"tree/{name}", "wb") as out:
-            out.write(file.octets())
+        files = {name: make()}
+        place(name, files[name])
         times = list(some_locals(ROWS))
         for choice in CHOICES:
-            compare(program, name, file, choice, times)
-        compare(program, name, file, "compatible", list(some_locals(MANY)), STEP, SECONDS)
+            compare(program, files, choice, times)
+        compare(program, files, "compatible", list(some_locals(MANY)), STEP, SECONDS)
         print(f"{name}: {len(CHOICES) * ROWS} rows, and one in {STEP} of {MANY}")
+    several = {f"file{i}": FILES["many"]() for i in range(6)}
+    several |= {f"link{i}": several[f"file{i}"] for i in range(2)}
+    for name, file in several.items():
+        place(name, file)
+    compare(program, several, "compatible", list(some_locals(MANY)), STEP, SECONDS)
+    print(f"eight names of six files: one in {STEP} of {MANY} rows")
     for line in found[:20]:
         print(line, file=sys.stderr)
     sys.exit(bool(found))

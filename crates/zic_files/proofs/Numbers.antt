@@ -1,6 +1,6 @@
 -- The numbers of files by their names.
 use Rattle.std.proofs.Common.{◌≡◌, ◌≢◌, ◌<◌, ◌≤◌, ◌+◌, ◌-◌, ◌*◌, ◌%◌, ◌^◌, ℕ, zero, suc, List, [], ◌∷◌, ◌++◌, length, set, take, replicate, get_or, Option, Some, None, ◌⊎◌, inl, inr, ⊎_elim, refl, sym, subst, ap, ◌∙◌, arith}
-use Rattle.std.specs.Prelude.{All, IfSome, IfNone, IsSomeAnd, OnErr, Result, Ok, Err, map, slice_get}
+use Rattle.std.specs.Prelude.{All, IfSome, IfNone, IsSomeAnd, OnErr, Result, Ok, Err, map, slice_get, slice_index_or}
 use Rattle.std.proofs.Math.ListN.{length-set}
 use Rattle.std.proofs.Math.Seq.{get_or-append_seam, take-append_seam}
 use Rattle.std.proofs.lemmas.Bool.{cases_lt}
@@ -9,9 +9,9 @@ use Rattle.std.proofs.lemmas.List.Elements.{All-map}
 use Rattle.std.proofs.lemmas.Nat.{mul-le}
 use Rattle.std.proofs.lemmas.Option.{slice_get-get_or, slice_get_within, get_or_from_slice_get}
 use Rattle.std.specs.Simd.Lanes.{fold_l}
-use Rattle.zic_base.proofs.Lists.{take_next}
+use Rattle.zic_base.proofs.Lists.{get_mapped, take_next}
 use Rattle.zic_files.specs.declared.entry.Entry.{Entry}
-use Rattle.zic_files.specs.File.{FileImage, file_of}
+use Rattle.zic_files.specs.File.{FileImage, file_of, no_image}
 use Rattle.zic_files.specs.declared.name_index.NameIndex.{NameIndex}
 use Rattle.zic_files.specs.code.NameIndex.{bucket_in, bucket_of, hash_more, hash_of, IsLastIn, AreLinked, AreNumbersUpTo, AreNumbersOf, IsSought}
 
@@ -288,3 +288,9 @@ pub file_missing : (images : List FileImage) (entries : List Entry) (name : List
     → IfNone number (All (λ file. file.name ≢ name) (map (file_of images) entries))
 file_missing images entries name None missing = All-map (λ file. file.name ≢ name) (file_of images) entries missing
 file_missing images entries name (Some i) missing = tt
+
+-- files whose entries have one number have one image
+pub shared : (images : List FileImage) (entries : List Entry) (i j : ℕ) (a b : Entry) → slice_get entries i ≡ Some a → slice_get entries j ≡ Some b → a.zone ≡ b.zone
+    → IfSome (slice_get (map (file_of images) entries) i) (λ file. IfSome (slice_get (map (file_of images) entries) j) (λ other. file.image ≡ other.image))
+shared images entries i j a b at_a at_b same =
+    rw (get_mapped (file_of images) entries i a at_a, get_mapped (file_of images) entries j b at_b) (ap (λ (n : ℕ). slice_index_or images n no_image) same)

@@ -148,6 +148,17 @@ impl Files {
         self.image(i).zone()
     }
 
+    /// Returns whether two files share one image, by their numbers from 0. A link shares that of its zone.
+    /// Files with images of their own may still have the same bytes.
+    pub fn share_image(&self, i: usize, j: usize) -> bool
+        requires first { i < length self.now }
+        requires second { j < length self.now }
+        ensures { result ≡ true → IfSome (slice_get self.now i)
+            (λ a. IfSome (slice_get self.now j) (λ b. a.image ≡ b.image)) }
+    {
+        self.entries[i].zone == self.entries[j].zone
+    }
+
     /// Returns the number of the file of this name, or `None` where no file has it. Looks it up by
     /// hash.
     pub fn find(&self, name: &[u8]) -> Option<usize>

@@ -1,15 +1,18 @@
 -- What is made ready of files.
-use Rattle.std.proofs.Common.{◌≡◌, ◌∙◌, ◌<◌, ◌++◌, ℕ, zero, suc, List, [], ◌∷◌, length, Option, Some, None, inl, inr, ap, subst, sym, length-append, arith}
-use Rattle.std.specs.Prelude.{ℤ, pos, ◌+ℤ◌, ◌-ℤ◌, ◌+◌, IfSome, slice_get, slice_index_or, unsigned_abs}
+use Rattle.std.proofs.Common.{◌≡◌, ◌∙◌, ◌<◌, ◌++◌, ℕ, zero, suc, List, [], ◌∷◌, length, Option, Some, None, inl, inr, ap, refl, subst, sym, length-append, arith}
+use Rattle.std.specs.Prelude.{ℤ, pos, ◌+ℤ◌, ◌-ℤ◌, ◌+◌, IfSome, is_some, slice_get, slice_index_or, unsigned_abs}
+use Rattle.std.proofs.Math.Dec.{ltb}
+use Rattle.std.proofs.lemmas.Bool.{ltb-true}
 use Rattle.std.proofs.lemmas.Int.{ints}
-use Rattle.std.proofs.lemmas.Option.{same_Some, slice_get_within}
+use Rattle.std.proofs.lemmas.Option.{same_Some, slice_get_read, slice_get_within}
 use Rattle.zic_base.proofs.Elements.{got}
-use Rattle.zic_base.proofs.Options.{if_at}
+use Rattle.zic_base.proofs.Options.{if_at, some_of}
 use Rattle.zic_base.specs.State.{Shown}
-use Rattle.zic_files.specs.File.{File}
+use Rattle.zic_files.specs.File.{File, FileImage}
 use Rattle.zic_files.specs.Sound.{IsAlwaysKnown}
 use Rattle.zic_local.specs.Index.{IsIndexOf}
 use Rattle.zic_local.specs.LocalTime.{HaveOffsets}
+use Rattle.zic_local.specs.declared.local_index.LocalIndex.{LocalIndex}
 use Rattle.zic_zones.proofs.Slots.{got_more}
 use Rattle.zic_zones.specs.Places.{IsPlaceOf, base_of, start_of}
 use Rattle.zic_zones.specs.Slots.{number_at}
@@ -19,8 +22,8 @@ use Rattle.zic_zones.specs.declared.slot.Slot.{Slot}
 use Rattle.zic_tzif.specs.Content.{Content}
 use Rattle.zic_zones.proofs.Held.{names_still}
 use Rattle.zic_zones.proofs.Slotted.{table_still}
-use Rattle.zic_zones.proofs.Numbered.{numbers_still}
-use Rattle.zic_zones.specs.code.Ready.{AnswersState, AreReady, IsReadyZone, IsTextOf}
+use Rattle.zic_zones.proofs.Numbered.{keeps_same, numbers_still}
+use Rattle.zic_zones.specs.code.Ready.{AnswersState, AreReady, HasIndex, IsReadyZone, IsTextOf}
 use Rattle.zic_zones.specs.code.NameKeys.{AreNamesOf}
 use Rattle.zic_zones.specs.code.Near.{AnswersNear, IsNumberNear}
 use Rattle.zic_zones.specs.code.Tables.{HasTexts}
@@ -40,16 +43,52 @@ pub if_some_then : {X : Type 0} (o : Option X) {P Q : X → Type 0} → IfSome o
 if_some_then None holds then = tt
 if_some_then (Some x) holds then = then x holds
 
+-- what follows for the item of a number follows for what was found
+pub found_then : {A X : Type 0} (now : A → X) (xs : List X) (i : ℕ) (o : Option A) (P : X → Type 0) → is_some o ≡ ltb i (length xs) → IfSome o (λ a. now a ≡ slice_index_or xs i (now a))
+    → ((x : X) → slice_get xs i ≡ Some x → P x) → IfSome o (λ a. P (now a))
+found_then now xs i None P some is then = tt
+found_then now xs i (Some a) P some is then = then (now a) (slice_get_read xs (length xs) i (now a) refl (ltb-true i (length xs) (sym some)) is)
+
 -- UT offsets within 24:00:00 are near
 pub near_known : (content : Content) → IsAlwaysKnown content → HaveOffsets content
 near_known content known t offset at = let within = (known t (Some at.state) at.answers).offset in let is = at.is in omega (arith, ints, within, is)
 
-zone_still : (content : Content) (texts texts' : List Shown) (slots slots' : List Slot) (zone : ReadyZone) → Keeps texts texts' → Keeps slots slots'
-    → IsReadyZone content texts slots zone → IsReadyZone content texts' slots' zone
-zone_still content texts texts' slots slots' zone keeps keeps' is = record {
-  numbers = numbers_still content texts texts' zone.numbers.items keeps is.numbers;
-  tables = λ era start at. table_still texts texts' slots slots' (AnswersState content) (base_of era) start keeps keeps' (is.tables era start at);
-  index = is.index;
+got_pushed : {X : Type 0} (xs : List X) (x : X) → slice_get (xs ++ x ∷ []) (length xs) ≡ Some x
+got_pushed [] x = refl
+got_pushed (y ∷ xs) x = got_pushed xs x
+
+-- an index that is added has the next number
+pub index_pushed : (files : List File) (file : ℕ) (content : Content) (old new : List LocalIndex) (index : LocalIndex) (number : ℕ) → new ≡ old ++ index ∷ [] → number ≡ length old → IsIndexOf content index
+    → IfSome (slice_get files file) (λ f. content ≡ f.image.content) → IfSome (slice_get files file) (λ f. HasIndex f.image.content new number)
+index_pushed files file content old new index number pushed count is at =
+    if_some_then (slice_get files file) at (λ f same. rw (pushed, count, got_pushed old index) (subst (λ (c : Content). IsIndexOf c index) same is))
+
+-- and it is that of the zone
+pub index_of_zone : (files : List File) (file : ℕ) (content : Content) (indexes : List LocalIndex) (index : Option ℕ) → file < length files
+    → IfSome index (λ number. IfSome (slice_get files file) (λ f. HasIndex f.image.content indexes number)) → IfSome (slice_get files file) (λ f. content ≡ f.image.content)
+    → IfSome index (HasIndex content indexes)
+index_of_zone files file content indexes index within has is =
+    let (f, at) = got files file within in
+    let same = if_at (slice_get files file) (λ (g : File). content ≡ g.image.content) f is at in
+    if_some_then index has (λ number of. subst (λ (c : Content). HasIndex c indexes number) (sym same) (if_at (slice_get files file) (λ (g : File). HasIndex g.image.content indexes number) f of at))
+
+-- what stays keeps its numbers
+pub keeps_is : {X : Type 0} (old new : List X) → new ≡ old → Keeps old new
+keeps_is old new same = subst (Keeps old) (sym same) (keeps_same old)
+
+-- an index keeps its number
+pub index_still : (content : Content) (old new : List LocalIndex) → Keeps old new → (number : Option ℕ) → IfSome number (HasIndex content old) → IfSome number (HasIndex content new)
+index_still content old new keeps None has = tt
+index_still content old new keeps (Some n) has =
+    let (index, at, is) = some_of (slice_get old n) (IsIndexOf content) has in
+    rw (keeps.still n index at) is
+
+zone_still : (content : Content) (old new : Ready) (zone : ReadyZone) → Keeps old.texts new.texts → Keeps old.tables new.tables → Keeps old.indexes.items new.indexes.items
+    → IsReadyZone content old.texts old.tables old.indexes.items zone → IsReadyZone content new.texts new.tables new.indexes.items zone
+zone_still content old new zone texts tables indexes is = record {
+  numbers = numbers_still content old.texts new.texts zone.numbers.items texts is.numbers;
+  tables = λ era start at. table_still old.texts new.texts old.tables new.tables (AnswersState content) (base_of era) start texts tables (is.tables era start at);
+  index = index_still content old.indexes.items new.indexes.items indexes zone.index is.index;
 }
 
 -- files that follow aren't ready
@@ -64,33 +103,32 @@ files_added files more ready are = record {
       are.each i file zone (got_before files more i file within at) ready_at;
 }
 
--- the files stay ready as texts and tables are added
+-- the files stay ready as texts, tables and indexes are added
 pub ready_as_more : (files : List File) (old new : Ready) → new.names ≡ old.names → new.zones.items ≡ old.zones.items → Keeps old.texts new.texts → Keeps old.tables new.tables
-    → AreReady files old → AreReady files new
-ready_as_more files old new named same texts tables are = record {
+    → Keeps old.indexes.items new.indexes.items → AreReady files old → AreReady files new
+ready_as_more files old new named same texts tables indexes are = record {
   names = subst (λ (l : List (List ℕ)). AreNamesOf files l) (sym named) are.names;
   few = rw same are.few;
   each = λ i file zone at ready_at.
       let before : slice_get old.zones.items i ≡ Some zone = ap (λ (l : List ReadyZone). slice_get l i) (sym same) ∙ ready_at in
-      zone_still file.image.content old.texts new.texts old.tables new.tables zone texts tables (are.each i file zone at before);
+      zone_still file.image.content old new zone texts tables indexes (are.each i file zone at before);
 }
 
 -- one file more is ready
 pub ready_added : (files : List File) (old new : Ready) (zone : ReadyZone) (content : Content) → new.names ≡ old.names → new.zones.items ≡ old.zones.items ++ zone ∷ []
-    → new.texts ≡ old.texts → new.tables ≡ old.tables → length old.zones.items < length files
-    → IfSome (slice_get files (length old.zones.items)) (λ file. content ≡ file.image.content) → IsReadyZone content new.texts new.tables zone → AreReady files old → AreReady files new
-ready_added files old new zone content named pushed texts tables lt is made are = record {
+    → Keeps old.texts new.texts → Keeps old.tables new.tables → Keeps old.indexes.items new.indexes.items → length old.zones.items < length files
+    → IfSome (slice_get files (length old.zones.items)) (λ file. content ≡ file.image.content) → IsReadyZone content new.texts new.tables new.indexes.items zone → AreReady files old → AreReady files new
+ready_added files old new zone content named pushed texts tables indexes lt is made are = record {
   names = subst (λ (l : List (List ℕ)). AreNamesOf files l) (sym named) are.names;
   few = rw pushed (omega (arith, lt, length-append old.zones.items (zone ∷ [])));
   each = λ i file one at ready_at.
       let more : slice_get (old.zones.items ++ zone ∷ []) i ≡ Some one = ap (λ (l : List ReadyZone). slice_get l i) (sym pushed) ∙ ready_at in
       elim (got_more old.zones.items zone one i more) [
-        | inl before ↦
-            subst (λ (l : List Shown). IsReadyZone file.image.content l new.tables one) (sym texts)
-            (subst (λ (l : List Slot). IsReadyZone file.image.content old.texts l one) (sym tables) (are.each i file one at before))
+        | inl before ↦ zone_still file.image.content old new one texts tables indexes (are.each i file one at before)
         | inr last ↦
             let same = if_at (slice_get files (length old.zones.items)) (λ (f : File). content ≡ f.image.content) file is (ap (slice_get files) last.0 ∙ at) in
-            subst (λ (z : ReadyZone). IsReadyZone file.image.content new.texts new.tables z) last.1 (subst (λ (c : Content). IsReadyZone c new.texts new.tables zone) same made)
+            subst (λ (z : ReadyZone). IsReadyZone file.image.content new.texts new.tables new.indexes.items z) last.1
+            (subst (λ (c : Content). IsReadyZone c new.texts new.tables new.indexes.items zone) same made)
       ];
 }
 
@@ -112,9 +150,26 @@ module _ (files : List File) (ready : Ready) (are : AreReady files ready) (file 
       let lt = slice_get_within ready.zones.items file zone ready_at in
       got files file (omega (arith, few, lt))
 
-  -- the index of the zone
-  pub index_found : IfSome (slice_get files file) (λ f. IfSome zone.index (IsIndexOf f.image.content))
-  index_found = let (f, at) = its_file in rw at (are.each file f zone at ready_at).index
+  own_index : (f : File) → slice_get files file ≡ Some f → (number : ℕ) → zone.index ≡ Some number → HasIndex f.image.content ready.indexes.items number
+  own_index f at number has = if_at zone.index (HasIndex f.image.content ready.indexes.items) number (are.each file f zone at ready_at).index has
+
+  -- the index that is found by its number
+  pub index_found : (number : ℕ) → zone.index ≡ Some number → {A : Type 0} (found : Option A) (now : A → LocalIndex) → is_some found ≡ ltb number (length ready.indexes.items)
+      → IfSome found (λ a. now a ≡ slice_index_or ready.indexes.items number (now a)) → IfSome (slice_get files file) (λ f. IfSome found (λ a. IsIndexOf f.image.content (now a)))
+  index_found number has found now some is =
+      let (f, at) = its_file in
+      let (index, at_index, of) = some_of (slice_get ready.indexes.items number) (IsIndexOf f.image.content) (own_index f at number has) in
+      rw at (found_then now ready.indexes.items number found (IsIndexOf f.image.content) some is
+      (λ other at_other. subst (λ (i : LocalIndex). IsIndexOf f.image.content i) (same_Some index other (sym at_index ∙ at_other)) of))
+
+  -- a file with the same image has it too
+  pub index_shared : (number : ℕ) → zone.index ≡ Some number → (other : ℕ) → IfSome (slice_get files file) (λ a. IfSome (slice_get files other) (λ b. a.image ≡ b.image))
+      → IfSome (slice_get files other) (λ f. HasIndex f.image.content ready.indexes.items number)
+  index_shared number has other share =
+      let (f, at) = its_file in
+      let own = own_index f at number has in
+      if_some_then (slice_get files other) (if_at (slice_get files file) (λ (a : File). IfSome (slice_get files other) (λ b. a.image ≡ b.image)) f share at)
+      (λ g same. subst (λ (image : FileImage). HasIndex image.content ready.indexes.items number) same own)
 
   -- the number of a state
   pub state_found : (number n : ℕ) → slice_get zone.numbers.items number ≡ Some n → HasState ready.texts n (λ s. IsTextOf files file number s)

@@ -3,11 +3,10 @@
 ghost use Rattle.std.specs.Prelude.{◌≡◌, ◌<◌, ◌≤◌, List, [], IfOk, IfSome, Some, length, slice_get, slice_range};
 ghost use Rattle.zic_files.specs.File.{File};
 ghost use Rattle.zic_local.specs.Index.{IsIndexOf};
-ghost use Rattle.zic_local.specs.LocalTime.{HaveOffsets};
 ghost use Rattle.zic_zones.specs.States.{HasState};
 ghost use Rattle.zic_zones.specs.Zones.{AnswersAt};
 ghost use Rattle.zic_zones.specs.code.Near.{AnswersNear};
-ghost use Rattle.zic_zones.specs.code.Ready.{AreReady, IsFileOf, IsReadyZone, IsTextOf};
+ghost use Rattle.zic_zones.specs.code.Ready.{AreReady, HasIndex, IsFileOf, IsReadyZone, IsTextOf};
 ghost use Rattle.zic_zones.specs.code.Texts.{Keeps};
 
 use crate::limit::{ERAS, UNKNOWN};
@@ -25,9 +24,6 @@ use zic_tzif::Zone;
 /// The least number of bytes of a file in which changes may come close together: some 450 changes.
 const LONG_FILE: usize = 4_096;
 
-/// The most zones that have an index.
-const MOST_INDEXES: usize = 4;
-
 /// What is made ready of a zone.
 #[derive(Drop)]
 struct ReadyZone {
@@ -35,8 +31,8 @@ struct ReadyZone {
     numbers: Vec<u16>,
     /// Where the table of each era begins, where there is one.
     tables: [Option<u32>; ERAS],
-    /// The index by which local times are found, where a walk would be slow.
-    index: Option<LocalIndex>,
+    /// The number of the index by which local times are found, where a walk would be slow.
+    index: Option<usize>,
 }
 
 /// The texts of the states that files show, made once for all rows, and tables of the states by
@@ -46,6 +42,8 @@ pub(crate) struct Ready {
     names: NameKeys,
     texts: Texts,
     tables: Tables,
+    /// Indexes of local times. Zones that share an image share its index.
+    indexes: Vec<LocalIndex>,
     /// By the number of the file.
     zones: Vec<ReadyZone>,
 }
@@ -59,6 +57,7 @@ impl Ready {
             names: NameKeys::new(alloc),
             texts: Texts::new(alloc),
             tables: Tables::new(alloc, expected),
+            indexes: Vec::new(alloc),
             zones: Vec::new(alloc),
         }
     }
@@ -70,29 +69,87 @@ impl Ready {
     {
         self.names.extend(alloc, files)?;
         for file in self.zones.len()..files.len() {
-            let zone = self.zone(alloc, files.zone(file), files.bytes(file).len())?;
+            let index = self.index_of(alloc, files, file)?;
+            let zone = self.zone(alloc, files.zone(file), index)?;
             self.zones.push(zone)?;
         }
         Ok(())
     }
 
-    /// Makes a zone ready. `len` is the number of bytes of its file.
-    fn zone(&mut self, alloc: Global, zone: &Zone, len: usize) -> Result<ReadyZone, AllocError>
-        requires { HaveOffsets zone.now }
+    /// Makes a zone ready. `index` is the number of its index, if it has one.
+    fn zone(
+        &mut self,
+        alloc: Global,
+        zone: &Zone,
+        index: Option<usize>,
+    ) -> Result<ReadyZone, AllocError>
+        requires { IfSome index (HasIndex zone.now self.old.indexes.items) }
         ensures names { self.new.names ≡ self.old.names }
         ensures zones { self.new.zones ≡ self.old.zones }
+        ensures indexes { self.new.indexes ≡ self.old.indexes }
         ensures texts { Keeps self.old.texts self.new.texts }
         ensures tables { Keeps self.old.tables self.new.tables }
-        ensures ready { IfOk result (IsReadyZone zone.now self.new.texts self.new.tables) }
+        ensures ready { IfOk result
+            (IsReadyZone zone.now self.new.texts self.new.tables self.new.indexes.items) }
     {
         let numbers = self.texts.add_zone(alloc, zone)?;
         let tables = self.tables.add_zone(alloc, zone, &numbers)?;
-        let index = index_for(alloc, zone, len, &self.zones)?;
         Ok(ReadyZone {
             numbers,
             tables,
             index,
         })
+    }
+
+    /// Returns the number of the index by which local times of a file are found, if it gets one. A short
+    /// file has too few changes for a walk over them to be slow.
+    fn index_of(
+        &mut self,
+        alloc: Global,
+        files: &Files,
+        file: usize,
+    ) -> Result<Option<usize>, AllocError>
+        requires within { file < length files.now }
+        requires ready { AreReady files.now self.old }
+        ensures names { self.new.names ≡ self.old.names }
+        ensures zones { self.new.zones ≡ self.old.zones }
+        ensures texts { self.new.texts ≡ self.old.texts }
+        ensures tables { self.new.tables ≡ self.old.tables }
+        ensures indexes { Keeps self.old.indexes.items self.new.indexes.items }
+        ensures index { IfOk result (λ made. IfSome made (λ number.
+            IfSome (slice_get files.now file)
+            (λ f. HasIndex f.image.content self.new.indexes.items number))) }
+    {
+        if files.bytes(file).len() < LONG_FILE {
+            return Ok(None);
+        }
+        if let Some(number) = self.shared_index(files, file) {
+            return Ok(Some(number));
+        }
+        let Some(index) = LocalIndex::for_zone(alloc, files.zone(file))? else {
+            return Ok(None);
+        };
+        let number = self.indexes.len();
+        self.indexes.push(index)?;
+        Ok(Some(number))
+    }
+
+    /// Returns the number of the index of a file that is ready and shares the image of another, if one
+    /// has an index.
+    fn shared_index(&self, files: &Files, file: usize) -> Option<usize>
+        requires within { file < length files.now }
+        requires ready { AreReady files.now self.now }
+        ensures { IfSome result (λ number. IfSome (slice_get files.now file)
+            (λ f. HasIndex f.image.content self.now.indexes.items number)) }
+    {
+        for other in 0..self.zones.len() {
+            if let Some(number) = self.zones[other].index {
+                if files.share_image(other, file) {
+                    return Some(number);
+                }
+            }
+        }
+        None
     }
 
     /// Returns the number of the file that a part of some bytes names, if it is at hand.
@@ -112,7 +169,8 @@ impl Ready {
             → IfSome (slice_get files file) (λ f. IfSome result (λ index. IsIndexOf f.image.content index.now)) }
     {
         let zone = self.zones.get(file)?;
-        zone.index.as_ref()
+        let number = zone.index?;
+        self.indexes.get(number)
     }
 
     /// Returns the number of the text of a state of a file, by the number of the state, where one was
@@ -202,34 +260,4 @@ impl Ready {
     {
         self.texts.get(self.state(file, number))
     }
-}
-
-/// Returns the index by which local times of a zone are found, if it gets one. `len` is the number of
-/// bytes of its file, and `before` has the zones that are ready. A short file has too few changes for a
-/// walk over them to be slow, and only a few zones have an index, since each takes twice the bytes of its
-/// file.
-fn index_for(
-    alloc: Global,
-    zone: &Zone,
-    len: usize,
-    before: &[ReadyZone],
-) -> Result<Option<LocalIndex>, AllocError>
-    requires { HaveOffsets zone.now }
-    ensures { IfOk result (λ made. IfSome made (IsIndexOf zone.now)) }
-{
-    if len < LONG_FILE || MOST_INDEXES <= index_count(before) {
-        return Ok(None);
-    }
-    LocalIndex::for_zone(alloc, zone)
-}
-
-/// Returns how many zones have an index.
-fn index_count(zones: &[ReadyZone]) -> usize {
-    let mut count = 0usize;
-    for zone in zones {
-        if zone.index.is_some() {
-            count = count.saturating_add(1);
-        }
-    }
-    count
 }

@@ -8,6 +8,7 @@ use Rattle.zic_tzif.specs.Answer.{Answers}
 use Rattle.zic_tzif.specs.Content.{Content}
 use Rattle.zic_tzif.specs.States.{IsStateOfNumber}
 use Rattle.zic_local.specs.Index.{IsIndexOf}
+use Rattle.zic_local.specs.declared.local_index.LocalIndex.{LocalIndex}
 use Rattle.zic_zones.specs.code.NameKeys.{AreNamesOf}
 use Rattle.zic_zones.specs.code.Tables.{IsTable}
 use Rattle.zic_zones.specs.code.Texts.{AreNumbersOf}
@@ -18,18 +19,22 @@ use Rattle.zic_zones.specs.declared.ready.ReadyZone.{ReadyZone}
 abbrev pub AnswersState : Content → ℤ → Shown → Type 0
 AnswersState content t state = Answers content t (Some state)
 
--- The numbers of a zone's texts, tables of them for its eras, and its index, if it has one.
-pub record IsReadyZone (content : Content) (texts : List Shown) (slots : List Slot) (zone : ReadyZone) : Type 0 where
+-- the index of this number is that of a zone with this content
+abbrev pub HasIndex : Content → List LocalIndex → ℕ → Type 0
+HasIndex content indexes number = IsSomeAnd (slice_get indexes number) (IsIndexOf content)
+
+-- The numbers of a zone's texts, tables of them for its eras, and the number of its index, if it has one.
+pub record IsReadyZone (content : Content) (texts : List Shown) (slots : List Slot) (indexes : List LocalIndex) (zone : ReadyZone) : Type 0 where
   pub numbers : AreNumbersOf content texts zone.numbers.items
   pub tables : (era start : ℕ) → slice_index_or zone.tables era None ≡ Some start → IsTable texts slots (AnswersState content) (base_of era) start
-  pub index : IfSome zone.index (IsIndexOf content)
+  pub index : IfSome zone.index (HasIndex content indexes)
 
 -- The first files are ready, and their names.
 pub record AreReady (files : List File) (ready : Ready) : Type 0 where
   pub names : AreNamesOf files ready.names
   pub few : length ready.zones.items ≤ length files
   pub each : (i : ℕ) (file : File) (zone : ReadyZone) → slice_get files i ≡ Some file → slice_get ready.zones.items i ≡ Some zone
-      → IsReadyZone file.image.content ready.texts ready.tables zone
+      → IsReadyZone file.image.content ready.texts ready.tables ready.indexes.items zone
 
 -- the file of this number has this state, by the state's number
 abbrev pub IsTextOf : List File → ℕ → ℕ → Shown → Type 0

@@ -16,5 +16,5 @@ returns-clause-ready c =
     record {
       numbers = of;
       tables = λ era start begins. texts_of_table content numbers texts slots (base_of era) start of (have.each era start begins);
-      index = c.in_ok-index.ensures;
+      index = c.requires;
     }
