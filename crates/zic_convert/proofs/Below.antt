@@ -18,7 +18,7 @@ use Rattle.zic_base.specs.declared.run_stop.RunStop.TheVariants as stop
 use Rattle.zic_convert.specs.Column.{AreRowRecords, header_of, header_text, names_added, names_line, names_of, own_line}
 use Rattle.zic_layout_rows.specs.LayoutRows.{faults_by}
 use Rattle.zic_convert.specs.Header.{IsHeaderFault}
-use Rattle.zic_convert.specs.Run.{AreFew, EndsAfterLines, EndsAtHeader, EndsIn, HasNames, Notes, WritesRows}
+use Rattle.zic_convert.specs.Run.{AreFew, EndsAfterLines, EndsAtHeader, EndsIn, HasNames, Notes, PassesHeader, WritesRows}
 use Rattle.zic_convert.specs.code.Progress.{ConvertsColumn, EndsInColumn, output}
 use Rattle.zic_convert.proofs.Bytes.{starts_later}
 use Rattle.zic_convert.proofs.Options.{for_some, if_some}
@@ -167,22 +167,32 @@ module _ (layout : Layout) (most : ℕ) (limit : Option ℕ) (known : Option (Li
 
   pub column_ends_after_names : (why : RunStop) → EndsInColumn layout most limit known why (output mid new log last) releases
       → IfSome known (λ column. EndsAtHeader layout releases.zones column why (names_line layout) (output old new log last)
-      ⊎ ((row_records : List CsvRecord) × AreRowRecords layout column row_records × EndsIn layout releases most limit (header_text layout column) row_records why (output old new log last)
+      ⊎ (PassesHeader layout releases.zones column why (names_line layout) (output old new log last)
+      × (row_records : List CsvRecord) × AreRowRecords layout column row_records × EndsIn layout releases most limit (header_text layout column) row_records why (output old new log last)
       × HasNames layout (output old new log last)))
   column_ends_after_names why ends = if_some known _ (λ column e. below column (for_some known _ column ends e))
     where
+      names_alone : Appends mid new [] → Appends old new (names_line layout)
+      names_alone wrote = subst (λ (l : List ℕ). Appends old new l) (append-nil (names_line layout)) (appends-more old mid new (names_line layout) [] begun wrote)
+
+      header_passes : (column : List ℕ) → PassesHeader layout releases.zones column why [] (output mid new log last) → PassesHeader layout releases.zones column why (names_line layout) (output old new log last)
+      header_passes column (inl none) = inl none
+      header_passes column (inr before) = inr (record { at_no_row = before.at_no_row; wrote = names_alone before.wrote; noted = before.noted })
+
       below : (column : List ℕ) → EndsAtHeader layout releases.zones column why [] (output mid new log last)
-          ⊎ ((row_records : List CsvRecord) × AreRowRecords layout column row_records × EndsIn layout releases most limit (own_line layout column) row_records why (output mid new log last))
+          ⊎ (PassesHeader layout releases.zones column why [] (output mid new log last)
+          × (row_records : List CsvRecord) × AreRowRecords layout column row_records × EndsIn layout releases most limit (own_line layout column) row_records why (output mid new log last))
           → EndsAtHeader layout releases.zones column why (names_line layout) (output old new log last)
-          ⊎ ((row_records : List CsvRecord) × AreRowRecords layout column row_records × EndsIn layout releases most limit (header_text layout column) row_records why (output old new log last)
+          ⊎ (PassesHeader layout releases.zones column why (names_line layout) (output old new log last)
+          × (row_records : List CsvRecord) × AreRowRecords layout column row_records × EndsIn layout releases most limit (header_text layout column) row_records why (output old new log last)
           × HasNames layout (output old new log last))
       below column (inl h) = inl (record {
         kind = h.kind;
         is = h.is;
         fault = h.fault;
-        wrote = subst (λ (l : List ℕ). Appends old new l) (append-nil (names_line layout)) (appends-more old mid new (names_line layout) [] begun h.wrote);
+        wrote = names_alone h.wrote;
         noted = h.noted;
       })
-      below column (inr (row_records, are, w)) =
+      below column (inr (passes, row_records, are, w)) =
           let both = ends_after_names layout releases most limit column row_records old mid new log last begun why w in
-          inr (row_records, are, both.0, both.1)
+          inr (header_passes column passes, row_records, are, both.0, both.1)

@@ -1,10 +1,11 @@
 -- How a conversion ends, by the outcome of its column.
-use Rattle.std.proofs.Common.{◌≡◌, ◌∙◌, ◌++◌, ◌-◌, ℕ, suc, List, ◌∷◌, take, Option, None, inl, inr, refl, sym, ap, subst, arith}
+use Rattle.std.proofs.Common.{◌≡◌, ◌∙◌, ◌++◌, ◌-◌, ℕ, suc, List, [], ◌∷◌, take, Option, None, inl, inr, refl, sym, ap, subst, arith}
 use Rattle.std.proofs.lemmas.List.{take_all}
 use Rattle.std.proofs.Math.Seq.{take-length}
 use Rattle.std.specs.Io.{StartsWith}
 use Rattle.std.specs.List.{concat}
 use Rattle.std.specs.Prelude.{IfErr, IfOk, Result, Ok, Err}
+use Rattle.zic_base.specs.declared.row_fault.RowKind.{RowKind}
 use Rattle.zic_base.specs.declared.run_stop.RunStop.{RunStop}
 use Rattle.zic_base.specs.declared.run_stop.RunStop.TheVariants as stop
 use Rattle.zic_columns.specs.Own.{CsvRecord}
@@ -13,7 +14,7 @@ use Rattle.zic_zones.specs.declared.releases.Releases.{Releases}
 use Rattle.zic_plan.specs.declared.layout.Layout.{Layout}
 use Rattle.zic_convert.specs.Convert.{IsCauseOf, IsCauseWithLog}
 use Rattle.zic_layout_rows.specs.LayoutRows.{faults_by}
-use Rattle.zic_convert.specs.Run.{AreFew, EndsAfterLines, EndsByZones, Notes, Output, WritesRows}
+use Rattle.zic_convert.specs.Run.{AreFew, EndsAfterLines, EndsByZones, Notes, Output, PassesHeader, WritesRows}
 use Rattle.zic_convert.specs.code.Halt.{IsCauseWith, IsEnd, IsOwnCause, IsReadingStop, stop_of}
 use Rattle.zic_convert.specs.code.Progress.{ConvertsColumn, EndsInColumn}
 use Rattle.zic_convert.specs.declared.halt.Halt.{Halt}
@@ -86,7 +87,13 @@ read_as layout releases most limit header row_records why out w = record {
 
 module _ (layout : Layout) (most : ℕ) (limit : Option ℕ) (known : Option (List ℕ)) (out : Output) (releases : Releases) where
   all_read : (n : ℕ) → ConvertsColumn layout most limit known n out releases → EndsInColumn layout most limit known stop.ReadFailed out releases
-  all_read n all = if_some known _ (λ column e. (let (_, row_records, are, w) = for_some known _ column all e in inr (row_records, are, all_lines layout releases most limit _ row_records n stop.ReadFailed out w)))
+  all_read n all = if_some known _ (λ column e. (let (none, row_records, are, w) = for_some known _ column all e in inr (inl none, row_records, are, all_lines layout releases most limit _ row_records n stop.ReadFailed out w)))
+
+  -- a run that ended before its rows did so for whatever cause
+  passes_as : (column : List ℕ) (why : RunStop) → ((row : ℕ) (kind : RowKind) → why ≡ stop.Row row kind → ⊥) → PassesHeader layout releases.zones column stop.ReadFailed [] out
+      → PassesHeader layout releases.zones column why [] out
+  passes_as column why at_no_row (inl none) = inl none
+  passes_as column why at_no_row (inr before) = inr (record { at_no_row = at_no_row; wrote = before.wrote; noted = before.noted })
 
   ends_as_read : {R : Type 0} (reader : Counts R) (failures taken most_bytes : ℕ) (why : RunStop) → IsReadingStop reader failures taken most_bytes why → EndsInColumn layout most limit known stop.ReadFailed out releases
       → EndsInColumn layout most limit known why out releases
@@ -95,13 +102,13 @@ module _ (layout : Layout) (most : ℕ) (limit : Option ℕ) (known : Option (Li
       if_some known _ (λ column e.
       elim (for_some known _ column ends e) [
         | inl header ↦ absurd (cc header.is)
-        | inr rows ↦ inr (rows.0, rows.1, read_as layout releases most limit _ rows.0 stop.ColumnTooLong out rows.2)
+        | inr rows ↦ inr (passes_as column stop.ColumnTooLong (λ row kind e. cc e) rows.0, rows.1, rows.2, read_as layout releases most limit _ rows.1 stop.ColumnTooLong out rows.3)
       ])
   ends_as_read reader failures taken most_bytes stop.Memory is ends =
       if_some known _ (λ column e.
       elim (for_some known _ column ends e) [
         | inl header ↦ absurd (cc header.is)
-        | inr rows ↦ inr (rows.0, rows.1, read_as layout releases most limit _ rows.0 stop.Memory out rows.2)
+        | inr rows ↦ inr (passes_as column stop.Memory (λ row kind e. cc e) rows.0, rows.1, rows.2, read_as layout releases most limit _ rows.1 stop.Memory out rows.3)
       ])
   ends_as_read reader failures taken most_bytes (stop.Row row kind) is ends = absurd is
   ends_as_read reader failures taken most_bytes (stop.Source fault) is ends = absurd is

@@ -27,9 +27,9 @@ use Rattle.zic_files.specs.File.{File}
 use Rattle.zic_base.specs.declared.run_stop.RunStop.{RunStop}
 use Rattle.zic_base.specs.declared.run_stop.RunStop.TheVariants as stop
 use Rattle.zic_convert.specs.Column.{AreRowRecords, header_aside, header_of, names_added, own_header, own_line, read_by}
-use Rattle.zic_convert.specs.Run.{EndsAfterLines, EndsAtHeader, EndsIn, LogBegan, WritesRows}
+use Rattle.zic_convert.specs.Run.{EndsAfterLines, EndsAtHeader, EndsIn, LogBegan, PassesHeader, WritesRows}
 use Rattle.zic_convert.specs.code.Halt.{IsCauseOfHalt, stop_of}
-use Rattle.zic_convert.specs.Header.{header_fault}
+use Rattle.zic_convert.specs.Header.{IsHeaderFault, header_fault}
 use Rattle.zic_convert.specs.code.Progress.{BeginsRows, ConvertsColumn, ConvertsRest, EndsInColumn, EndsInRest, HaltsAtBegin, HaltsAtHead, HaltsAtHeader, IsAtHeader, IsAtLongHeader, header_aside_in, header_fault_in, output, own_line_in}
 use Rattle.zic_convert.specs.code.Row.{records_in}
 use Rattle.zic_convert.specs.code.Written.{EndsAtHead, Wrote}
@@ -80,19 +80,23 @@ module _ {W : Type 0} (contents : W → Option (List ℕ)) where
 
   module _ (old new : Counts W) (layout : Layout) (files : List File) (known : Option (List ℕ)) where
     -- a header was not written whole
-    pub halts_before : (own : List ℕ) → IfSome known (λ column. own ≡ own_header layout.header (texts_by layout.records (strip_bom column))) → (why : RunStop)
+    pub halts_before : (own : List ℕ) → IfSome known (λ column. own ≡ own_header layout.header (texts_by layout.records (strip_bom column)))
+        → IfSome known (λ column. header_fault_in layout files column ≡ None) → (why : RunStop)
         → EndsAtHead contents old new (header_of layout.start (names_added layout) layout.delimiter (exchanged layout.delimiter own)) why → HaltsAtHead contents old new layout files known (halt.Stop why)
-    halts_before own is stop.WriteFailed fails = (
+    halts_before own is none stop.WriteFailed fails = (
       fails.failed,
-      if_some known _ (λ column e. subst (λ (l : List ℕ). FailsWithin contents old new (header_of layout.start (names_added layout) layout.delimiter (exchanged layout.delimiter l))) (for_some known _ column is e) fails),
+      if_some known _ (λ column e. (
+        subst (λ (l : List ℕ). FailsWithin contents old new (header_of layout.start (names_added layout) layout.delimiter (exchanged layout.delimiter l))) (for_some known _ column is e) fails,
+        for_some known _ column none e,
+      )),
     )
-    halts_before own is stop.Memory same = same
-    halts_before own is (stop.Row row kind) ends = absurd ends
-    halts_before own is (stop.Source fault) ends = absurd ends
-    halts_before own is stop.ReadFailed ends = absurd ends
-    halts_before own is stop.ColumnTooLong ends = absurd ends
-    halts_before own is stop.NoThread ends = absurd ends
-    halts_before own is stop.LogFailed ends = absurd ends
+    halts_before own is none stop.Memory same = same
+    halts_before own is none (stop.Row row kind) ends = absurd ends
+    halts_before own is none (stop.Source fault) ends = absurd ends
+    halts_before own is none stop.ReadFailed ends = absurd ends
+    halts_before own is none stop.ColumnTooLong ends = absurd ends
+    halts_before own is none stop.NoThread ends = absurd ends
+    halts_before own is none stop.LogFailed ends = absurd ends
 
     -- the column was not begun, and nothing was written
     pub halts_begun : (why : Halt) → HaltsAtBegin layout known why → new ≡ old → HaltsAtHead contents old new layout files known why
@@ -168,10 +172,12 @@ module _ (layout : Layout) (most : ℕ) (limit : Option ℕ) (law : RecordsByAre
 
   -- the rows of a column did not begin
   module _ {W : Type 0} (contents : W → Option (List ℕ)) (once : FilesAnswerOnce) (old new : Counts W) (log : Option (List RowNote)) (releases : Releases) (sound : AreSoundReleases releases) where
-    none_written : (why : RunStop) → IfSome known (λ column. EndsAtHeader layout releases.zones column why [] (output (contents old.inner) (contents old.inner) log log)
-        ⊎ ((row_records : List CsvRecord) × AreRowRecords layout column row_records
+    none_written : (why : RunStop) → ((row : ℕ) (kind : RowKind) → why ≡ stop.Row row kind → ⊥)
+        → IfSome known (λ column. EndsAtHeader layout releases.zones column why [] (output (contents old.inner) (contents old.inner) log log)
+        ⊎ (PassesHeader layout releases.zones column why [] (output (contents old.inner) (contents old.inner) log log) × (row_records : List CsvRecord) × AreRowRecords layout column row_records
         × EndsAfterLines layout releases most limit (own_line layout column) row_records why (output (contents old.inner) (contents old.inner) log log)))
-    none_written why = if_some known _ (λ column e. inr (
+    none_written why at_no_row = if_some known _ (λ column e. inr (
+      inr (record { at_no_row = at_no_row; wrote = appends-none (contents old.inner); noted = notes_none log }),
       row_wholes column,
       records_alike layout law can column,
       no_line once layout releases most limit sound (own_line layout column) (row_wholes column) why (contents old.inner) (contents old.inner) log [] refl (appends-none (contents old.inner)) (inl refl),
@@ -189,12 +195,13 @@ module _ (layout : Layout) (most : ℕ) (limit : Option ℕ) (law : RecordsByAre
         }))
 
     pub ends_at_head : (why : Halt) → HaltsAtHead contents old new layout releases.zones inside why → EndsInColumn layout most limit known (stop_of why) (output (contents old.inner) (contents new.inner) log log) releases
-    ends_at_head halt.Unread same = rw same (none_written stop.ReadFailed)
-    ends_at_head (halt.Stop stop.Memory) same = rw same (none_written stop.Memory)
+    ends_at_head halt.Unread same = rw same (none_written stop.ReadFailed (λ row kind e. cc e))
+    ends_at_head (halt.Stop stop.Memory) same = rw same (none_written stop.Memory (λ row kind e. cc e))
     ends_at_head (halt.Stop stop.WriteFailed) failed = if_some known _ (λ column e.
-        let fails = for_some inside _ (exchanged layout.delimiter (read_by layout column)) failed.1 (within column e) in
+        let (fails, none) = for_some inside _ (exchanged layout.delimiter (read_by layout column)) failed.1 (within column e) in
         let same = own_line_delimited layout own_law can column in
         inr (
+          inl (header_put_back layout law can column releases.zones None (sym none)),
           row_wholes column,
           records_alike layout law can column,
           no_line once layout releases most limit sound (own_line layout column) (row_wholes column) stop.WriteFailed (contents old.inner) (contents new.inner) log fails.part
@@ -230,18 +237,25 @@ module _ (layout : Layout) (most : ℕ) (limit : Option ℕ) (law : RecordsByAre
           below column (drop k (records_in layout (strip_bom text))) line (subst P all (for_some left _ rest p at)),
         ))
 
+    -- the header has no fault
+    sound_header : IfSome inside (λ bytes. header_fault_in layout releases.zones bytes ≡ None) → (column : List ℕ) → known ≡ Some column → IsHeaderFault layout releases.zones column None
+    sound_header none column e = header_put_back layout law can column releases.zones None (sym (for_some inside _ (exchanged layout.delimiter (read_by layout column)) none (within column e)))
+
     pub converts_column : (n : ℕ) → IfSome inside (λ bytes. header_fault_in layout releases.zones bytes ≡ None) → ConvertsRest layout most limit left n (output mid new log last) releases
         → ConvertsColumn layout most limit known n (output old new log last) releases
     converts_column n none rest = if_some known _ (λ column e.
-        let fault = header_put_back layout law can column releases.zones None (sym (for_some inside _ (exchanged layout.delimiter (read_by layout column)) none (within column e))) in
+        let fault = sound_header none column e in
         let rows = begun_as (λ row_records. WritesRows layout releases most limit [] row_records n (output mid new log last))
         (λ column row_records. WritesRows layout releases most limit (own_line layout column) row_records n (output old new log last))
         (λ column row_records line w. rows_below layout releases most limit row_records (own_line layout column) old mid new log last line n w) rest in
         let (row_records, are, w) = for_some known _ column rows e in
         (fault, row_records, are, w))
 
-    pub ends_column : (why : RunStop) → EndsInRest layout most limit left why (output mid new log last) releases → EndsInColumn layout most limit known why (output old new log last) releases
-    ends_column why ends = if_some known _ (λ column e. inr (for_some known _ column
-        (begun_as (λ row_records. EndsIn layout releases most limit [] row_records why (output mid new log last))
+    pub ends_column : (why : RunStop) → IfSome inside (λ bytes. header_fault_in layout releases.zones bytes ≡ None) → EndsInRest layout most limit left why (output mid new log last) releases
+        → EndsInColumn layout most limit known why (output old new log last) releases
+    ends_column why none ends = if_some known _ (λ column e.
+        let rows = begun_as (λ row_records. EndsIn layout releases most limit [] row_records why (output mid new log last))
         (λ column row_records. EndsIn layout releases most limit (own_line layout column) row_records why (output old new log last))
-        (λ column row_records line w. ends_below layout releases most limit row_records (own_line layout column) old mid new log last line why w) ends) e))
+        (λ column row_records line w. ends_below layout releases most limit row_records (own_line layout column) old mid new log last line why w) ends in
+        let (row_records, are, w) = for_some known _ column rows e in
+        inr (inl (sound_header none column e), row_records, are, w))

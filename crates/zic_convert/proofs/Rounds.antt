@@ -258,10 +258,10 @@ ends_map grown broken may_be old new a b P Q memory then ends = record {
 
 -- the zones had grown before
 pub ends_from : {Z : Type 0} (grown broken : Z → Z → Type 0) (may_be : Z → Releases → Type 0) (joins : (a b c : Z) → grown a b → grown b c → grown a c) (old mid new : Z) → grown old mid → (why : RunStop) (P Q : Releases → Type 0)
-    → ((releases : Releases) → P releases → Q releases) → EndsByZones grown broken may_be mid new why P → EndsByZones grown broken may_be old new why Q
+    → ((releases : Releases) (z : Z) → grown mid z → may_be z releases → P releases → Q releases) → EndsByZones grown broken may_be mid new why P → EndsByZones grown broken may_be old new why Q
 ends_from grown broken may_be joins old mid new first why P Q then ends = record {
   then = ends.then;
   grown = joins old mid ends.then first ends.grown;
   ends = ends.ends;
-  by = λ releases may. then releases (ends.by releases may);
+  by = λ releases may. then releases ends.then ends.grown may (ends.by releases may);
 }

@@ -140,7 +140,7 @@ module _ (alike : PlainColumnsConvertAlike) (layout : Layout) (plain : HasPlainR
         if_some run.column _ (λ column e.
         elim (for_some run.column _ column by e) [
           | inl header ↦ absurd (let no : Some header.kind ≡ None = header.fault.is ∙ ap (λ (n : ℕ). header_fault layout files (take n header.fault.all)) (ap records_before none) in cc no)
-          | inr rows ↦ ends_in run column rows.0 rows.1 why rows.2
+          | inr rows ↦ ends_in run column rows.1 rows.2 why rows.3
         ])
 
     -- what holds in the end by all files that may be holds by those of the source

@@ -130,11 +130,22 @@ pub record EndsAtHeader (layout : Layout) (files : List File) (column : List ℕ
   pub wrote : Appends out.held out.held' bytes
   pub noted : Notes out.log out.log' []
 
+-- The run ended before its rows, and at none of them: nothing was written but these bytes, and no fault was noted.
+pub record EndsBeforeRows (why : RunStop) (bytes : List ℕ) (out : Output) : Type 0 where
+  pub at_no_row : (row : ℕ) (kind : RowKind) → why ≡ stop.Row row kind → ⊥
+  pub wrote : Appends out.held out.held' bytes
+  pub noted : Notes out.log out.log' []
+
+-- the column's header has no fault, or the run ended before its rows, when only these bytes were written
+abbrev pub PassesHeader : Layout → List File → List ℕ → RunStop → List ℕ → Output → Type 0
+PassesHeader layout files column why bytes out = IsHeaderFault layout files column None ⊎ EndsBeforeRows why bytes out
+
 -- by these releases, the conversion of the column ended early, after the line of names: at the header, or later
 abbrev pub EndsBy : {R W : Type 0} → Layout → ℕ → Option ℕ → RunStop → Run R W → Releases → Type 0
 EndsBy layout most limit why run releases = IfSome run.column (λ column.
     EndsAtHeader layout releases.zones column why (names_line layout) run.output
-    ⊎ ((row_records : List CsvRecord) × AreRowRecords layout column row_records × EndsIn layout releases most limit (header_text layout column) row_records why run.output × HasNames layout run.output))
+    ⊎ (PassesHeader layout releases.zones column why (names_line layout) run.output
+    × (row_records : List CsvRecord) × AreRowRecords layout column row_records × EndsIn layout releases most limit (header_text layout column) row_records why run.output × HasNames layout run.output))
 
 -- the log began with the own bytes of such a header of the column, where both are known
 abbrev pub LogBegan : (List ℕ → List ℕ) → Option (List ℕ) → Option (List ℕ) → Type 0

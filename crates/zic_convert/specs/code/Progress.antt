@@ -33,7 +33,7 @@ use Rattle.zic_zones.specs.declared.releases.Releases.{Releases}
 use Rattle.zic_convert.specs.Column.{AreRowRecords, header_of, names_added, own_header, own_line}
 use Rattle.zic_layout_rows.specs.LayoutRows.{RecordsConvertBy, faults_by, if_aside}
 use Rattle.zic_convert.specs.Header.{IsHeaderFault, header_fault}
-use Rattle.zic_convert.specs.Run.{EndsAtHeader, EndsIn, Notes, Output, WritesRows}
+use Rattle.zic_convert.specs.Run.{EndsAtHeader, EndsIn, Notes, Output, PassesHeader, WritesRows}
 use Rattle.zic_convert.specs.code.Row.{records_in, taken_rows}
 use Rattle.zic_convert.specs.code.Written.{EndsInRecords, IsLeft, WritesRecords}
 use Rattle.zic_convert.specs.declared.tally.Tally.{Tally}
@@ -83,7 +83,8 @@ ConvertsColumn layout most limit known n out releases = IfSome known (λ column.
 abbrev pub EndsInColumn : Layout → ℕ → Option ℕ → Option (List ℕ) → RunStop → Output → Releases → Type 0
 EndsInColumn layout most limit known why out releases = IfSome known (λ column.
     EndsAtHeader layout releases.zones column why [] out
-    ⊎ ((row_records : List CsvRecord) × AreRowRecords layout column row_records × EndsIn layout releases most limit (own_line layout column) row_records why out))
+    ⊎ (PassesHeader layout releases.zones column why [] out
+    × (row_records : List CsvRecord) × AreRowRecords layout column row_records × EndsIn layout releases most limit (own_line layout column) row_records why out))
 
 -- the column's own header with names added, but for the delimiter of the column
 abbrev pub own_line_in : Layout → List ℕ → List ℕ
@@ -166,7 +167,7 @@ pub record IsAtHeader (layout : Layout) (files : List File) (known : Option (Lis
 abbrev pub HaltsAtHead : {W : Type 0} → (W → Option (List ℕ)) → Counts W → Counts W → Layout → List File → Option (List ℕ) → Halt → Type 0
 HaltsAtHead contents old new layout files known halt.Unread = new ≡ old
 HaltsAtHead contents old new layout files known (halt.Stop stop.Memory) = new ≡ old
-HaltsAtHead contents old new layout files known (halt.Stop stop.WriteFailed) = HasFailedSince new old.failures × IfSome known (λ column. FailsWithin contents old new (own_line_in layout column))
+HaltsAtHead contents old new layout files known (halt.Stop stop.WriteFailed) = HasFailedSince new old.failures × IfSome known (λ column. FailsWithin contents old new (own_line_in layout column) × (header_fault_in layout files column ≡ None))
 HaltsAtHead contents old new layout files known (halt.Stop (stop.Row row kind)) = (new ≡ old) × IsAtHeader layout files known (stop.Row row kind)
 HaltsAtHead contents old new layout files known (halt.Stop _) = ⊥
 

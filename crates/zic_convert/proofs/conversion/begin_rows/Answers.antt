@@ -44,7 +44,10 @@ returns-in_err-write_header-clause-halt g c =
       grown = c.in_ok-check_header.ensures.grown;
       ends = inl refl;
       by = λ releases may.
-          halts_before g.W.Write.contents c.args.writer.now c.write_header.new.writer layout releases.zones known c.kept_of-header.result.items kept c.in_err-write_header.field-0.0 c.in_err-write_header.ensures.err;
+          halts_before g.W.Write.contents c.args.writer.now c.write_header.new.writer layout releases.zones known c.kept_of-header.result.items kept
+          (fault_in c.first_record_is_alone.ensures layout known c.in_ok-column.field-0.header.items c.in_ok-column.ensures.header releases.zones None
+          (rw c.deref.ensures.value at (c.in_ok-check_header.ensures.none releases may)))
+          c.in_err-write_header.field-0.0 c.in_err-write_header.ensures.err;
     })
 
 pub returns-clause-began : goal.returns-clause-began

@@ -70,9 +70,10 @@ returns-clause-halt g c =
     let left = unread (λ r. option_map (exchanged r.delimiter) (truncated_known r.inner.most r.inner.room (g.R.Read.remaining r.inner.inner))) c.in_ok-column.column in
     on_err c.convert_rounds.result _ _
     (λ why ends. ends_from g.Z.Zones.grown g.Z.Zones.broken g.Z.Zones.may_be g.met.Z.Zones.then c.args.zones.now c.begin_rows.new.zones c.convert_rounds.new.zones c.in_ok-column.ensures.grown (stop_of why) _ _
-    (λ releases w. ends_column layout most c.args.conversion.now.max_faults c.records_by_are_exchanged.ensures c.texts_by_are_exchanged.ensures c.byte.ensures.sound known inside is releases left (g.W.Write.contents c.args.writer.now.inner)
+    (λ releases then grown may w. ends_column layout most c.args.conversion.now.max_faults c.records_by_are_exchanged.ensures c.texts_by_are_exchanged.ensures c.byte.ensures.sound known inside is releases left (g.W.Write.contents c.args.writer.now.inner)
     (g.W.Write.contents c.begin_rows.new.writer.inner) (g.W.Write.contents c.convert_rounds.new.writer.inner) (g.L.RowLog.noted c.args.log.now) (g.L.RowLog.noted c.convert_rounds.new.log)
-    c.in_ok-column.ensures.begins c.in_ok-column.ensures.head (stop_of why) w) ends)
+    c.in_ok-column.ensures.begins c.in_ok-column.ensures.head (stop_of why)
+    (c.in_ok-column.ensures.none releases (g.met.Z.Zones.narrows c.begin_rows.new.zones then releases grown may)) w) ends)
     (rw c.begin_rows.ensures.noted at c.convert_rounds.ensures.halt)
 
 pub returns-clause-cause : goal.returns-clause-cause
