@@ -11,7 +11,7 @@ use Rattle.zic_plan.specs.declared.layout.Unit.TheVariants as unit
 use Rattle.zic_rows.specs.Instant.{IsRowInstant, instant_of}
 use Rattle.zic_rows.specs.Row.{rest_text, row_text, styled_text}
 use Rattle.zic_rows.specs.code.Cached.{cached_date}
-use Rattle.zic_rows.specs.Count.{count_of, counted_rest_text, counted_row_text, fraction_of, fraction_text, second_of, timed_rest_text}
+use Rattle.zic_rows.specs.Count.{count_of, counted_rest_text, counted_row_text, fraction_text, second_of, timed_rest_text}
 use Rattle.zic_rows.proofs.RowTexts.{local_cached}
 
 -- the whole second of a count of seconds
@@ -28,14 +28,6 @@ count_seconds field = refl
 pub counted_seconds : (name : List ℕ) (t : ℤ) (s : Shown) → counted_row_text unit.Second name t s ≡ row_text name t s
 unfolding counted_row_text counted_rest_text timed_rest_text row_text rest_text
 counted_seconds name t s = rw (second_one t) refl
-
--- the rest of a row of a count, by the date that is kept
-pub counted_rest_cached : (style : Style) (u : Unit) (count : ℤ) (s : Shown) (seconds day : ℕ) → pos seconds ≡ second_of u count +ℤ s.offset +ℤ pos (719_162 * 86_400) → day ≡ seconds / 86_400
-    → let second = seconds % 86_400 in
-    cached_date day ++ (clock_text second ++ (fraction_text u (fraction_of u count) ++ styled_text style s)) ≡ counted_rest_text style u count s
-unfolding counted_rest_text timed_rest_text
-counted_rest_cached style u count s seconds day counted of_day =
-    local_cached (second_of u count) s.offset seconds day (fraction_text u (fraction_of u count) ++ styled_text style s) counted of_day
 
 -- what follows a count, by the date that is kept
 pub timed_rest_cached : (style : Style) (u : Unit) (t : ℤ) (n : ℕ) (s : Shown) (seconds day : ℕ) → pos seconds ≡ t +ℤ s.offset +ℤ pos (719_162 * 86_400) → day ≡ seconds / 86_400

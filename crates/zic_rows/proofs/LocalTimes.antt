@@ -1,5 +1,5 @@
 -- Local times of fields, and their texts.
-use Rattle.std.proofs.Common.{◌≡◌, ◌∙◌, ◌+◌, ◌*◌, ◌/◌, ◌%◌, ◌^◌, ◌<◌, FitsSigned, unsigned_abs, w64, ℕ, ℤ, pos, negsuc, ◌+ℤ◌, ◌*ℤ◌, ◌-ℤ◌, List, [], ◌∷◌, ◌++◌, ap, append_assoc, arith, refl, sym}
+use Rattle.std.proofs.Common.{◌≡◌, ◌∙◌, ◌+◌, ◌*◌, ◌/◌, ◌%◌, ◌^◌, ◌<◌, FitsSigned, unsigned_abs, w64, ℕ, ℤ, pos, negsuc, ◌+ℤ◌, ◌*ℤ◌, ◌-ℤ◌, List, [], ◌∷◌, ◌++◌, ap, append_assoc, arith, sym}
 use Rattle.std.proofs.lemmas.Int.{fits_signed_from_abs, ints}
 use Rattle.std.specs.Int.{w128}
 use Rattle.zic_base.specs.Digits.{clock_text}
@@ -46,13 +46,6 @@ local_parts u count seconds counted =
     let P : ℤ → ℕ → List ℕ = λ d s. 44 ∷ (civil_text (civil_of d s) ++ more) in
     let here : P at second ≡ 44 ∷ (date_text (civil_of at 0) ++ 84 ∷ []) ++ (clock_text second ++ more) = simp append_assoc in
     sym (ap (λ (d : ℤ). P d (second_at t)) (day_at-counted t seconds (sym counted)) ∙ ap (λ (s : ℕ). P at s) (second_at-counted t seconds (sym counted)) ∙ here)
-
--- the same, appended one after another
-pub local_appended : (old years dated timed new year day clock fraction all : List ℕ) → years ≡ old ++ year → dated ≡ years ++ day → timed ≡ dated ++ clock → new ≡ timed ++ fraction
-    → (year ++ day) ++ (clock ++ fraction) ≡ all → new ≡ old ++ all
-local_appended old years dated timed new year day clock fraction all with_year with_day with_clock with_fraction parts =
-    let whole : new ≡ (((old ++ year) ++ day) ++ clock) ++ fraction = rw (with_fraction, with_clock, with_day, with_year) refl in
-    whole ∙ (simp append_assoc) ∙ ap (λ (l : List ℕ). old ++ l) parts
 
 -- a second of local time fits
 pub local_second_fits : (t : ℤ) → IsLocalSecond t → FitsSigned w64 t × FitsSigned w128 t

@@ -1,10 +1,11 @@
 -- The text of a row in its bytes.
-use Rattle.std.proofs.Common.{◌≡◌, ◌≤◌, subst, refl, ℕ, ◌+◌, ◌-◌, ◌*◌, ◌/◌, ◌%◌, ◌<◌, Bool, List, [], ◌∷◌, ◌++◌, sym, ◌∙◌, ap, arith, ℤ, pos, negsuc, ◌+ℤ◌, ◌-ℤ◌, unsigned_abs, append_assoc, length, take, drop, set, length-take-le, length-drop}
+use Rattle.std.proofs.Common.{◌≡◌, ◌≤◌, refl, ℕ, ◌+◌, ◌-◌, ◌*◌, ◌/◌, ◌%◌, ◌<◌, Bool, List, [], ◌∷◌, ◌++◌, sym, ◌∙◌, ap, arith, ℤ, pos, negsuc, ◌+ℤ◌, ◌-ℤ◌, unsigned_abs, append_assoc, length, length-append, take, drop, set, length-take-le, length-drop}
 use Rattle.std.proofs.lemmas.Int.{ints}
-use Rattle.std.proofs.lemmas.List.{take_more_set, take-take}
+use Rattle.std.proofs.Math.Seq.{take-append_seam}
+use Rattle.std.proofs.lemmas.List.{drop-take, take_more_set, take-take}
 use Rattle.std.proofs.lemmas.Slice.{take-put_mid}
 use borrow.Rule.Slice.PartMut.{put_mid, same_len_mid}
-use Rattle.std.specs.Prelude.{if◌then◌else◌}
+use Rattle.std.specs.Prelude.{slice_range, if◌then◌else◌}
 use Rattle.zic_calendar.specs.declared.civil_time.Civil.{Civil}
 use Rattle.zic_calendar.specs.Calendar.{IsSupportedDay, IsSupportedYear}
 use Rattle.zic_calendar.specs.Civil.{IsOnDay}
@@ -14,7 +15,7 @@ use Rattle.zic_base.specs.State.{Shown, shown}
 use Rattle.zic_base.specs.declared.state.State.{State}
 use Rattle.zic_rows.specs.Local.{day_at, second_at, local_time, civil_of}
 use Rattle.zic_rows.specs.Row.{four_digits, date_text, civil_text, local_text, state_text, IsRowState}
-use Rattle.zic_rows.specs.code.Cached.{cached_date, before_name, IsRestOf}
+use Rattle.zic_rows.specs.code.Cached.{cached_date, before_name, state_in}
 use Rattle.zic_rows.proofs.LocalTime.{on_day}
 
 -- a date
@@ -85,20 +86,19 @@ state_written state octets front name n may long front_is front_long e e₂ =
     at_end ∙ ap (λ (l : List ℕ). l ++ 10 ∷ []) (at_name ∙ ap (λ (l : List ℕ). l ++ name) (at_front ∙ front_is) ∙ ap (λ (l : List ℕ). B ++ l) e)
     ∙ append_assoc B state.name.now (10 ∷ []) ∙ before_name-state (shown state)
 
--- the date that stands before a text which was written after it
-pub date_before : (old new date : List ℕ) → take 20 new ≡ take 20 old → take 12 old ≡ date → take 12 new ≡ date
-date_before old new date same is =
-    sym (take-take 12 20 new (omega arith)) ∙ ap (take 12) same ∙ take-take 12 20 old (omega arith) ∙ is
+-- the abbreviation in the text of a state
+pub name_in : (s : Shown) (octets : List ℕ) (len : ℕ) → take len octets ≡ state_text s → len ≤ length octets → slice_range octets 13 (len - 1) ≡ s.name
+unfolding state_text
+name_in s octets len is few =
+    let n = length s.name in
+    let size : len ≡ 13 + (n + 1) = omega (arith, length-take-le len octets few, ap length is, length-append s.name (10 ∷ [])) in
+    let mid : len - 1 - 13 ≡ n = omega (arith, size) in
+    ap (λ (k : ℕ). take k (drop 13 octets)) mid ∙ sym (take-take n (n + 1) (drop 13 octets) (omega arith)) ∙ ap (take n) (sym (drop-take 13 (n + 1) octets))
+    ∙ ap (λ (k : ℕ). take n (drop 13 (take k octets))) (sym size) ∙ ap (λ (l : List ℕ). take n (drop 13 l)) is ∙ take-append_seam s.name (10 ∷ [])
 
--- the rest of rows of a day and a state
-pub rest_of : (day : ℕ) (text : Shown) (state : Shown) (octets : List ℕ) (len : ℕ) → state ≡ text → IsRowState text → take 12 octets ≡ cached_date day
-    → take len (drop 20 octets) ≡ state_text text → len ≤ 32 → IsRestOf day state octets len
-rest_of day text state octets len is may date written fits = record {
-  may = subst IsRowState (sym is) may;
-  date = date;
-  text = written ∙ ap state_text (sym is);
-  fits = fits;
-}
+-- the state of a text that was written
+pub state_read : (s : Shown) (octets : List ℕ) (len : ℕ) → take len octets ≡ state_text s → len ≤ length octets → state_in s.offset s.daylight octets len ≡ s
+state_read s octets len is few = ap (λ (name : List ℕ). record { offset = s.offset; daylight = s.daylight; name = name }) (name_in s octets len is few)
 
 -- the local time of an instant, by the date that is kept, and what follows it
 pub local_cached : (instant offset : ℤ) (seconds day : ℕ) (more : List ℕ) → pos seconds ≡ instant +ℤ offset +ℤ pos (719_162 * 86_400) → day ≡ seconds / 86_400

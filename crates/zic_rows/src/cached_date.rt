@@ -3,9 +3,19 @@
 ghost use Rattle.std.specs.Prelude.{◌≡◌, ◌+◌, ◌<◌, ◌≤◌, ◌++◌, length, take};
 ghost use Rattle.zic_rows.specs.code.Cached.{cached_date};
 
-use crate::date::{DateText, date_text};
+use crate::digits::digit_pair;
 use crate::limit::DAYS;
+use crate::march::{DAYS_TO_JANUARY, day_text, march_day};
 use crate::store::put_8;
+
+/// A comma, the date of a day, and a `T`, in two parts.
+#[derive(Clone, Copy, Drop)]
+struct DateText {
+    /// A comma and the year, in the first five bytes.
+    year: [u8; 8],
+    /// The month, the day and the `T`, in the first seven bytes.
+    day: [u8; 8],
+}
 
 /// A comma, the date of a day and a `T`, cached for rows of one day.
 #[derive(Drop)]
@@ -60,5 +70,25 @@ impl CachedDate {
     {
         put_8(text, at, self.text.year);
         put_8(text, at + 5, self.text.day);
+    }
+}
+
+/// Returns the text of a day counted from 0001-01-01.
+#[inline(always)]
+fn date_text(day: u32) -> DateText
+    requires { day < DAYS }
+    ensures { take 5 result.year ++ take 7 result.day ≡ cached_date day }
+{
+    let date = march_day(day);
+    let year = if date.day < DAYS_TO_JANUARY {
+        date.year
+    } else {
+        date.year + 1
+    };
+    let [y, yy] = digit_pair(year / 100);
+    let [yyy, yyyy] = digit_pair(year % 100);
+    DateText {
+        year: [b',', y, yy, yyy, yyyy, 0, 0, 0],
+        day: day_text(date.day),
     }
 }

@@ -1,15 +1,12 @@
 //! Instants as counts of units, perhaps parts of a second.
 
-ghost use Rattle.std.specs.Prelude.{◌≡◌, ◌<◌, ◌++◌, ◌^◌, ◌≤◌, ◌↔◌, ◌*ℤ◌, ◌+ℤ◌, pos, IfSome, IsTrue, OnOk};
-ghost use Rattle.std.specs.Fmt.{signed_decimal};
-ghost use Rattle.zic_rows.specs.Count.{count_of, fraction_of, fraction_digits, fraction_text};
+ghost use Rattle.std.specs.Prelude.{◌≡◌, ◌<◌, ◌*ℤ◌, ◌+ℤ◌, pos};
+ghost use Rattle.zic_rows.specs.Count.{count_of, fraction_of, fraction_digits};
 ghost use Rattle.zic_rows.specs.Count.{second_of, three_digits, units_of_second};
-ghost use Rattle.zic_base.specs.Number.{number};
 
-use crate::instant::short_number;
+use crate::decimals::number;
 use crate::limit::MAX_DIGITS;
 use jiff_core::num::div_rem_floor;
-use std::alloc::AllocError;
 use zic_base::two_digits;
 use zic_plan::Unit;
 
@@ -51,31 +48,6 @@ pub fn parse_count(field: &[u8], unit: Unit) -> Option<i128>
     }
     let count = number(field, most)?;
     Some(count as i128)
-}
-
-/// Returns the number that the text spells in decimal digits: at least one, and at most `most`.
-#[tactic(auto, unfolding(zic_base::specs::Number::number))]
-fn number(text: &[u8], most: usize) -> Option<u128>
-    requires few { most ≤ 27 }
-    requires enough { MAX_DIGITS ≤ most }
-    ensures value { result ≡ number most text.now }
-    ensures fits { IfSome result (λ n. n < 10 ^ 27) }
-{
-    if text.len() <= MAX_DIGITS {
-        let n = short_number(text, MAX_DIGITS)?;
-        return Some(n as u128);
-    }
-    if text.len() > most {
-        return None;
-    }
-    let mut n = 0;
-    for byte in text {
-        if !byte.is_ascii_digit() {
-            return None;
-        }
-        n = 10 * n + u128::from(*byte - b'0');
-    }
-    Some(n)
 }
 
 /// A count, as its whole second, rounded down, and how many units it lies after that.
@@ -133,28 +105,4 @@ pub(crate) fn three_digits(n: u32) -> [u8; 3]
 {
     let [b, c] = two_digits(n % 100);
     [b'0' + (n / 100) as u8, b, c]
-}
-
-/// Appends this number of units of a second, as `.123`, or nothing where seconds are counted.
-/// Where memory runs out, a part may be there.
-pub(crate) fn push_fraction(text: &mut Vec<u8>, unit: Unit, n: u32) -> Result<(), AllocError>
-    requires { n < units_of_second unit }
-    ensures { OnOk result (text.new.items ≡ text.old.items ++ fraction_text unit n) }
-{
-    match unit {
-        Unit::Second => return Ok(()),
-        Unit::Millisecond => {
-            text.push(b'.')?;
-        }
-        Unit::Microsecond => {
-            text.push(b'.')?;
-            text.extend_from_slice(&three_digits(n / 1_000))?;
-        }
-        Unit::Nanosecond => {
-            text.push(b'.')?;
-            text.extend_from_slice(&three_digits(n / 1_000_000))?;
-            text.extend_from_slice(&three_digits(n / 1_000 % 1_000))?;
-        }
-    }
-    text.extend_from_slice(&three_digits(n % 1_000))
 }

@@ -8,7 +8,7 @@ ghost use Rattle.zic_rows.specs.Local.{IsLocalSecond};
 ghost use Rattle.zic_rows.specs.code.Civils.{IsCivil};
 
 use crate::count::{count_from, fraction_digits};
-use crate::instant::short_number;
+use crate::decimals::short_number;
 use zic_calendar::{Civil, On, SECONDS_OF_DAY, day_of, days_in_month};
 use zic_plan::Unit;
 

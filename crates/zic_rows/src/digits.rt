@@ -52,15 +52,3 @@ pub(crate) fn put_clock(text: &mut [u8], at: usize, second: u32)
     put_8(text, at + 3, clock_part(second / 60 % 60));
     put_8(text, at + 6, clock_part(second % 60));
 }
-
-/// Returns a second of a day as hours, minutes and seconds: `01:59:59`.
-#[inline(always)]
-pub(crate) fn time_text(second: u32) -> [u8; 8]
-    requires { second < DAY }
-    ensures { result ≡ clock_text second }
-{
-    let [h, hh] = digit_pair(second / 3600);
-    let [m, mm] = digit_pair(second / 60 % 60);
-    let [s, ss] = digit_pair(second % 60);
-    [h, hh, b':', m, mm, b':', s, ss]
-}

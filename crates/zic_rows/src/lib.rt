@@ -3,17 +3,13 @@
 
 mod cached_date;
 mod count;
-mod date;
 mod date_time;
+mod decimals;
 mod digits;
-mod instant;
 pub mod laws;
 mod limit;
-mod local_text;
+mod local_second;
 mod march;
-mod rest;
-mod row;
-mod row_state;
 mod row_text;
 mod row_time;
 mod state_text;
@@ -23,10 +19,7 @@ mod wide;
 
 pub use count::{Moment, count_from, moment_of, parse_count};
 pub use date_time::{parse_local_time, parse_rfc3339};
-pub use instant::is_plain;
 pub use limit::{FARTHEST_OFFSET, FIRST_INSTANT, LAST_INSTANT, MAX_DIGITS};
-pub use local_text::push_local_time;
-pub use row::RowWriter;
 pub use row_text::RowText;
 pub use row_time::{RowTime, quick_time};
 pub use state_text::StateText;

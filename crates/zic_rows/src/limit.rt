@@ -22,7 +22,3 @@ pub(crate) const DAYS: u32 = 3_652_059;
 
 /// The seconds of a day.
 pub(crate) const DAY: u32 = SECONDS_OF_DAY as u32;
-
-/// The room for the rest of a row after the instant, in bytes: 20 up to the state's text, and 32 for
-/// that text.
-pub(crate) const REST_ROOM: usize = 52;

@@ -10,8 +10,7 @@ ghost use Rattle.zic_rows.specs.Row.{state_text};
 use crate::cached_date::CachedDate;
 use crate::count::moment_of;
 use crate::limit::{DAY, DAYS_TO_1970};
-use crate::local_text::seconds_from_year_1;
-use crate::row::local_seconds;
+use crate::local_second::{local_seconds, seconds_from_year_1};
 use crate::state_text::{STATE_ROOM, StateText};
 use crate::store::{put_16, put_64};
 use crate::timed_rest::{LOCAL_ROOM, RowRest, TIMED_ROOM, put_rest, put_time};
@@ -189,7 +188,7 @@ impl RowText {
         Ok(())
     }
 
-    /// Appends the start of a row of any length, and what follows it. It makes room for rows to come.
+    /// Appends the start of a row of any length, and what follows it.
     #[inline(never)]
     fn push_parts(&mut self, start: &[u8], rest: &RowRest<'_>) -> Result<(), AllocError>
         requires second { IsRowInstant rest.now.time.second }
@@ -199,6 +198,17 @@ impl RowText {
             rest.now.time.fraction rest.now.state.now)) }
     {
         self.push(start)?;
+        self.push_rest(rest)
+    }
+
+    /// Appends what follows the start of a row, as [`push_row`](RowText::push_row) does. It makes room
+    /// for rows to come. Where memory runs out, the text stays.
+    pub fn push_rest(&mut self, rest: &RowRest<'_>) -> Result<(), AllocError>
+        requires second { IsRowInstant rest.now.time.second }
+        requires fraction { rest.now.time.fraction < units_of_second rest.now.time.unit }
+        ensures { OnOk result (self.new ≡ self.old ++ timed_rest_text rest.now.style
+            rest.now.time.unit rest.now.time.second rest.now.time.fraction rest.now.state.now) }
+    {
         make_room(&mut self.bytes, self.len, START_ROOM + TIMED_ROOM)?;
         let seconds = local_seconds(rest.time.second, rest.state.offset());
         let second = (seconds % DAY as u64) as u32;

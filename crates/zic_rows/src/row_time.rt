@@ -1,12 +1,13 @@
 //! The time of a row, read from what is common: plain decimals of a time that a row may have.
 
-ghost use Rattle.std.specs.Prelude.{◌≡◌, ◌+◌, ◌/◌, ◌%◌, ◌≤◌, ◌∷◌, length, slice_range, IfSome};
-ghost use Rattle.zic_rows.specs.Count.{units_of_second};
+ghost use Rattle.std.specs.Prelude.{◌≡◌, ◌+◌, ◌/◌, ◌%◌, ◌<◌, ◌≤◌, ◌∷◌, length, slice_range, IfSome};
+ghost use Rattle.zic_rows.specs.Count.{fraction_of, second_of, units_of_second};
+ghost use Rattle.zic_rows.specs.Instant.{IsRowInstant};
 ghost use Rattle.zic_rows.specs.PlainTime.{IsPlainTime};
 ghost use Rattle.zic_rows.specs.code.PlainNumber.{IsPlainNumber};
 
-use crate::count::{fraction_digits, units_of_second};
-use crate::instant::short_number;
+use crate::count::{fraction_digits, moment_of, units_of_second};
+use crate::decimals::short_number;
 use crate::limit::{FIRST_INSTANT, LAST_INSTANT, MAX_DIGITS};
 use crate::wide::wide_number;
 use zic_plan::Unit;
@@ -19,6 +20,24 @@ pub struct RowTime {
     /// Fewer than make up a second.
     pub fraction: u32,
     pub unit: Unit,
+}
+
+impl RowTime {
+    /// Returns the time of a count whose whole second a row may have.
+    pub fn of_count(count: i128, unit: Unit) -> RowTime
+        requires { IsRowInstant (second_of unit count) }
+        ensures second { result.second ≡ second_of unit count }
+        ensures fraction { result.fraction ≡ fraction_of unit count }
+        ensures below { result.fraction < units_of_second unit }
+        ensures unit { result.unit ≡ unit }
+    {
+        let moment = moment_of(count, unit);
+        RowTime {
+            second: moment.second as i64,
+            fraction: moment.fraction,
+            unit,
+        }
+    }
 }
 
 /// Reads the instant that a part of some bytes, `start..end`, has in plain decimals, if a row may have

@@ -1,14 +1,12 @@
 //! The text of a state at the end of a row.
 
-ghost use Rattle.std.specs.Prelude.{◌≡◌, ◌+◌, ◌≤◌, ◌++◌, ◌↔◌, IsTrue, length, take, drop};
+ghost use Rattle.std.specs.Prelude.{◌≡◌, ◌+◌, ◌≤◌, ◌++◌, ◌↔◌, IsTrue, length, take};
 ghost use Rattle.zic_base.specs.State.{shown};
 ghost use Rattle.zic_rows.specs.Instant.{IsRowOffset};
 ghost use Rattle.zic_rows.specs.Row.{iso_state_text, state_text, styled_text, IsRowState};
 ghost use Rattle.zic_rows.specs.code.Iso.{iso_width};
-ghost use Rattle.zic_rows.specs.code.Cached.{before_name, IsTextOf};
+ghost use Rattle.zic_rows.specs.code.Cached.{before_name, state_in, IsTextOf};
 
-use crate::limit::REST_ROOM;
-use crate::row_state::RowState;
 use crate::store::{put_32, put_part};
 use std::marker::Model;
 use zic_base::{State, offset_text};
@@ -21,19 +19,21 @@ pub(crate) const STATE_ROOM: usize = 32;
 /// flag and the abbreviation after a comma each, and a newline. Clauses see the state.
 #[derive(Drop)]
 pub struct StateText {
-    state: RowState,
+    offset: i32,
+    daylight: bool,
     octets: [u8; STATE_ROOM],
     /// The length of the text in bytes.
     len: usize,
-    ghost is_text: { IsTextOf state octets len },
+    ghost is_text: { IsTextOf (state_in offset daylight octets len) octets len },
 }
 
 impl Model for StateText {
     ghost use Rattle.zic_base.specs.State.{Shown};
+    ghost use Rattle.zic_rows.specs.code.Cached.{state_in};
 
     ghost Value = { Shown };
 
-    ghost view = { λ t. t.state };
+    ghost view = { λ t. state_in t.offset t.daylight t.octets t.len };
 }
 
 impl StateText {
@@ -45,23 +45,27 @@ impl StateText {
     {
         let mut octets = [0; STATE_ROOM];
         let len = write_text(&mut octets, &state);
-        let state = RowState::new(state);
-        StateText { state, octets, len }
+        StateText {
+            offset: state.offset,
+            daylight: state.daylight,
+            octets,
+            len,
+        }
     }
 
     /// Returns whether this is the text of a state.
     pub fn is_of(&self, state: &State<'_>) -> bool
         ensures { IsTrue result ↔ (self.now ≡ shown state.now) }
     {
-        self.state.is_of(state)
+        let is_time_same = self.offset == state.offset && self.daylight == state.daylight;
+        is_time_same && *self.name() == *state.name
     }
 
-    /// Returns the state.
-    #[inline(always)]
-    pub(crate) fn state(&self) -> RowState
-        ensures { result ≡ self.now }
+    /// Returns the abbreviation.
+    fn name(&self) -> &[u8]
+        ensures { result.now ≡ self.now.name }
     {
-        self.state.copy()
+        &self.octets[13..self.len - 1]
     }
 
     /// Returns the UT offset in seconds, positive east.
@@ -70,7 +74,7 @@ impl StateText {
         ensures value { result ≡ self.now.offset }
         ensures may { IsRowOffset result }
     {
-        self.state.offset()
+        self.offset
     }
 
     /// Writes the text of the state in a row of a style into another text with room for 32 bytes,
@@ -96,7 +100,7 @@ impl StateText {
         ensures same_length { length text.new ≡ length text.old }
         ensures written { take result text.new ≡ take at text.old ++ iso_state_text self.now }
     {
-        let width = iso_width(self.state.offset());
+        let width = iso_width(self.offset());
         let end = put_part(text, at, &self.octets[1..1 + width]);
         put_part(text, end, &self.octets[10..self.len])
     }
@@ -112,25 +116,12 @@ impl StateText {
         put_32(text, at, &self.octets, self.len);
         at + self.len
     }
-
-    /// Copies the text into the rest of a row, from byte 20 on, and returns its length, at most 32.
-    /// All of the room is copied at once, since that is quicker.
-    #[inline(always)]
-    pub(crate) fn copy_to(&self, rest: &mut [u8; REST_ROOM]) -> usize
-        ensures text { take result (drop 20 rest.new) ≡ state_text self.now }
-        ensures before { take 20 rest.new ≡ take 20 rest.old }
-        ensures fits { result ≤ STATE_ROOM }
-        ensures may { IsRowState self.now }
-    {
-        rest[20..].copy_from_slice(&self.octets);
-        self.len
-    }
 }
 
 /// Returns how many bytes of the text of an offset stand after a local time: not its seconds, where
 /// it has none.
 #[inline(always)]
-pub(crate) fn iso_width(offset: i32) -> usize
+fn iso_width(offset: i32) -> usize
     ensures value { result ≡ iso_width offset }
     ensures few { result ≤ 9 }
 {

@@ -1,5 +1,5 @@
 -- The parts of a row that a writer caches for the next.
-use Rattle.std.specs.Prelude.{◌≡◌, ℕ, ◌≤◌, ℤ, pos, ◌-ℤ◌, Bool, if◌then◌else◌, List, [], ◌∷◌, ◌++◌, take, drop}
+use Rattle.std.specs.Prelude.{◌≡◌, ℕ, ◌≤◌, ◌-◌, ℤ, pos, ◌-ℤ◌, Bool, if◌then◌else◌, List, [], ◌∷◌, ◌++◌, slice_range, take}
 use Rattle.zic_base.specs.Digits.{offset_text}
 use Rattle.zic_base.specs.State.{Shown}
 use Rattle.zic_rows.specs.declared.limit.TheConstants.{DAYS_TO_1970}
@@ -14,15 +14,12 @@ cached_date day = 44 ∷ (date_text (civil_of (pos day -ℤ pos DAYS_TO_1970) 0)
 unfoldable pub before_name : ℤ → Bool → List ℕ
 before_name offset daylight = 44 ∷ (offset_text offset ++ 44 ∷ (if daylight then 49 else 48) ∷ 44 ∷ [])
 
+-- the state of a text of this many bytes, which has its abbreviation before the newline
+abbrev pub state_in : ℤ → Bool → List ℕ → ℕ → Shown
+state_in offset daylight octets len = record { offset = offset; daylight = daylight; name = slice_range octets 13 (len - 1) }
+
 -- The first of these bytes, up to this number, are the text of the state, which a row may have.
 pub record IsTextOf (state : Shown) (octets : List ℕ) (len : ℕ) : Type 0 where
   pub may : IsRowState state
   pub text : take len octets ≡ state_text state
-  pub fits : len ≤ 32
-
--- In the rest of a row the date of the day stands first, and the text of the state after eight bytes for the time of day.
-pub record IsRestOf (day : ℕ) (state : Shown) (octets : List ℕ) (len : ℕ) : Type 0 where
-  pub may : IsRowState state
-  pub date : take 12 octets ≡ cached_date day
-  pub text : take len (drop 20 octets) ≡ state_text state
   pub fits : len ≤ 32

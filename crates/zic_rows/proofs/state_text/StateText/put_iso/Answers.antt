@@ -1,5 +1,7 @@
-use Rattle.std.proofs.Common.{◌≡◌, ◌≤◌, ◌+◌, ◌-◌, ◌++◌, ◌∙◌, ℕ, List, ap, append_assoc, arith, drop, rules, take, FitsSigned, to_z-of_z, w32}
+use Rattle.std.proofs.Common.{◌≡◌, ◌≤◌, ◌+◌, ◌-◌, ◌++◌, ◌∙◌, ℕ, List, ap, append_assoc, arith, drop, rules, sym, take, FitsSigned, to_z-of_z, w32}
+use Rattle.zic_base.specs.State.{Shown}
 use Rattle.zic_rows.specs.Row.{iso_state_text}
+use Rattle.zic_rows.specs.code.Cached.{state_in}
 use Rattle.zic_rows.specs.code.Iso.{iso_width}
 use Rattle.zic_rows.proofs.IsoTexts.{iso_cut, text_fits}
 use Rattle.zic_rows.proofs.state_text.StateText.put_iso.Goals as goal
@@ -7,13 +9,13 @@ use Rattle.zic_rows.proofs.state_text.StateText.put_iso.Goals as goal
 pub slice_bounds-put_part-count-2 : goal.slice_bounds-put_part-count-2
 slice_bounds-put_part-count-2 c =
     let s = c.self.inside in
-    let long = text_fits s.state s.octets s.len s.is_text.text in
+    let long = text_fits _ s.octets s.len s.is_text.text in
     omega (arith, long)
 
 pub slice_bounds-put_part-start-2 : goal.slice_bounds-put_part-start-2
 slice_bounds-put_part-start-2 c =
     let s = c.self.inside in
-    let long : 14 ≤ s.len = text_fits s.state s.octets s.len s.is_text.text in
+    let long : 14 ≤ s.len = text_fits _ s.octets s.len s.is_text.text in
     search (rules, long)
 
 pub returns-clause-written : goal.returns-clause-written
@@ -22,10 +24,11 @@ returns-clause-written c =
     let old = take c.args.at c.args.text.now in
     let width = c.iso_width-width.result in
     let small : FitsSigned w32 c.offset.result = search rules in
-    let wide : width ≡ iso_width s.state.offset = (rw (to_z-of_z small) at c.iso_width-width.ensures.value) ∙ ap iso_width c.offset.ensures.value in
+    let state = state_in s.offset s.daylight s.octets s.len in
+    let wide : width ≡ iso_width s.offset = (rw (to_z-of_z small) at c.iso_width-width.ensures.value) ∙ ap iso_width (c.offset.ensures.value ∙ ap (λ (t : Shown). t.offset) (sym c.self.view_is)) in
     let part = take (1 + width - 1) (drop 1 s.octets) in
     let tail = take (s.len - 10) (drop 10 s.octets) in
     let same : 1 + width - 1 ≡ width = omega arith in
-    let is = iso_cut s.state s.octets s.len width s.is_text.text wide in
+    let is = iso_cut state s.octets s.len width s.is_text.text wide in
     c.put_part.ensures.written ∙ ap (λ (l : List ℕ). l ++ tail) c.put_part-end.ensures.written ∙ append_assoc old part tail
     ∙ ap (λ (l : List ℕ). old ++ l) (ap (λ (n : ℕ). take n (drop 1 s.octets) ++ tail) same ∙ is ∙ ap iso_state_text c.self.view_is)

@@ -1,7 +1,7 @@
 use Rattle.std.proofs.Common.{sym, arith}
 use Rattle.zic_rows.proofs.MarchDates.{dated_late, dated_early}
-use Rattle.zic_rows.proofs.date.date_text.Goals.{then-date-lt-DAYS_TO_JANUARY, else-date-lt-DAYS_TO_JANUARY}
-use Rattle.zic_rows.proofs.date.date_text.Goals as goal
+use Rattle.zic_rows.proofs.cached_date.date_text.Goals.{then-date-lt-DAYS_TO_JANUARY, else-date-lt-DAYS_TO_JANUARY}
+use Rattle.zic_rows.proofs.cached_date.date_text.Goals as goal
 
 pub returns : goal.returns
 returns c =

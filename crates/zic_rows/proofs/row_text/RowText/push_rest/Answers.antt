@@ -1,8 +1,8 @@
-use Rattle.std.proofs.Common.{◌≡◌, ◌∙◌, ◌+ℤ◌, ◌*◌, ◌++◌, ℕ, List, pos, ap, take, arith}
+use Rattle.std.proofs.Common.{◌≡◌, ◌∙◌, ◌+ℤ◌, ◌*◌, ◌++◌, ℕ, List, pos, ap, ap₂, take, arith}
 use Rattle.std.proofs.lemmas.Int.{ints}
 use Rattle.zic_rows.proofs.Counts.{timed_rest_cached}
-use Rattle.zic_rows.proofs.Stores.{row_written}
-use Rattle.zic_rows.proofs.row_text.RowText.push_parts.Goals as goal
+use Rattle.zic_rows.proofs.Stores.{written_back}
+use Rattle.zic_rows.proofs.row_text.RowText.push_rest.Goals as goal
 
 pub returns : goal.returns
 returns c =
@@ -14,8 +14,7 @@ returns c =
     let written = c.put_rest-self-inside.ensures in
     let counted : pos seconds ≡ time.second +ℤ s.offset +ℤ pos (719_162 * 86_400) = omega (arith, ints, c.local_seconds-seconds.ensures.value, c.offset.ensures.value) in
     let rest = timed_rest_cached facts.style time.unit time.second time.fraction s seconds c.turn_to.new.self.day counted c.turn_to.ensures in
-    let started : take len c.deref_mut.result.now ≡ c.args.self.now ++ c.args.start.now =
-    ap (take len) c.deref_mut.ensures.value ∙ c.in_ok-make_room.ensures.text ∙ c.self.view_is ∙ c.in_ok-push.ensures in
-    row_written c.args.self.now (take len c.deref_mut.result.now) c.put_rest-self-inside.new.text _ c.args.start.now _ c.put_rest-self-inside.result c.make_room.new.bytes.len started
-    (written.written ∙ ap (λ (l : List ℕ). take len c.deref_mut.result.now ++ l) rest)
+    let before : take len c.deref_mut.result.now ≡ c.args.self.now = ap (take len) c.deref_mut.ensures.value ∙ c.in_ok-make_room.ensures.text ∙ c.self.view_is in
+    written_back c.put_rest-self-inside.new.text _ c.put_rest-self-inside.result c.make_room.new.bytes.len
     (omega (arith, written.end, c.in_ok-make_room.ensures.room)) (omega (arith, written.end, written.same_length, c.deref_mut.ensures.len, c.in_ok-make_room.ensures.room))
+    ∙ written.written ∙ ap₂ (λ (a b : List ℕ). a ++ b) before rest

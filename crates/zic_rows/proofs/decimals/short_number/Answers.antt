@@ -1,6 +1,6 @@
 use Rattle.std.proofs.Common.{arith, ◌<◌, ◌^◌}
 use Rattle.zic_rows.proofs.Powers.{of_more_digits}
-use Rattle.zic_rows.proofs.instant.short_number.Goals as goal
+use Rattle.zic_rows.proofs.decimals.short_number.Goals as goal
 
 pub overflow_mul-n : goal.overflow_mul-n
 overflow_mul-n c = let small : c.loop-byte.n < 10 ^ 18 = of_more_digits c.loop-byte.n c.loop-byte.byte-index 18 c.loop-byte.invariant.below (omega arith) in omega arith
