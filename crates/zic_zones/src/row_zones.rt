@@ -18,7 +18,7 @@ use zic_files::Files;
 use zic_local::laws::{choices_mean_one, instants_are_near};
 use zic_local::{Unresolved, instant_by};
 use zic_plan::Disambiguation;
-use zic_rows::{RowWriter, StateText};
+use zic_rows::StateText;
 use zic_tzif::{Answer, Instants};
 
 /// Some instants, and the number of the state that a zone shows at each of them.
@@ -173,19 +173,25 @@ impl<'a> RowZones<'a> {
         }
     }
 
-    /// Sets the state of the rows to come to that of a file with this number, which the file shows
-    /// at some instant.
+    /// Returns the text of a state of a file, by the number of the state, where one is at hand.
     #[inline(always)]
-    pub fn show(&self, writer: &mut RowWriter, file: usize, number: usize)
+    pub fn text(&self, file: usize, number: usize) -> Option<&'a StateText>
+        requires { file < length self.now }
+        ensures { IfSome result (λ text. (second : ℤ) → IsShownAt self.now file second number
+            → AnswersAt self.now file second text.now) }
+    {
+        self.ready.text(file, number)
+    }
+
+    /// Makes the text of a state of a file, by the number of the state. A row may have each state that a
+    /// file shows at some instant.
+    pub fn make_text(&self, file: usize, number: usize) -> StateText
         requires within { file < length self.now }
         requires shown { (second : ℤ) × IsShownAt self.now file second number }
         ensures { (second : ℤ) → IsShownAt self.now file second number
-            → AnswersAt self.now file second writer.new }
+            → AnswersAt self.now file second result }
     {
         self.are_sound();
-        match self.ready.text(file, number) {
-            Some(text) => writer.set_text(text),
-            None => writer.set_state(self.files.zone(file).state(number)),
-        }
+        StateText::new(self.files.zone(file).state(number))
     }
 }
