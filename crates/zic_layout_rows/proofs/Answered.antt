@@ -1,5 +1,5 @@
 -- The fields that a file answers.
-use Rattle.std.proofs.Common.{◌≡◌, refl}
+use Rattle.std.proofs.Common.{◌≡◌, ℕ, [], ◌∷◌, refl, replicate, take}
 use Rattle.zic_plan.specs.declared.layout.Style.{Style}
 use Rattle.zic_plan.specs.declared.layout.Style.TheVariants as styles
 use Rattle.zic_plan.specs.declared.layout.TimeFrom.{TimeFrom}
@@ -12,3 +12,10 @@ four styles.Fields time not = refl
 four styles.Iso from.Count not = absurd (not refl)
 four styles.Iso from.Rfc3339 not = absurd (not refl)
 four styles.Iso (from.Local choice) not = refl
+
+-- so many of four delimiters
+pub delimiters : (style : Style) (time : TimeFrom) (d : ℕ) → take (answered style time) (d ∷ d ∷ d ∷ d ∷ []) ≡ replicate (answered style time) d
+delimiters styles.Fields time d = refl
+delimiters styles.Iso from.Count d = refl
+delimiters styles.Iso from.Rfc3339 d = refl
+delimiters styles.Iso (from.Local choice) d = refl

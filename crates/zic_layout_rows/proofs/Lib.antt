@@ -10,6 +10,6 @@ pub mod MovedRows
 pub mod RowFaults
 pub mod Stated
 pub mod QuickRows
-pub mod LocalRows
+pub mod ShownRows
 pub mod Meant
 pub mod Answered

@@ -1,40 +1,34 @@
 -- Rows of records in which all that they show is at hand.
-use Rattle.zic_columns.specs.Lines.{exchanged_record}
-use Rattle.std.proofs.Common.{◌≡◌, ◌≤◌, ◌+◌, ◌∙◌, ℕ, ℤ, Bool, true, List, [], ◌∷◌, ◌++◌, Some, None, Ok, ap, ap₂, append_assoc, arith, length, length-append, refl, subst, sym, take, drop, get_or}
+use Rattle.std.proofs.Common.{◌≡◌, ◌≤◌, ◌+◌, ◌∙◌, ℕ, ℤ, Bool, true, List, [], ◌∷◌, ◌++◌, Some, None, Ok, ap, ap₂, append_assoc, arith, length, refl, subst, sym, get_or}
 use Rattle.std.specs.Prelude.{int_le, slice_index_or, slice_range, ◌&&◌}
 use Rattle.std.proofs.lemmas.Int.{ints}
 use Rattle.std.specs.Fmt.{signed_decimal}
 use Rattle.zic_base.specs.Number.{number}
-use Rattle.zic_base.specs.State.{Shown}
 use Rattle.zic_columns.proofs.Spans.{span_both, span_first}
-use Rattle.zic_columns.specs.Exchange.{exchanged}
 use Rattle.zic_columns.specs.Record.{IsSplit, IsWithin, bytes_at, field_text, record_at}
 use Rattle.zic_columns.specs.Round.{may_have}
 use Rattle.zic_columns.specs.declared.fields.Field.{Field}
 use Rattle.zic_columns.specs.declared.fields.Field.TheVariants.{Plain, Quoted}
 use Rattle.zic_columns.specs.declared.fields.Record.{Record}
 use Rattle.zic_columns.specs.declared.fields.Span.{Span}
-use Rattle.zic_files.specs.Sound.{AreSoundFiles}
 use Rattle.zic_plan.specs.Delimiter.{is_delimiter}
 use Rattle.zic_plan.specs.Layout.{has_count}
-use Rattle.zic_plan.specs.declared.layout.Style.{Style}
 use Rattle.zic_plan.specs.declared.layout.Unit.{Unit}
 use Rattle.zic_plan.specs.declared.layout.TimeFrom.{TimeFrom}
 use Rattle.zic_plan.specs.declared.layout.ZoneFrom.TheVariants as from
-use Rattle.zic_rows.specs.Count.{count_of, counted_rest_text, second_of, timed_rest_text}
+use Rattle.zic_rows.specs.Count.{count_of, second_of}
 use Rattle.zic_rows.specs.Instant.{IsRowInstant}
 use Rattle.zic_rows.specs.PlainTime.{IsPlainTime}
 use Rattle.zic_rows.specs.declared.limit.TheConstants.{FIRST_INSTANT, LAST_INSTANT}
 use Rattle.zic_rows.specs.declared.row_time.RowTime.{RowTime}
-use Rattle.zic_zones.specs.Zones.{AnswersAt, zone_in}
-use Rattle.zic_layout_rows.specs.LayoutRows.{IsTextBy, admits_stray, input_text, file_at, rest_by, start_text}
+use Rattle.zic_zones.specs.Zones.{zone_in}
+use Rattle.zic_layout_rows.specs.LayoutRows.{admits_stray, input_text}
 use Rattle.zic_layout_rows.specs.Rows.{is_closed, is_row_instant}
-use Rattle.zic_layout_rows.specs.code.Batch.{AreCountsOf, IsCountFor, IsQuickRow, IsRowQuery, IsTimeIn, count_at, fault_at, time_at, wanted_by, zone_at}
-use Rattle.zic_layout_rows.specs.code.Row.{field_start}
+use Rattle.zic_layout_rows.specs.code.Batch.{IsCountFor, IsPlain, IsQuickRow, IsShownRow, IsTimeIn, count_at, fault_at, time_at, wanted_by}
 use Rattle.zic_layout_rows.specs.declared.piece.Piece.{Piece}
-use Rattle.zic_layout_rows.specs.declared.quick.QuickRow.{QuickRow}
-use Rattle.zic_layout_rows.specs.declared.row.RowQuery.{RowQuery}
-use Rattle.zic_layout_rows.proofs.PutBack.{count_read, row_exchanged, row_put_back, text_made}
+use Rattle.zic_layout_rows.specs.declared.quick.ShownRow.{ShownRow}
+use Rattle.zic_layout_rows.specs.declared.start.Input.TheVariants as given_by
+use Rattle.zic_layout_rows.proofs.PutBack.{count_read}
 use Rattle.zic_layout_rows.proofs.RowFaults.{closed_quotes, found, no_fault}
 
 -- two parts with a comma between them
@@ -61,12 +55,6 @@ own_begins piece given split k zone time by_field plain first next last within c
 pub comma_pushed : (old name a b : List ℕ) → a ≡ old ++ name → b ≡ a ++ 44 ∷ [] → b ≡ old ++ (name ++ 44 ∷ [])
 comma_pushed old name a b is_a is_b = is_b ∙ ap (λ (l : List ℕ). l ++ 44 ∷ []) is_a ∙ append_assoc old name (44 ∷ [])
 
--- a row that is appended in parts is longer than what was there
-pub longer : (old begun part start rest all : List ℕ) → begun ++ part ≡ old ++ start → all ≡ begun ++ (part ++ rest) → length old ≤ length all
-longer old begun part start rest all is made =
-    let row_record : all ≡ (old ++ start) ++ rest = made ∙ sym (append_assoc begun part rest) ∙ ap (λ (l : List ℕ). l ++ rest) is in
-    omega (arith, ap length row_record, length-append (old ++ start) rest, length-append old start)
-
 -- the check passes an instant that a row may have
 may_row : (t : ℤ) → IsRowInstant t → is_row_instant (Some t) ≡ true
 may_row t is = both (int_le FIRST_INSTANT t) (int_le t LAST_INSTANT) (grind (arith, ints, is.0)) (grind (arith, ints, is.1)) where
@@ -78,6 +66,10 @@ time_text : (u : Unit) (bytes : List ℕ) (field : Field) (time : RowTime) → I
 time_text u bytes (Plain span) time is = is
 time_text u bytes (Quoted span) time is = absurd is
 
+plain_field : (u : Unit) (bytes : List ℕ) (field : Field) (time : RowTime) → IsTimeIn u bytes field time → IsPlain field
+plain_field u bytes (Plain span) time is = tt
+plain_field u bytes (Quoted span) time is = absurd is
+
 -- no bytes are no count
 no_count : (u : Unit) → count_of u [] ≡ None
 unfolding count_of number
@@ -88,18 +80,12 @@ closed_is : (u : Unit) (fields : List (List ℕ)) (index : ℕ) (count : ℤ) �
 closed_is u [] index count says = absurd (let none = no_count u in cc (none, says))
 closed_is u (field ∷ fields) index count says = refl
 
--- the rest of a row by a time, and by its count
-rest_same : (style : Style) (u : Unit) (field : List ℕ) (time : RowTime) (is : IsPlainTime u field time) (shown : Shown)
-    → timed_rest_text style time.unit time.second time.fraction shown ≡ counted_rest_text style u is.count shown
-unfolding counted_rest_text
-rest_same style u field time is shown = rw (is.unit, is.second, is.fraction) refl
-
-module _ (piece : Piece) (given : Record) (row : QuickRow) (split : IsSplit piece.bytes.now (wanted_by piece.layout.now) given) (is : IsQuickRow piece given row) where
+module _ (piece : Piece) (given : Record) (row : ShownRow) (split : IsSplit piece.bytes.now (wanted_by piece.layout.now) given) (is : IsQuickRow piece given row) where
   -- the time stands in its field
   pub time_read : IsPlainTime piece.layout.now.unit (field_text piece.bytes.now given.time) row.time
   time_read = time_text piece.layout.now.unit piece.bytes.now given.time row.time is.time
 
-module _ (piece : Piece) (given : Record) (row : QuickRow) (split : IsSplit piece.bytes.now (wanted_by piece.layout.now) given) (is : IsQuickRow piece given row)
+module _ (piece : Piece) (given : Record) (row : ShownRow) (split : IsSplit piece.bytes.now (wanted_by piece.layout.now) given) (is : IsQuickRow piece given row)
     (read : IsPlainTime piece.layout.now.unit (field_text piece.bytes.now given.time) row.time) where
   count_is : is_delimiter piece.layout.now.delimiter ≡ true → count_at piece given ≡ Some read.count
   count_is delimiter = sym (count_read piece given delimiter is.from split) ∙ read.says
@@ -118,36 +104,24 @@ module _ (piece : Piece) (given : Record) (row : QuickRow) (split : IsSplit piec
       let right = closed_quotes piece.layout.now.quotes (record_at piece.bytes.now given) given.stray closed split.stray quotes in
       no_fault piece number given le short right admits row.file is.file read.count (time_is delimiter) (may_row (second_of piece.layout.now.unit read.count) read.may)
 
-  -- its text, as it is made
-  pub quick_text_made : (old begun_text all : List ℕ) (start : ℕ) → start ≡ length old → is_delimiter piece.layout.now.delimiter ≡ true → AreSoundFiles piece.zones.now
-      → begun_text ≡ old ++ field_start piece.layout.now.start (bytes_at piece.bytes.now given.own) (zone_in piece.layout.now.zone (record_at piece.bytes.now given).fields)
-      (field_text piece.bytes.now given.time)
-      → all ≡ begun_text ++ timed_rest_text piece.layout.now.style row.time.unit row.time.second row.time.fraction row.text.now
-      → (made : List ℕ) × (take start all ++ exchanged piece.layout.now.delimiter (drop start all) ≡ old ++ made)
-      × IsTextBy piece.layout.now piece.zones.now (exchanged_record piece.layout.now.delimiter (record_at piece.bytes.now given)) made
-  quick_text_made old begun_text all start at delimiter sound begun made =
+  -- and shows what its record has
+  pub quick_shown : is_delimiter piece.layout.now.delimiter ≡ true → IsShownRow piece given given_by.Field row
+  quick_shown delimiter =
       let layout = piece.layout.now in
-      let d = layout.delimiter in
-      let own = bytes_at piece.bytes.now given.own in
-      let name = zone_in layout.zone (record_at piece.bytes.now given).fields in
-      let query : RowQuery = record { file = row.file; counts = record { input = read.count; count = read.count } } in
-      let counts : AreCountsOf layout (file_at piece.zones.now (zone_at piece given)) (count_at piece given) query.counts = record {
-        input_is = count_is delimiter;
-        sound = subst (λ (time : TimeFrom). IsCountFor time layout.unit read.count) (sym is.from) tt;
-        time = time_is delimiter;
-      } in
-      let input : IsRowQuery piece given query = record { file = is.file; counts = counts; may = read.may } in
-      let digits = input_text layout.from layout.unit read.count in
-      let digits_are : signed_decimal read.count ≡ digits = rw is.from refl in
-      let rest = rest_by layout.style layout.from layout.unit read.count row.text.now in
-      let rest_is : counted_rest_text layout.style layout.unit read.count row.text.now ≡ rest = rw is.from refl in
-      let answers = subst (λ (t : ℤ). AnswersAt piece.zones.now row.file t row.text.now) read.second is.answers in
-      let row_record : all ≡ old ++ (field_start layout.start own name digits ++ rest) =
-      made ∙ ap (λ (l : List ℕ). begun_text ++ l) (rest_same layout.style layout.unit (field_text piece.bytes.now given.time) row.time read row.text.now ∙ rest_is)
-      ∙ ap (λ (l : List ℕ). l ++ rest) (begun ∙ ap (λ (l : List ℕ). old ++ field_start layout.start own name l) (read.plain ∙ digits_are))
-      ∙ append_assoc old (field_start layout.start own name digits) rest in (
-        start_text layout (exchanged d own) name read.count ++ exchanged d rest,
-        row_exchanged d start old (field_start layout.start own name digits ++ rest) all at row_record
-            ∙ ap (λ (l : List ℕ). old ++ l) (row_put_back layout.start d own name digits rest),
-        text_made piece given query row.text.now delimiter sound input answers,
-      )
+      let digits : signed_decimal read.count ≡ input_text layout.from layout.unit read.count = rw is.from refl in
+      record {
+        counts = record { input = read.count; count = read.count };
+        query = record {
+          file = is.file;
+          counts = record {
+            input_is = count_is delimiter;
+            sound = subst (λ (time : TimeFrom). IsCountFor time layout.unit read.count) (sym is.from) tt;
+            time = time_is delimiter;
+          };
+          may = read.may;
+        };
+        time = record { second = read.second; fraction = read.fraction; unit = read.unit };
+        begins = plain_field layout.unit piece.bytes.now given.time row.time is.time;
+        says = read.plain ∙ digits;
+        answers = is.answers;
+      }

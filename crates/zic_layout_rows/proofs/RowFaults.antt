@@ -117,11 +117,6 @@ start_pushed old name input a b is_a is_b = is_b ∙ ap (λ (l : List ℕ). l ++
 pub digits_pushed : (old digits a b : List ℕ) → a ≡ old ++ 44 ∷ [] → b ≡ a ++ digits → b ≡ old ++ 44 ∷ digits
 digits_pushed old digits a b is_a is_b = is_b ∙ ap (λ (l : List ℕ). l ++ digits) is_a ∙ append_assoc old (44 ∷ []) digits
 
--- and the text of a state after them
-pub rest_pushed : (old digits text a b c : List ℕ) → a ≡ old ++ 44 ∷ [] → b ≡ a ++ digits → c ≡ b ++ text → c ≡ old ++ 44 ∷ (digits ++ text)
-rest_pushed old digits text a b c is_a is_b is_c =
-    is_c ∙ ap (λ (l : List ℕ). l ++ text) (digits_pushed old digits a b is_a is_b) ∙ append_assoc old (44 ∷ digits) text
-
 -- a record with fields is closed
 closed_counted : (fields : List (List ℕ)) → (length fields ≡ 0 → ⊥) → is_closed fields ≡ true
 closed_counted [] some = absurd (some refl)

@@ -10,7 +10,7 @@ use Rattle.zic_zones.specs.States.{HasState}
 use Rattle.zic_layout_rows.specs.code.Batch.{IsKnown, IsQuickRow, IsTimeIn}
 use Rattle.zic_layout_rows.specs.declared.piece.Piece.{Piece}
 use Rattle.zic_layout_rows.specs.declared.quick.Known.{Known}
-use Rattle.zic_layout_rows.specs.declared.quick.QuickRow.{QuickRow}
+use Rattle.zic_layout_rows.specs.declared.quick.ShownRow.{ShownRow}
 
 module _ (piece : Piece) (given : Record) (states : List Shown) (known : Known) (is : IsKnown piece given states known) where
   -- a record whose state has a number has a zone
@@ -20,7 +20,7 @@ module _ (piece : Piece) (given : Record) (states : List Shown) (known : Known) 
       (state, got, rw at.zone_is refl)
 
   -- what a row shows, where all of it is known
-  pub quick_row : (row : QuickRow) → piece.layout.now.from ≡ from.Count → known.zone ≡ Some row.file → known.time ≡ row.time → known.state ≢ UNKNOWN → slice_get states known.state ≡ Some row.text.now → IsQuickRow piece given row
+  pub quick_row : (row : ShownRow) → piece.layout.now.from ≡ from.Count → known.zone ≡ Some row.file → known.time ≡ row.time → known.state ≢ UNKNOWN → slice_get states known.state ≡ Some row.text.now → IsQuickRow piece given row
   quick_row row counts zone time says text =
       let (state, got, at) = is.state says in
       record {

@@ -7,13 +7,16 @@ ghost use Rattle.zic_layout_rows.specs.LayoutRows.{IsAnswer, empty_fields, old_f
 ghost use Rattle.zic_layout_rows.specs.code.Batch.{IsPen, wanted_by};
 
 use crate::batch::zone_of;
-use crate::faulty::{answered, put_back};
+use crate::faulty::answered;
 use crate::lookup::look_up;
 use crate::piece::Piece;
-use crate::row::{RowPen, push_rest, query};
+use crate::row::{RowPen, query};
+use crate::start::NOWHERE;
+use crate::text::{push_rest, put_back};
 use std::alloc::AllocError;
 use zic_columns::Record;
 use zic_plan::Layout;
+use zic_rows::{RowText, RowTime};
 use zic_zones::RowZones;
 
 /// A record of a piece, and the number of its row. The record has the delimiter and the comma in each
@@ -25,19 +28,19 @@ pub(crate) struct Numbered<'a> {
 }
 
 /// Writes empty fields into a text, in place of what that holds.
-fn write_empty(answer: &mut Vec<u8>, layout: &Layout) -> Result<(), AllocError>
-    ensures { OnOk result (answer.new.items ≡ empty_fields layout.now) }
+fn write_empty(answer: &mut RowText, layout: &Layout) -> Result<(), AllocError>
+    ensures { OnOk result (answer.new ≡ empty_fields layout.now) }
 {
     answer.clear();
-    answer.resize(answered(layout.style, layout.from), layout.delimiter.byte())?;
-    answer.push(b'\n')?;
-    Ok(())
+    let fields = [layout.delimiter.byte(); 4];
+    answer.push(&fields[..answered(layout.style, layout.from)])?;
+    answer.push(b"\n")
 }
 
 /// Writes what the zones of a piece answer a record into a text, in place of what that holds: empty
 /// fields if its row has a fault by them.
 pub(crate) fn write_answer(
-    answer: &mut Vec<u8>,
+    answer: &mut RowText,
     piece: &Piece<'_, '_>,
     row: Numbered<'_>,
     pen: &mut RowPen,
@@ -47,7 +50,7 @@ pub(crate) fn write_answer(
     ensures pen { IsPen piece.now.zones.now pen.new }
     ensures answer { OnOk result (IsAnswer piece.now.layout.now piece.now.zones.now piece.now.most
         row.entry.number (exchanged_record piece.now.layout.now.delimiter
-        (record_at piece.now.bytes.now row.entry.given.now)) answer.new.items) }
+        (record_at piece.now.bytes.now row.entry.given.now)) answer.new) }
 {
     // No name of a file and no instant has a byte that can stand between fields.
     piece.zones.are_sound();
@@ -60,7 +63,8 @@ pub(crate) fn write_answer(
     };
     pen.show(piece, query.file, lookup.state);
     answer.clear();
-    push_rest(answer, piece.layout, query.counts.count, &mut pen.writer)?;
+    let time = RowTime::of_count(query.counts.count, piece.layout.unit);
+    push_rest(answer, piece, NOWHERE, time, pen.text(lookup.state))?;
     put_back(answer, 0, delimiter);
     Ok(())
 }
@@ -68,7 +72,7 @@ pub(crate) fn write_answer(
 /// Writes what another release answers a record, if there is one, as [`write_answer`] does, and else
 /// empty fields.
 pub(crate) fn write_old(
-    answer: &mut Vec<u8>,
+    answer: &mut RowText,
     piece: &Piece<'_, '_>,
     old: &Option<RowZones<'_>>,
     row: Numbered<'_>,
@@ -79,7 +83,7 @@ pub(crate) fn write_old(
     ensures pen { IsPen (old_files old.now) pen.new }
     ensures answer { OnOk result (IsAnswer piece.now.layout.now (old_files old.now) piece.now.most
         row.entry.number (exchanged_record piece.now.layout.now.delimiter
-        (record_at piece.now.bytes.now row.entry.given.now)) answer.new.items) }
+        (record_at piece.now.bytes.now row.entry.given.now)) answer.new) }
 {
     match old {
         Some(zones) => write_answer(answer, &Piece { zones, ..*piece }, row, pen),

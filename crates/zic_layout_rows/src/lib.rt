@@ -4,7 +4,6 @@
 mod answer;
 mod batch;
 mod faulty;
-mod local;
 mod lookup;
 mod moved;
 mod note;
@@ -13,6 +12,8 @@ mod piece;
 mod quick;
 mod row;
 mod shown;
+mod start;
+mod text;
 
 pub use faulty::{aside, ends_run, push_own, put_back};
 pub use piece::{Piece, rows_of_piece};

@@ -8,7 +8,6 @@ ghost use Rattle.zic_rows.specs.Instant.{IsRowInstant};
 ghost use Rattle.zic_rows.specs.Local.{IsLocalSecond};
 ghost use Rattle.zic_plan.specs.declared.layout.TimeFrom.TheVariants as from;
 ghost use Rattle.zic_zones.specs.Resolved.{resolved};
-ghost use Rattle.zic_layout_rows.specs.declared.lookup.FoundState.TheVariants as found;
 ghost use Rattle.zic_layout_rows.specs.LayoutRows.{file_at, missing, moved};
 ghost use Rattle.zic_layout_rows.specs.code.Batch.{AreTimesOf, IsCountFor, IsFile, IsLocal, IsLookup};
 ghost use Rattle.zic_layout_rows.specs.code.Batch.{IsStateFor, count_at, count_of_times, wanted_by, zone_at};
@@ -34,7 +33,8 @@ pub(crate) struct Counts {
     pub(crate) count: i128,
 }
 
-/// The state that a file shows at an instant: by the number that the file gives it, or by its text.
+/// The state that a file shows at an instant: its text, or the number that the file gives it, where no
+/// text is at hand.
 #[derive(Clone, Copy, Drop)]
 pub(crate) enum FoundState<'s> {
     Number(usize),
@@ -71,7 +71,7 @@ pub(crate) fn look_up<'s>(
         return Ok(lookup);
     }
     let times = times_of(piece, file, input);
-    let state = FoundState::Number(state_of(piece, file, times));
+    let state = state_of(piece, file, times);
     Ok(Lookup { file, times, state })
 }
 
@@ -237,17 +237,25 @@ fn row_second(count: i128, unit: Unit) -> Option<i64>
     Some(second as i64)
 }
 
-/// Returns the number of the state that a file shows at the whole second of an instant, or any number
-/// where there is no file, or no row may have the instant.
-fn state_of(piece: &Piece<'_, '_>, file: Option<usize>, times: Result<Counts, RowKind>) -> usize
+/// Returns the state that a file shows at the whole second of an instant, or any where there is no file,
+/// or no row may have the instant.
+fn state_of<'s>(
+    piece: &Piece<'_, 's>,
+    file: Option<usize>,
+    times: Result<Counts, RowKind>,
+) -> FoundState<'s>
     requires { IsFile piece.now file }
-    ensures { IsStateFor piece.now file (count_of_times times) (found.Number result) }
+    ensures { IsStateFor piece.now file (count_of_times times) result }
 {
-    let (Some(number), Ok(counts)) = (file, times) else {
-        return 0;
+    let (Some(file), Ok(counts)) = (file, times) else {
+        return FoundState::Number(0);
     };
     let Some(second) = row_second(counts.count, piece.layout.unit) else {
-        return 0;
+        return FoundState::Number(0);
     };
-    piece.zones.span(number, second).number
+    let number = piece.zones.span(file, second).number;
+    match piece.zones.text(file, number) {
+        Some(text) => FoundState::Text(text),
+        None => FoundState::Number(number),
+    }
 }

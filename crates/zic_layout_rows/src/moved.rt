@@ -31,8 +31,8 @@ struct Moved {
     pen: RowPen,
     old_pen: RowPen,
     /// What each release answers the last record.
-    answer: Vec<u8>,
-    old_answer: Vec<u8>,
+    answer: RowText,
+    old_answer: RowText,
 }
 
 /// Appends a row, and the fields of another answer after its last. Appends nothing to a row without a
@@ -65,8 +65,8 @@ impl Moved {
             rows: Rows::new(alloc, RowText::new(alloc)),
             pen: RowPen::new(alloc),
             old_pen: RowPen::new(alloc),
-            answer: Vec::new(alloc),
-            old_answer: Vec::new(alloc),
+            answer: RowText::new(alloc),
+            old_answer: RowText::new(alloc),
         }
     }
 
@@ -109,10 +109,11 @@ impl Moved {
         }
         write_answer(&mut self.answer, piece, row, &mut self.pen)?;
         write_old(&mut self.old_answer, piece, old, row, &mut self.old_pen)?;
-        if are_same(&self.answer, &self.old_answer) {
+        if are_same(self.answer.bytes(), self.old_answer.bytes()) {
             return Ok(());
         }
-        push_with(&mut self.text, self.rows.text.bytes(), &self.old_answer)?;
+        let (row, answer) = (self.rows.text.bytes(), self.old_answer.bytes());
+        push_with(&mut self.text, row, answer)?;
         Ok(())
     }
 

@@ -14,27 +14,25 @@ ghost use Rattle.zic_plan.specs.declared.layout.TimeFrom.TheVariants as from;
 ghost use Rattle.zic_plan.specs.declared.layout.Written.TheVariants as written;
 ghost use Rattle.zic_layout_rows.specs.LayoutRows.{IsTextBy, admits_stray, input_text, rest_by};
 ghost use Rattle.zic_layout_rows.specs.Rows.{is_row_instant};
-ghost use Rattle.zic_layout_rows.specs.code.Batch.{AreColumns, AreStates, IsFoundAt, IsLookup, IsKnown, IsPen, IsQuickRow, IsRowQuery, IsSoundQuery, fault_at, records_of, wanted_by, zone_at};
+ghost use Rattle.zic_layout_rows.specs.code.Batch.{AreColumns, AreStates, IsFoundAt, IsLookup, IsKnown, IsPen, IsQuickRow, IsRowQuery, IsSoundQuery, fault_at, records_of, state_found, wanted_by, zone_at};
 ghost use Rattle.zic_layout_rows.specs.PieceRows.{AreRowsOf, empty_rows};
 ghost use Rattle.zic_layout_rows.specs.code.Row.{AreNext, field_start};
 
 use crate::batch::Batch;
-use crate::faulty::{ends_run, push_faulty, put_back};
-use crate::local::push_local;
+use crate::faulty::{ends_run, push_faulty};
 use crate::lookup::{Counts, FoundState, Lookup, look_up};
 use crate::note::{LinesPassed, note_of};
 use crate::piece::Piece;
-use crate::quick::{Known, QuickRow, push_quick};
+use crate::quick::{Known, ShownRow};
 use crate::shown::ShownStates;
-use itoa::Buffer;
+use crate::start::Input;
+use crate::text::push_row;
 use std::alloc::{AllocError, Global};
 use std::marker::Model;
 use zic_base::{RowFault, RowKind, State};
-use zic_columns::{Field, Record, may_have};
-use zic_plan::{FaultyRow, Layout, Quotes, RowStart, Style, TimeFrom, Unit};
-use zic_rows::{
-    FIRST_INSTANT, LAST_INSTANT, RowText, RowWriter, is_plain, moment_of, push_local_time,
-};
+use zic_columns::{Record, may_have};
+use zic_plan::{FaultyRow, Quotes, TimeFrom, Unit};
+use zic_rows::{FIRST_INSTANT, LAST_INSTANT, RowText, RowTime, StateText, moment_of};
 use zic_zones::RowStates;
 
 /// The rows of records up to the first that ends the run: their text, their number, its fault, and
@@ -55,16 +53,18 @@ impl Model for Rows {
     ghost view = { λ r. record { text = r.text; count = r.count; fault = r.fault; faults = r.faults.items } };
 }
 
-/// A writer of rows out of the common, and the file and the number of the state that it shows.
+/// What is kept from one row out of the common to the next.
 #[derive(Drop)]
 pub(crate) struct RowPen {
     pub(crate) alloc: Global,
-    pub(crate) writer: RowWriter,
-    /// The text of one row, or of a part.
-    row: Vec<u8>,
-    /// None before the first row.
+    /// The text of the last state of which none was at hand.
+    made: StateText,
+    /// The number of the file that shows that state. `None` before the first.
     file: Option<usize>,
+    /// The number of the state.
     state: usize,
+    /// The text of a row with a fault.
+    row: Vec<u8>,
     /// How far line feeds were counted.
     passed: LinesPassed,
 }
@@ -81,38 +81,43 @@ impl RowPen {
         };
         RowPen {
             alloc,
-            writer: RowWriter::new(state),
-            row: Vec::new(alloc),
+            made: StateText::new(state),
             file: None,
             state: 0,
+            row: Vec::new(alloc),
             passed: LinesPassed::new(),
         }
     }
 
-    /// Shows the state of a file with this number, which the file shows at some second.
-    #[inline(always)]
+    /// Makes the text of a state of a file, which the file shows at some second, if none is at hand.
     pub(crate) fn show(&mut self, piece: &Piece<'_, '_>, file: usize, state: FoundState<'_>)
         requires within { file < length piece.now.zones.now }
         requires shown { (second : ℤ) × IsFoundAt piece.now.zones.now file second state }
         requires pen { IsPen piece.now.zones.now self.old }
         ensures shows { (second : ℤ) → IsFoundAt piece.now.zones.now file second state.entry
-            → AnswersAt piece.now.zones.now file second self.new.writer }
+            → AnswersAt piece.now.zones.now file second (state_found self.new.made state.entry) }
         ensures pen { IsPen piece.now.zones.now self.new }
     {
-        let state = match state {
-            FoundState::Number(number) => number,
-            FoundState::Text(text) => {
-                self.writer.set_text(text);
-                self.file = None;
-                return;
-            }
+        let FoundState::Number(number) = state else {
+            return;
         };
-        if self.file == Some(file) && self.state == state {
+        if self.file == Some(file) && self.state == number {
             return;
         }
-        piece.zones.show(&mut self.writer, file, state);
+        self.made = piece.zones.make_text(file, number);
         self.file = Some(file);
-        self.state = state;
+        self.state = number;
+    }
+
+    /// Returns the text of a state: the one at hand, or the last that was made.
+    #[inline(always)]
+    pub(crate) fn text<'s>(&'s self, state: FoundState<'s>) -> &'s StateText
+        ensures { result.now ≡ state_found self.now.made state.entry }
+    {
+        match state {
+            FoundState::Number(_) => &self.made,
+            FoundState::Text(text) => text,
+        }
     }
 }
 
@@ -187,128 +192,6 @@ pub(crate) fn query(
     Ok(RowQuery { file, counts })
 }
 
-/// Appends a count: the field that has it, where that is in plain decimals, or else its decimals.
-#[inline(always)]
-fn push_count(
-    text: &mut Vec<u8>,
-    piece: &Piece<'_, '_>,
-    given: &Record,
-    count: i128,
-) -> Result<(), AllocError>
-    requires within_bytes { IsWithinPiece piece.now.bytes.now given.now.time }
-    requires count { piece.now.layout.now.from ≡ from.Count → count_of piece.now.layout.now.unit
-        (field_text piece.now.bytes.now given.now.time) ≡ Some count }
-    ensures { OnOk result (text.new.items ≡ text.old.items ++ signed_decimal count) }
-{
-    let layout = piece.layout;
-    let input = (given.time, layout.from, layout.unit);
-    if let (Field::Plain(span), TimeFrom::Count, Unit::Second) = input {
-        let field = span.of(piece.bytes);
-        if is_plain(field) {
-            return text.extend_from_slice(field);
-        }
-    }
-    text.extend_from_slice(Buffer::new().format(count).as_bytes())
-}
-
-/// Appends a comma and the text of the count that a record's field has: a local time, or decimals.
-#[inline(always)]
-fn push_input(
-    text: &mut Vec<u8>,
-    piece: &Piece<'_, '_>,
-    given: &Record,
-    query: RowQuery,
-) -> Result<(), AllocError>
-    requires split { IsSplit piece.now.bytes.now (wanted_by piece.now.layout.now) given.now }
-    requires query { IsRowQuery piece.now given.now query }
-    ensures { OnOk result (text.new.items ≡ text.old.items ++ 44 ∷ input_text
-        piece.now.layout.now.from piece.now.layout.now.unit query.counts.input) }
-{
-    if let TimeFrom::Local(_) = piece.layout.from {
-        return push_local_time(text, query.counts.input, piece.layout.unit);
-    }
-    prove!(piece.layout.delimiter.byte() <= u8::MAX);
-    text.push(b',')?;
-    push_count(text, piece, given, query.counts.input)
-}
-
-/// Appends what the row of a record begins with, with commas.
-#[inline(always)]
-fn push_start(
-    text: &mut Vec<u8>,
-    piece: &Piece<'_, '_>,
-    given: &Record,
-    query: RowQuery,
-) -> Result<(), AllocError>
-    requires split { IsSplit piece.now.bytes.now (wanted_by piece.now.layout.now) given.now }
-    requires query { IsRowQuery piece.now given.now query }
-    ensures { OnOk result (text.new.items ≡ text.old.items ++ field_start
-        piece.now.layout.now.start (bytes_at piece.now.bytes.now given.now.own)
-        (zone_in piece.now.layout.now.zone (record_at piece.now.bytes.now given.now).fields)
-        (input_text piece.now.layout.now.from piece.now.layout.now.unit query.counts.input)) }
-{
-    match piece.layout.start {
-        RowStart::Record => text.extend_from_slice(given.own.of(piece.bytes)),
-        RowStart::Fields => {
-            text.extend_from_slice(piece.zones.name(query.file))?;
-            push_input(text, piece, given, query)
-        }
-    }
-}
-
-/// Appends what follows in a row, with commas: the local time of an instant, or the instant of a local
-/// time, and the state, in the layout's style.
-#[inline(always)]
-pub(crate) fn push_rest(
-    text: &mut Vec<u8>,
-    layout: &Layout,
-    count: i128,
-    writer: &mut RowWriter,
-) -> Result<(), AllocError>
-    requires { IsRowInstant (second_of layout.now.unit count) }
-    ensures writer { writer.new ≡ writer.old }
-    ensures text { OnOk result (text.new.items ≡ text.old.items ++ rest_by layout.now.style
-        layout.now.from layout.now.unit count writer.old) }
-{
-    if let TimeFrom::Local(_) = layout.from {
-        text.push(b',')?;
-        text.extend_from_slice(Buffer::new().format(count).as_bytes())?;
-        return match layout.style {
-            Style::Fields => writer.push_state(text),
-            Style::Iso => writer.push_counted_rest(text, count, layout.unit, Style::Iso),
-        };
-    }
-    writer.push_counted_rest(text, count, layout.unit, layout.style)
-}
-
-/// Appends the text of the row of a record, with the delimiter put back. Where memory runs out, a part
-/// of the row may be there.
-#[inline(always)]
-fn push_row(
-    text: &mut Vec<u8>,
-    piece: &Piece<'_, '_>,
-    given: &Record,
-    query: RowQuery,
-    writer: &mut RowWriter,
-) -> Result<(), AllocError>
-    requires split { IsSplit piece.now.bytes.now (wanted_by piece.now.layout.now) given.now }
-    requires query { IsRowQuery piece.now given.now query }
-    requires answers { AnswersAt piece.now.zones.now query.file
-        (second_of piece.now.layout.now.unit query.counts.count) writer.old }
-    ensures writer { writer.new ≡ writer.old }
-    ensures text { OnOk result ((row : List ℕ) × (text.new.items ≡ text.old.items ++ row)
-        × IsTextBy piece.now.layout.now piece.now.zones.now (exchanged_record
-        piece.now.layout.now.delimiter (record_at piece.now.bytes.now given.now)) row) }
-{
-    // The name of a file has no byte that can stand between fields.
-    piece.zones.are_sound();
-    let start = text.len();
-    push_start(text, piece, given, query)?;
-    push_rest(text, piece.layout, query.counts.count, writer)?;
-    put_back(text, start, piece.layout.delimiter.byte());
-    Ok(())
-}
-
 impl Rows {
     /// Returns an empty list of rows, which reuses a text.
     pub fn new(alloc: Global, mut text: RowText) -> Rows
@@ -330,7 +213,7 @@ impl Rows {
         &mut self,
         piece: &Piece<'_, '_>,
         given: &Record,
-        row: &QuickRow<'_>,
+        row: &ShownRow<'_>,
     ) -> Result<(), AllocError>
         requires split { IsSplit piece.now.bytes.now (wanted_by piece.now.layout.now) given.now }
         requires row { IsQuickRow piece.now given.now row.now }
@@ -346,7 +229,7 @@ impl Rows {
         // No name of a file and no instant has a byte that can stand between fields.
         piece.zones.are_sound();
         prove!(piece.layout.delimiter.byte() <= u8::MAX);
-        push_quick(&mut self.text, piece, given, row)?;
+        push_row(&mut self.text, piece, given, Input::Field, row)?;
         self.count += 1;
         Ok(())
     }
@@ -375,15 +258,14 @@ impl Rows {
             × IsTextBy piece.now.layout.now piece.now.zones.now (exchanged_record
             piece.now.layout.now.delimiter (record_at piece.now.bytes.now given.now)) row) }
     {
-        let shown = (piece.layout.from, piece.layout.style, state);
-        if let (TimeFrom::Local(_), Style::Fields, FoundState::Text(text)) = shown {
-            push_local(&mut self.text, piece, given, query, text)?;
-        } else {
-            pen.show(piece, query.file, state);
-            pen.row.clear();
-            push_row(&mut pen.row, piece, given, query, &mut pen.writer)?;
-            self.text.push(&pen.row)?;
-        }
+        pen.show(piece, query.file, state);
+        let row = ShownRow {
+            file: query.file,
+            time: RowTime::of_count(query.counts.count, piece.layout.unit),
+            text: pen.text(state),
+        };
+        let input = Input::Count(query.counts.input);
+        push_row(&mut self.text, piece, given, input, &row)?;
         self.count += 1;
         Ok(())
     }

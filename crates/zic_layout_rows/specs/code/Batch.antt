@@ -5,7 +5,7 @@ use Rattle.zic_base.specs.Check.{first_failed}
 use Rattle.zic_base.specs.State.{Shown}
 use Rattle.zic_base.specs.declared.row_fault.RowKind.{RowKind}
 use Rattle.zic_columns.specs.Own.{CsvRecord}
-use Rattle.zic_columns.specs.Record.{IsSplit, bytes_at, record_at}
+use Rattle.zic_columns.specs.Record.{IsSplit, bytes_at, field_text, record_at}
 use Rattle.zic_columns.specs.declared.splits.TheConstants.{BATCH}
 use Rattle.zic_columns.specs.declared.fields.Field.{Field}
 use Rattle.zic_columns.specs.declared.fields.Field.TheVariants.{Plain, Quoted}
@@ -22,14 +22,14 @@ use Rattle.zic_plan.specs.declared.layout.Unit.{Unit}
 use Rattle.zic_plan.specs.declared.layout.Unit.TheVariants as unit
 use Rattle.zic_plan.specs.declared.layout.ZoneFrom.{ZoneFrom}
 use Rattle.zic_plan.specs.declared.layout.ZoneFrom.TheVariants as zone
-use Rattle.zic_rows.specs.Count.{second_of}
+use Rattle.zic_rows.specs.Count.{fraction_of, second_of}
 use Rattle.zic_rows.specs.Instant.{IsRowInstant}
 use Rattle.zic_rows.specs.Local.{IsLocalSecond}
 use Rattle.zic_rows.specs.PlainTime.{IsPlainTime}
 use Rattle.zic_rows.specs.declared.row_time.RowTime.{RowTime}
 use Rattle.zic_zones.specs.States.{HasState}
 use Rattle.zic_zones.specs.Zones.{AnswersAt, IsShownAt, number_of, zone_in}
-use Rattle.zic_layout_rows.specs.LayoutRows.{checks_of, count_in, file_at, time_by}
+use Rattle.zic_layout_rows.specs.LayoutRows.{checks_of, count_in, file_at, input_text, time_by}
 use Rattle.zic_layout_rows.specs.declared.piece.Piece.{Piece}
 use Rattle.zic_layout_rows.specs.declared.batch.Batch.{Batch}
 use Rattle.zic_layout_rows.specs.declared.batch.TheConstants.{NO_TIME}
@@ -38,10 +38,12 @@ use Rattle.zic_layout_rows.specs.declared.lookup.FoundState.{FoundState}
 use Rattle.zic_layout_rows.specs.declared.lookup.FoundState.TheVariants as found
 use Rattle.zic_layout_rows.specs.declared.lookup.Lookup.{Lookup}
 use Rattle.zic_layout_rows.specs.declared.quick.Known.{Known}
-use Rattle.zic_layout_rows.specs.declared.quick.QuickRow.{QuickRow}
+use Rattle.zic_layout_rows.specs.declared.quick.ShownRow.{ShownRow}
 use Rattle.zic_layout_rows.specs.declared.row.RowPen.{RowPen}
 use Rattle.zic_layout_rows.specs.declared.row.RowQuery.{RowQuery}
 use Rattle.zic_layout_rows.specs.declared.shown.ShownStates.{ShownStates}
+use Rattle.zic_layout_rows.specs.declared.start.Input.{Input}
+use Rattle.zic_layout_rows.specs.declared.start.Input.TheVariants as given_by
 
 -- the fields that rows need by a layout
 abbrev pub wanted_zone : ZoneFrom → Option ℕ
@@ -60,6 +62,12 @@ blank = record { own = nowhere; count = 0; zone = Plain nowhere; time = Plain no
 -- a time of no second
 abbrev pub blank_time : RowTime
 blank_time = record { second = pos 0; fraction = 0; unit = unit.Second }
+
+-- the time is that of a count
+pub record IsTimeOf (u : Unit) (count : ℤ) (time : RowTime) : Type 0 where
+  pub second : time.second ≡ second_of u count
+  pub fraction : time.fraction ≡ fraction_of u count
+  pub unit : time.unit ≡ u
 
 -- where the time says something
 abbrev pub IfTime : RowTime → (RowTime → Type 0) → Type 0
@@ -92,6 +100,20 @@ abbrev pub IsCountFor : TimeFrom → Unit → ℤ → Type 0
 IsCountFor from.Count u count = Prim.Unit {0}
 IsCountFor from.Rfc3339 u count = Prim.Unit {0}
 IsCountFor (from.Local choice) u count = IsLocalSecond (second_of u count)
+
+-- the field of a record's time has no double quotes, where a row has that as it is
+abbrev pub IsPlain : Field → Type 0
+IsPlain (Plain span) = Prim.Unit {0}
+IsPlain (Quoted span) = ⊥
+
+abbrev pub IsInput : Piece → Record → Input → Type 0
+IsInput piece given given_by.Field = IsPlain given.time
+IsInput piece given (given_by.Count count) = IsCountFor piece.layout.now.from piece.layout.now.unit count
+
+-- what a row has of it
+abbrev pub input_in : Piece → Record → Input → List ℕ
+input_in piece given given_by.Field = field_text piece.bytes.now given.time
+input_in piece given (given_by.Count count) = input_text piece.layout.now.from piece.layout.now.unit count
 
 -- the counts that the record's field has and that its instant is of
 pub record AreCountsOf (layout : Layout) (file : Option File) (input : Option ℤ) (counts : Counts) : Type 0 where
@@ -163,7 +185,7 @@ pub record IsKnown (piece : Piece) (given : Record) (states : List Shown) (known
   pub state : HasState states known.state (IsStateAt piece given known.zone known.time)
 
 -- the file of a record's zone, its time in plain decimals, and the state that the file shows then; the record has as many fields as it must have
-pub record IsQuickRow (piece : Piece) (given : Record) (row : QuickRow) : Type 0 where
+pub record IsQuickRow (piece : Piece) (given : Record) (row : ShownRow) : Type 0 where
   pub from : piece.layout.now.from ≡ from.Count
   pub admitted : has_count piece.layout.now.count given.count ≡ true
   pub file : zone_at piece given ≡ Some row.file
@@ -197,6 +219,21 @@ pub record IsSoundQuery (piece : Piece) (number : ℕ) (given : Record) (lookup 
   pub is : IsRowQuery piece given query
   pub state : IsFoundAt piece.zones.now query.file (second_of piece.layout.now.unit query.counts.count) lookup.state
 
--- A pen shows the state of its number of its file, wherever the file shows that state.
+-- What a row shows is the file of its record's zone, the time of the instant, which a row may have, and the state that the file shows then. It
+-- begins with the text of the count that the record's field has.
+pub record IsShownRow (piece : Piece) (given : Record) (input : Input) (row : ShownRow) : Type 0 where
+  pub counts : Counts
+  pub query : IsRowQuery piece given (record { file = row.file; counts = counts })
+  pub time : IsTimeOf piece.layout.now.unit counts.count row.time
+  pub begins : IsInput piece given input
+  pub says : input_in piece given input ≡ input_text piece.layout.now.from piece.layout.now.unit counts.input
+  pub answers : AnswersAt piece.zones.now row.file row.time.second row.text.now
+
+-- the state that was found, by the one whose text was made
+abbrev pub state_found : Shown → FoundState → Shown
+state_found made (found.Number number) = made
+state_found made (found.Text text) = text.now
+
+-- The text that a pen made is that of the state of its number of its file, wherever the file shows that state.
 abbrev pub IsPen : List File → RowPen → Type 0
-IsPen files pen = IfSome pen.file (λ n. (second : ℤ) → IsShownAt files n second pen.state → AnswersAt files n second pen.writer)
+IsPen files pen = IfSome pen.file (λ n. (second : ℤ) → IsShownAt files n second pen.state → AnswersAt files n second pen.made)

@@ -1,6 +1,6 @@
 use Rattle.std.proofs.lemmas.Bool.{eqb-true}
 use Rattle.zic_layout_rows.proofs.QuickRows.{own_begins}
-use Rattle.zic_layout_rows.proofs.quick.begins_row.Goals as goal
+use Rattle.zic_layout_rows.proofs.start.begins_row.Goals as goal
 
 pub returns-then-time-own : goal.returns-then-time-own
 returns-then-time-own c = λ comma.

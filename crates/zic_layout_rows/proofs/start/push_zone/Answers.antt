@@ -4,7 +4,7 @@ use Rattle.zic_zones.specs.Zones.{zone_in}
 use Rattle.zic_layout_rows.proofs.Columns.{number_within}
 use Rattle.zic_layout_rows.proofs.QuickRows.{comma_pushed}
 use Rattle.zic_layout_rows.proofs.RowFaults.{name_is}
-use Rattle.zic_layout_rows.proofs.quick.push_zone.Goals as goal
+use Rattle.zic_layout_rows.proofs.start.push_zone.Goals as goal
 
 pub name-requires : goal.name-requires
 name-requires c =

@@ -25,18 +25,18 @@ returns-clause-next c =
     let given = c.args.given.now in
     let before = c.args.self.now in
     let then = c.add_row.new.self in
-    let answer = c.write_answer.new.answer.items in
-    let other = c.write_old.new.answer.items in
+    let answer = c.write_answer.new.answer in
+    let other = c.write_old.new.answer in
     let goes_on = ap (λ (m : Moved). m.rows.fault) (sym c.self-2.view_is) ∙ not_some c.self-2.inside.0.1.0.fault (λ has. absurd (cc (sym has ∙ sym c.if-is_some.ensures))) in
     let at = ap (λ (m : Moved). m.rows.count) c.self.view_is in
     let answers = subst (λ (k : ℕ). IsAnswer piece.layout.now piece.zones.now piece.most (piece.first + k) (record_of piece given) answer) at c.in_ok-write_answer.ensures.answer in
     let others = subst (λ (k : ℕ). IsAnswer piece.layout.now (old_files old) piece.most (piece.first + k) (record_of piece given) other) at c.in_ok-write_old.ensures.answer in
-    let no : bytes_eq answer other ≡ false = sym (rw (c.deref.ensures.value, c.deref-2.ensures.value) at c.if-are_same.ensures) in
+    let no : bytes_eq answer other ≡ false = sym (rw (c.bytes.ensures, c.bytes-2.ensures) at c.if-are_same.ensures) in
     let differ : (answer ≡ other → ⊥) = λ e. (let yes = (bytes_decides answer other).1 e in cc (sym yes ∙ no)) in
-    let shown : c.bytes.result.now ≡ then.rows.text = c.bytes.ensures ∙ ap (λ (m : Moved). m.rows.text) c.self-2.view_is in
+    let shown : c.bytes-row.result.now ≡ then.rows.text = c.bytes-row.ensures ∙ ap (λ (m : Moved). m.rows.text) c.self-2.view_is in
     let text : c.push_with.new.text ≡ then.text ++ with_answer then.rows.text other =
-    c.in_ok-push_with.ensures ∙ ap₂ (λ (a r : List ℕ). a ++ with_answer r c.deref-3.result.now) (ap (λ (m : Moved). m.text) c.self-2.view_is) shown
-    ∙ ap (λ (l : List ℕ). then.text ++ with_answer then.rows.text l) c.deref-3.ensures.value in
+    c.in_ok-push_with.ensures ∙ ap₂ (λ (a r : List ℕ). a ++ with_answer r c.bytes-answer.result.now) (ap (λ (m : Moved). m.text) c.self-2.view_is) shown
+    ∙ ap (λ (l : List ℕ). then.text ++ with_answer then.rows.text l) c.bytes-answer.ensures in
     subst (λ (rows : RowsOf). AreNextBy piece.layout.now (by_both piece old) piece.most (piece.first + before.rows.count) (record_of piece given) (made_of before) (record rows { text = c.push_with.new.text }))
     (ap (λ (m : Moved). m.rows) (sym c.self-2.view_is))
     (moved_more piece old given before then c.requires.goes_on c.in_ok-add_row.ensures goes_on c.requires.written answer other answers others (with_answer then.rows.text other) c.push_with.new.text
@@ -49,13 +49,13 @@ returns-then-are_same-clause-next c =
     let given = c.args.given.now in
     let before = c.args.self.now in
     let then = c.add_row.new.self in
-    let answer = c.write_answer.new.answer.items in
-    let other = c.write_old.new.answer.items in
+    let answer = c.write_answer.new.answer in
+    let other = c.write_old.new.answer in
     let goes_on = ap (λ (m : Moved). m.rows.fault) (sym c.self-2.view_is) ∙ not_some c.self-2.inside.0.1.0.fault (λ has. absurd (cc (sym has ∙ sym c.if-is_some.ensures))) in
     let at = ap (λ (m : Moved). m.rows.count) c.self.view_is in
     let answers = subst (λ (k : ℕ). IsAnswer piece.layout.now piece.zones.now piece.most (piece.first + k) (record_of piece given) answer) at c.in_ok-write_answer.ensures.answer in
     let others = subst (λ (k : ℕ). IsAnswer piece.layout.now (old_files old) piece.most (piece.first + k) (record_of piece given) other) at c.in_ok-write_old.ensures.answer in
-    let yes : bytes_eq answer other ≡ true = sym (rw (c.deref.ensures.value, c.deref-2.ensures.value) at c.if-are_same.ensures) in
+    let yes : bytes_eq answer other ≡ true = sym (rw (c.bytes.ensures, c.bytes-2.ensures) at c.if-are_same.ensures) in
     let same = (bytes_decides answer other).0 yes in
     let stays = ap (λ (m : Moved). m.text) c.self-2.view_is ∙ sym (append-nil then.text) in
     subst (λ (rows : RowsOf). AreNextBy piece.layout.now (by_both piece old) piece.most (piece.first + before.rows.count) (record_of piece given) (made_of before) (record rows { text = c.self-2.inside.0.0 }))

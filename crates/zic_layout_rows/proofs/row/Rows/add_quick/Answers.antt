@@ -4,8 +4,15 @@ use Rattle.zic_columns.specs.Record.{record_at}
 use Rattle.zic_layout_rows.specs.PieceRows.{RowsOf}
 use Rattle.zic_layout_rows.proofs.NextRows.{next_row}
 use Rattle.zic_layout_rows.proofs.PutBack.{fault_same, outside}
-use Rattle.zic_layout_rows.proofs.QuickRows.{faultless, time_read}
+use Rattle.zic_layout_rows.proofs.QuickRows.{faultless, quick_shown, time_read}
 use Rattle.zic_layout_rows.proofs.row.Rows.add_quick.Goals as goal
+
+pub push_row-requires-clause-row : goal.push_row-requires-clause-row
+push_row-requires-clause-row c =
+    let piece = c.args.piece.now in
+    let given = c.args.given.now in
+    let row = c.args.row.now in
+    quick_shown piece given row c.requires.split c.requires.row (time_read piece given row c.requires.split c.requires.row) c.byte.ensures.sound
 
 pub returns : goal.returns
 returns c =
@@ -21,6 +28,6 @@ returns c =
     let same = fault_same d (outside d c.byte.ensures.sound) piece.zones.now c.are_sound.ensures layout piece.most number row_record refl in
     let none = faultless piece given row c.requires.split c.requires.row (time_read piece given row c.requires.split c.requires.row) number
     (omega (arith, c.requires.may, ap (λ (r : RowsOf). r.count) c.self.view_is)) c.requires.short c.requires.quotes c.byte.ensures.sound in
-    let (made, text, is) = c.in_ok-push_quick.ensures in
+    let (made, text, is) = c.in_ok-push_row.ensures in
     rw (← c.self.view_is) (next_row layout piece.zones.now piece.most number (exchanged_record d row_record) old _ made (same ∙ none) is
     (ap (λ (l : List ℕ). record { text = l; count = q.count + 1; fault = q.fault; faults = q.faults.items }) text))

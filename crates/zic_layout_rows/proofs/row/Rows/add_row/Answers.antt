@@ -1,9 +1,11 @@
-use Rattle.std.proofs.Common.{◌≡◌, ◌+◌, ◌∙◌, ◌++◌, ℕ, List, ap}
+use Rattle.std.proofs.Common.{◌+◌, FitsSigned, ℕ, ℤ, List, ap, refl, rules, subst, sym, to_z-of_z}
+use Rattle.std.specs.Int.{w128}
+use Rattle.zic_base.specs.State.{Shown}
 use Rattle.zic_columns.specs.Record.{record_at}
-use Rattle.zic_zones.specs.Zones.{zone_in}
+use Rattle.zic_rows.specs.Count.{second_of}
+use Rattle.zic_zones.specs.Zones.{AnswersAt, zone_in}
 use Rattle.zic_layout_rows.specs.PieceRows.{RowsOf}
 use Rattle.zic_layout_rows.proofs.Columns.{number_within}
-use Rattle.zic_layout_rows.proofs.row.Rows.add_row.Goals.{in-Local-Fields-Text+in_ok-push_local, in_default+in_ok-push_row+in_ok-push}
 use Rattle.zic_layout_rows.proofs.row.Rows.add_row.Goals as goal
 
 pub show-requires-clause-within : goal.show-requires-clause-within
@@ -11,17 +13,27 @@ show-requires-clause-within c =
     let piece = c.args.piece.now in
     rw c.requires.query.file at (number_within piece.zones.now (zone_in piece.layout.now.zone (record_at piece.bytes.now c.args.given.now).fields))
 
+pub push_row-requires-clause-row : goal.push_row-requires-clause-row
+push_row-requires-clause-row c =
+    let piece = c.args.piece.now in
+    let query = c.args.query in
+    let count : FitsSigned w128 query.counts.count = search rules in
+    let input : FitsSigned w128 query.counts.input = search rules in
+    let second = rw (to_z-of_z count) at c.of_count.ensures.second in
+    let shows = subst (λ (s : Shown). AnswersAt piece.zones.now query.file (second_of piece.layout.now.unit query.counts.count) s) (sym c.text.ensures)
+    (c.show.ensures.shows (second_of piece.layout.now.unit query.counts.count) c.requires.state) in
+    rw (to_z-of_z input) (record {
+      counts = query.counts;
+      query = c.requires.query;
+      time = record { second = second; fraction = rw (to_z-of_z count) at c.of_count.ensures.fraction; unit = c.of_count.ensures.unit };
+      begins = c.requires.query.counts.sound;
+      says = refl;
+      answers = subst (λ (t : ℤ). AnswersAt piece.zones.now query.file t c.text.result.now) (sym second) shows;
+    })
+
 pub returns-clause-row : goal.returns-clause-row
 returns-clause-row c =
     let q = c.self.inside in
     let with : List ℕ → RowsOf = λ text. record { text = text; count = q.count + 1; fault = q.fault; faults = q.faults.items } in
-    rw (← c.self.view_is) (elim c.match-shown.branch [
-      | in-Local-Fields-Text+in_ok-push_local w ↦
-          let (row, text, is) = w.in_ok-push_local.ensures in
-          rw w.self-inside-is (row, ap with text, is)
-      | in_default+in_ok-push_row+in_ok-push w ↦
-          let (row, text, is) = w.in_ok-push_row.ensures.text in
-          let made : w.push.new.self ≡ q.text ++ row =
-          w.in_ok-push.ensures ∙ ap (λ (l : List ℕ). q.text ++ l) (w.deref.ensures.value ∙ text ∙ ap (λ (l : List ℕ). l ++ row) w.clear.ensures.items) in
-          rw w.self-inside-is (row, ap with made, is)
-    ])
+    let (row, text, is) = c.in_ok-push_row.ensures in
+    rw (← c.self.view_is) (row, ap with text, is)

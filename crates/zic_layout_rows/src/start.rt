@@ -1,0 +1,147 @@
+//! What rows begin with.
+
+ghost use Rattle.std.specs.Prelude.{◌≡◌, ◌++◌, ◌∷◌, [], IfOk, IsTrue, OnOk, Some, length};
+ghost use Rattle.std.specs.Fmt.{signed_decimal};
+ghost use Rattle.zic_columns.specs.Record.{IsSplit, IsWithin, bytes_at, field_text, record_at};
+ghost use Rattle.zic_zones.specs.Zones.{zone_in};
+ghost use Rattle.zic_layout_rows.specs.LayoutRows.{input_text};
+ghost use Rattle.zic_layout_rows.specs.code.Batch.{IsCountFor, IsInput, IsPlain, input_in, wanted_by, zone_at};
+ghost use Rattle.zic_layout_rows.specs.code.Row.{field_start};
+
+use crate::piece::Piece;
+use itoa::Buffer;
+use std::alloc::AllocError;
+use zic_columns::{Field, Record, Span};
+use zic_plan::{Layout, RowStart, TimeFrom, ZoneFrom};
+use zic_rows::RowText;
+
+/// No bytes of a piece.
+pub(crate) const NOWHERE: Span = Span { start: 0, end: 0 };
+
+/// What a row has of the time of its record: the field as it is, or the text of its count.
+#[derive(Clone, Copy, Drop)]
+pub(crate) enum Input {
+    Field,
+    Count(i128),
+}
+
+/// Returns whether the own bytes of a record are the name of its zone, a comma, and its time.
+#[inline(always)]
+fn begins_row(piece: &Piece<'_, '_>, given: &Record, time: Span) -> bool
+    requires split { IsSplit piece.now.bytes.now (wanted_by piece.now.layout.now) given.now }
+    requires time { IsWithin piece.now.bytes.now time }
+    ensures { IsTrue result → bytes_at piece.now.bytes.now given.now.own
+        ≡ zone_in piece.now.layout.now.zone (record_at piece.now.bytes.now given.now).fields
+        ++ 44 ∷ bytes_at piece.now.bytes.now time }
+{
+    let (ZoneFrom::Field(_), Field::Plain(zone)) = (&piece.layout.zone, given.zone) else {
+        return false;
+    };
+    let own = given.own;
+    if zone.start == own.start && zone.end + 1 == time.start && time.end == own.end {
+        return piece.bytes[zone.end] == b',';
+    }
+    false
+}
+
+/// Appends the name of a record's zone, whose file has this number, and a comma: by the bytes of its
+/// field, where they stand in the piece.
+#[inline(always)]
+fn push_zone(
+    text: &mut RowText,
+    piece: &Piece<'_, '_>,
+    given: &Record,
+    file: usize,
+) -> Result<(), AllocError>
+    requires split { IsSplit piece.now.bytes.now (wanted_by piece.now.layout.now) given.now }
+    requires file { zone_at piece.now given.now ≡ Some file }
+    ensures { OnOk result (text.new ≡ text.old ++ (zone_in piece.now.layout.now.zone
+        (record_at piece.now.bytes.now given.now).fields ++ 44 ∷ [])) }
+{
+    if let (ZoneFrom::Field(_), Field::Plain(zone)) = (&piece.layout.zone, given.zone) {
+        return text.push_field(piece.bytes, zone.start, zone.end);
+    }
+    text.push(piece.zones.name(file))?;
+    text.push(b",")?;
+    Ok(())
+}
+
+/// Appends the name of a record's zone, a comma and the field of its time, but for the last part, which
+/// is to be copied from the piece. Returns where that part stands.
+#[inline(always)]
+fn push_given(
+    text: &mut RowText,
+    piece: &Piece<'_, '_>,
+    given: &Record,
+    file: usize,
+) -> Result<Span, AllocError>
+    requires split { IsSplit piece.now.bytes.now (wanted_by piece.now.layout.now) given.now }
+    requires file { zone_at piece.now given.now ≡ Some file }
+    requires plain { IsPlain given.now.time }
+    ensures within_bytes { IfOk result (IsWithin piece.now.bytes.now) }
+    ensures text { IfOk result (λ span. text.new ++ bytes_at piece.now.bytes.now span ≡ text.old
+        ++ (zone_in piece.now.layout.now.zone (record_at piece.now.bytes.now given.now).fields
+        ++ 44 ∷ field_text piece.now.bytes.now given.now.time)) }
+{
+    let Field::Plain(time) = given.time else {
+        unreachable!()
+    };
+    if begins_row(piece, given, time) {
+        return Ok(given.own);
+    }
+    push_zone(text, piece, given, file)?;
+    Ok(time)
+}
+
+/// Appends a comma and the decimals of a count.
+pub(crate) fn push_decimals(text: &mut RowText, count: i128) -> Result<(), AllocError>
+    ensures { OnOk result (text.new ≡ text.old ++ 44 ∷ signed_decimal count) }
+{
+    text.push(b",")?;
+    text.push(Buffer::new().format(count).as_bytes())
+}
+
+/// Appends a comma and the text of the count that a record's field has: a local time, or decimals.
+fn push_input(text: &mut RowText, layout: &Layout, count: i128) -> Result<(), AllocError>
+    requires { IsCountFor layout.now.from layout.now.unit count }
+    ensures { OnOk result
+        (text.new ≡ text.old ++ 44 ∷ input_text layout.now.from layout.now.unit count) }
+{
+    if let TimeFrom::Local(_) = layout.from {
+        return text.push_local_time(count, layout.unit);
+    }
+    push_decimals(text, count)
+}
+
+/// Appends what the row of a record begins with, with commas, but for the last part, where that is to
+/// be copied from the piece. Returns where that part stands.
+#[inline(always)]
+pub(crate) fn push_start(
+    text: &mut RowText,
+    piece: &Piece<'_, '_>,
+    given: &Record,
+    file: usize,
+    input: Input,
+) -> Result<Span, AllocError>
+    requires split { IsSplit piece.now.bytes.now (wanted_by piece.now.layout.now) given.now }
+    requires file { zone_at piece.now given.now ≡ Some file }
+    requires input { IsInput piece.now given.now input }
+    ensures within_bytes { IfOk result (IsWithin piece.now.bytes.now) }
+    ensures text { IfOk result (λ span. text.new ++ bytes_at piece.now.bytes.now span
+        ≡ text.old ++ field_start piece.now.layout.now.start
+        (bytes_at piece.now.bytes.now given.now.own)
+        (zone_in piece.now.layout.now.zone (record_at piece.now.bytes.now given.now).fields)
+        (input_in piece.now given.now input)) }
+{
+    if let RowStart::Record = piece.layout.start {
+        return Ok(given.own);
+    }
+    match input {
+        Input::Field => push_given(text, piece, given, file),
+        Input::Count(count) => {
+            text.push(piece.zones.name(file))?;
+            push_input(text, piece.layout, count)?;
+            Ok(NOWHERE)
+        }
+    }
+}
