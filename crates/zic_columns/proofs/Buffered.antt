@@ -26,7 +26,7 @@ pub grows_same : {R : Type 0} (wanted : ℕ) (longest : Option ℕ) (old mid new
 grows_same wanted None old mid new grew same = tt
 grows_same wanted (Some most) old mid new grew same = omega (arith, grew, same)
 
--- a read may be made while a record may have the bytes in hand
+-- a read may be made while a record may have the buffered bytes
 pub grows_on : {R : Type 0} (wanted : ℕ) (longest : Option ℕ) (old mid new : ColumnOf R) → GrowsFor wanted longest old mid → may_have longest (length mid.held) ≡ true
     → new.buffer ≤ max mid.buffer (buffer_for wanted (length mid.held)) → GrowsFor wanted longest old new
 grows_on wanted None old mid new grew few read = tt

@@ -6,7 +6,7 @@ use Rattle.zic_columns.specs.Column.{AreWholeRecords, lines_of}
 use Rattle.zic_columns.specs.Laws.{TextsByAreOfRecords}
 use Rattle.zic_columns.specs.Lines.{line_record, records_by}
 use Rattle.zic_columns.specs.Own.{CsvRecord, csv_records}
-use Rattle.zic_columns.specs.code.Hand.{ClosedBy}
+use Rattle.zic_columns.specs.code.Buffered.{ClosedBy}
 use Rattle.zic_columns.proofs.ClosedLines.{closed_alike, closed_front, closed_joined}
 use Rattle.zic_columns.proofs.PieceRecords.{wholes_joined, wholes_owns}
 

@@ -17,7 +17,7 @@ pub mod ClosedLines
 pub mod LineScans
 pub mod ByMode
 pub mod ScannedBy
-pub mod Begun
+pub mod PartRecord
 pub mod LinesExchanged
 pub mod StrayLaws
 pub mod RfcRecords

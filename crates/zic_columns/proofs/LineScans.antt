@@ -8,7 +8,7 @@ use Rattle.memchr.specs.Find.{IsFirstByte}
 use Rattle.zic_columns.specs.Column.{HasNoLineEnd, ends_line}
 use Rattle.zic_columns.specs.Lines.{line_records, open_record}
 use Rattle.zic_columns.specs.Quotes.{is_open}
-use Rattle.zic_columns.specs.code.Hand.{BeginWithLines}
+use Rattle.zic_columns.specs.code.Buffered.{BeginWithLines}
 use Rattle.zic_columns.specs.code.LineScan.{AreClosedLines, IsFirstLine, IsLineScan, IsOpenLine}
 use Rattle.zic_columns.specs.declared.line_scan.FirstLine.TheVariants as first
 use Rattle.zic_columns.specs.declared.line_scan.LineScan.{LineScan}

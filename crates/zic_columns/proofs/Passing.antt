@@ -8,8 +8,8 @@ use Rattle.zic_columns.specs.Lines.{records_by, texts_by}
 use Rattle.zic_columns.specs.Own.{CsvRecord, csv_records, first_own, first_text, own_texts}
 use Rattle.zic_columns.specs.Round.{BeginsTooLong, IsNextTooLong, PassesFirst, Takes, may_have}
 use Rattle.zic_columns.specs.code.Cut.{AreCutAfter}
-use Rattle.zic_columns.specs.code.Hand.{AreSomeRecords, CanBeCut, ClosedBy}
-use Rattle.zic_columns.proofs.Begun.{no_bytes}
+use Rattle.zic_columns.specs.code.Buffered.{AreSomeRecords, CanBeCut, ClosedBy}
+use Rattle.zic_columns.proofs.PartRecord.{no_bytes}
 use Rattle.zic_columns.proofs.ByMode.{alike_by, front_by, joined_by, owns_by}
 use Rattle.zic_columns.proofs.OwnFacts.{own_counted}
 use Rattle.zic_columns.proofs.PieceRecords.{wholes_counted, wholes_owns}
@@ -93,7 +93,7 @@ module _ (mode : Records) (held : List ℕ) (count : ℕ) (first rest : List ℕ
   in_hand : held ≡ first ++ (rest ++ drop count held)
   in_hand = sym (take-append-drop count held) ∙ ap (λ (b : List ℕ). b ++ drop count held) cut.parts ∙ append_assoc first rest (drop count held)
 
-  -- what is left in hand
+  -- what is left of the buffered bytes
   left_in_hand : drop (length first) held ≡ rest ++ drop count held
   left_in_hand = ap (drop (length first)) in_hand ∙ drop_at first (rest ++ drop count held) (length first) refl
 
@@ -113,14 +113,14 @@ module _ (mode : Records) (held : List ℕ) (count : ℕ) (first rest : List ℕ
     abbrev after : List ℕ
     after = drop (length first) held ++ more
 
-    -- the bytes in hand, and those to come
+    -- the buffered bytes, and those to come
     in_two : held ++ more ≡ first ++ after
     in_two = ap (λ (b : List ℕ). b ++ more) (in_hand ∙ ap (λ (b : List ℕ). first ++ b) (sym left_in_hand)) ∙ append_assoc first (drop (length first) held) more
 
     two_parts : ClosedBy mode (take count held) → (after ≡ []) ⊎ AreWholeRecords first → records_by mode (held ++ more) ≡ csv_records first ++ records_by mode after
     two_parts closed whole = ap (records_by mode) in_two ∙ joined_by mode first after whole (first_closed closed)
 
-    -- whatever follows the bytes in hand
+    -- whatever follows the buffered bytes
     some_in_two : ClosedBy mode (take count held) → AreSomeRecords (take count held) → AreInTwo mode (held ++ more) first after
     some_in_two closed some =
         let whole : AreWholeRecords first = ⊎_elim
@@ -155,7 +155,7 @@ module _ (mode : Records) (held : List ℕ) (count : ℕ) (first rest : List ℕ
     are_in_two : CanBeCut mode held (Some more) count → AreInTwo mode (held ++ more) first after
     are_in_two can = ⊎_elim (some_in_two can.closed) (end_in_two can.closed) can.some
 
-  -- the first record in hand is passed over
+  -- the first buffered record is passed over
   pub passes_first : (come : Option (List ℕ)) → CanBeCut mode held come count → PassesFirst mode (prepend_known held come) (prepend_known (drop (length first) held) come)
   passes_first None can = tt
   passes_first (Some more) can = (after more, refl, left_after mode (held ++ more) first (after more) (are_in_two more can))

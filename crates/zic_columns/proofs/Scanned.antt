@@ -9,9 +9,9 @@ use Rattle.zic_columns.specs.Column.{AreWholeRecords, HasNoQuote, ends_line}
 use Rattle.zic_columns.specs.code.Line.{AreWholeLines}
 use Rattle.zic_columns.specs.code.Quote.{IsFirstQuote}
 use Rattle.zic_columns.specs.code.Cut.{AreCutAfterLines}
-use Rattle.zic_columns.specs.code.Hand.{BeginWithLines, IsScanned}
+use Rattle.zic_columns.specs.code.Buffered.{BeginWithLines, IsScanned}
 use Rattle.zic_columns.specs.code.Machine.{BeginsRecord, IsEndOfRecord, ReadsTo, state_at}
-use Rattle.zic_columns.specs.declared.hand.CsvScan.{CsvScan}
+use Rattle.zic_columns.specs.declared.csv_scan.CsvScan.{CsvScan}
 use Rattle.zic_columns.specs.declared.machine.Place.{Place}
 use Rattle.zic_columns.proofs.MachineFacts.{ends_both, one_whole, reads_both}
 use Rattle.zic_columns.proofs.SomeRecords.{whole_both, whole_lines, whole_none}

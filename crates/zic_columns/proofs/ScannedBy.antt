@@ -1,4 +1,4 @@
--- What was scanned of the bytes in hand, wherever records end.
+-- What was scanned of the buffered bytes, wherever records end.
 use Rattle.std.proofs.Common.{◌≡◌, ◌<◌, ◌≤◌, ℕ, true, false, List, [], ◌∷◌, ◌++◌, length, take, drop, Option, Some, None, inl, inr, refl, sym, ap, ap₂, ◌∙◌, subst, arith}
 use Rattle.std.specs.Prelude.{IfSome, MatchOption}
 use Rattle.std.specs.Io.KnownBytes.{IsAtEnd}
@@ -8,7 +8,7 @@ use Rattle.zic_plan.specs.declared.layout.Records.TheVariants as by
 use Rattle.zic_columns.specs.Column.{AreWholeRecords, HasNoLineEnd, column_records}
 use Rattle.zic_columns.specs.Lines.{line_records, open_record}
 use Rattle.zic_columns.specs.Quotes.{is_open}
-use Rattle.zic_columns.specs.code.Hand.{AreBegun, CanBeCut, ClosedBy, IsScannedBy, OpensWith, UnendedBy, mode_of, open_of_scan, whole_of_scan}
+use Rattle.zic_columns.specs.code.Buffered.{AreBegun, CanBeCut, ClosedBy, IsScannedBy, OpensWith, UnendedBy, mode_of, open_of_scan, whole_of_scan}
 use Rattle.zic_columns.specs.code.LineScan.{IsOpenLine}
 use Rattle.zic_columns.specs.code.Machine.{BeginsRecord, ReadsTo, state_at}
 use Rattle.zic_columns.specs.declared.line_scan.OpenLine.{OpenLine}
@@ -29,16 +29,16 @@ pub whole_closed : (bytes : List ℕ) (s : Scan) → IsScannedBy bytes s → Clo
 whole_closed bytes (scan.Csv found) is = tt
 whole_closed bytes (scan.Lines found) is = is.closed.closed
 
--- records are in hand
-pub cut_at_hand : (bytes : List ℕ) (s : Scan) (come : Option (List ℕ)) → IsScannedBy bytes s → 0 < length (column_records (take (whole_of_scan s) bytes))
+-- records are buffered
+pub cut_buffered : (bytes : List ℕ) (s : Scan) (come : Option (List ℕ)) → IsScannedBy bytes s → 0 < length (column_records (take (whole_of_scan s) bytes))
     → CanBeCut (mode_of s) bytes come (whole_of_scan s)
-cut_at_hand bytes s come is some = record {
+cut_buffered bytes s come is some = record {
   within = within_scan bytes s is;
   closed = whole_closed bytes s is;
   some = inl (whole_records bytes s is, some);
 }
 
--- an open line is in hand
+-- an open line is buffered
 line_opens : (bytes : List ℕ) (line : OpenLine) (come : Option (List ℕ)) → IsOpenLine bytes line → OpensWith by.Lines bytes come line
 line_opens bytes line None is = record { few = is.few; within = is.within; opens = tt }
 line_opens bytes line (Some more) is = record { few = is.few; within = is.within; opens = is.opens more }
@@ -50,7 +50,7 @@ opens_with bytes (scan.Lines found) line come is some =
     let opened : MatchOption (Some line) (HasNoLineEnd (drop found.whole bytes)) (IsOpenLine (drop found.whole bytes)) = rw some at is.then in
     line_opens (drop found.whole bytes) line come opened
 
--- neither is in hand
+-- neither is buffered
 are_begun : (bytes : List ℕ) (begun : Option Place) → MatchOption begun (bytes ≡ []) (λ place. BeginsRecord bytes × ReadsTo st.StartField bytes (state_at place)) → AreBegun bytes
 are_begun bytes None none = inl none
 are_begun bytes (Some place) is = inr (place, is.0, is.1)

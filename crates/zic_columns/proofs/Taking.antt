@@ -8,7 +8,7 @@ use Rattle.zic_columns.specs.Column.{AreWholeRecords, column_records}
 use Rattle.zic_columns.specs.Lines.{records_by}
 use Rattle.zic_columns.specs.Own.{CsvRecord, csv_records}
 use Rattle.zic_columns.specs.Round.{ColumnOf, HasNoRecord, StaysWithin, Takes, TakesOf, may_take, records_of_pieces}
-use Rattle.zic_columns.specs.code.Hand.{AreSomeRecords, CanBeCut, ClosedBy}
+use Rattle.zic_columns.specs.code.Buffered.{AreSomeRecords, CanBeCut, ClosedBy}
 use Rattle.zic_plan.specs.declared.layout.Records.{Records}
 use Rattle.zic_columns.proofs.ByMode.{alike_by, front_by, joined_by}
 use Rattle.zic_columns.specs.code.Cutting.{IsCut}
@@ -19,7 +19,7 @@ use Rattle.zic_columns.specs.declared.pieces.PieceRange.{PieceRange}
 use Rattle.zic_columns.proofs.Cuts.{pieces_cut}
 use Rattle.zic_columns.proofs.PieceRecords.{wholes_none}
 
--- where bytes of the reader come into hand, the same are left
+-- where bytes of the reader are buffered, the same are left
 pub keeps_read : (held now more : List ℕ) (come left : Option (List ℕ)) → now ≡ held ++ more → Consumes come left more
     → Keeps (prepend_known held come) (prepend_known now left)
 keeps_read held now more None left grown takes = tt
@@ -39,7 +39,7 @@ takes_next mode (Some bytes) mid new first none next =
     let later = rw none.1 at next in
     (later.0, later.1, none.2 ∙ later.2)
 
--- the first bytes in hand, and the others with those to come
+-- the first buffered bytes, and the others with those to come
 in_two : (held rest : List ℕ) (count : ℕ) → held ++ rest ≡ take count held ++ (drop count held ++ rest)
 in_two held rest count = ap (λ (b : List ℕ). b ++ rest) (sym (take-append-drop count held)) ∙ append_assoc (take count held) (drop count held) rest
 
@@ -94,7 +94,7 @@ module _ (mode : Records) (held : List ℕ) (count size : ℕ) (cut : Cut) (is :
       ap (records_by mode) (in_two held rest cut.len) ∙ joined_by mode front (drop cut.len held ++ rest) (cut_left rest can.some) (cut_closed can.closed)
       ∙ ap (λ (r : List CsvRecord). r ++ records_by mode (drop cut.len held ++ rest)) cut_records
 
-  -- pieces are cut of the first bytes in hand
+  -- pieces are cut of the first buffered bytes
   pub takes_cut : (come : Option (List ℕ)) → CanBeCut mode held come count
       → Takes mode (prepend_known held come) (prepend_known (drop cut.len held) come) (records_of_pieces (pieces_at (take cut.len held) cut.ranges.items))
   unfolding pieces_of
@@ -172,7 +172,7 @@ unmarked_end (a ∷ b ∷ c ∷ rest) = by_test (is_bom a b c)
 pub unmarked_shorter : (bytes : List ℕ) → length (strip_bom bytes) ≤ length bytes
 unmarked_shorter bytes = omega (arith, ap length (unmarked_end bytes), length-drop (length bytes - length (strip_bom bytes)) bytes)
 
--- the column without its mark, by the bytes in hand without theirs
+-- the column without its mark, by the buffered bytes without theirs
 pub mark_dropped : (column come : Option (List ℕ)) (held : List ℕ) → Keeps column (prepend_known held come)
     → ShowsMark held ⊎ IsAtEnd come
     → IfSome column (λ bytes. prepend_known (drop (length held - length (strip_bom held)) held) come ≡ Some (strip_bom bytes))

@@ -17,7 +17,7 @@ with_past None known = known
 with_past (Some byte) known = prepend_known (byte ∷ []) known
 
 -- A column, as far as it was taken: where its records end, the pieces of the round that was taken last,
--- the bytes in hand that no round had, the length of the buffer in which these stand, the byte beyond the
+-- the buffered bytes that no round had, the length of the buffer in which these stand, the byte beyond the
 -- limit, if there was one, the number of bytes that the reader may still give, and the reader.
 pub record ColumnOf (R : Type 0) : Type 0 where
   pub by : Records

@@ -5,7 +5,7 @@ pub mod Cut
 pub mod Cutting
 pub mod Ends
 pub mod Field
-pub mod Hand
+pub mod Buffered
 pub mod Line
 pub mod LineScan
 pub mod Machine

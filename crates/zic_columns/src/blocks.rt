@@ -6,7 +6,7 @@ ghost use Rattle.memchr.specs.Find.{IsFirst, Passes};
 ghost use Rattle.zic_columns.specs.Column.{HasNoQuote, ends_line};
 ghost use Rattle.zic_columns.specs.code.Block.{AreCounted, ArePassed, ends_field, is_after_line, mask_at, records_ended};
 
-use crate::hand::split_lines;
+use crate::csv_scan::split_lines;
 use crate::line::ends_line;
 use std::simd::prelude::*;
 

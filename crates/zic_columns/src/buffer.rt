@@ -1,4 +1,4 @@
-//! The bytes of a column in hand.
+//! The buffered bytes of a column.
 
 ghost use Rattle.std.specs.Prelude.{◌≡◌, ◌+◌, ◌*◌, ◌/◌, ◌^◌, ◌<◌, ◌≤◌, ℕ, List, [], ◌++◌, length, max, min, take, drop, vec_len, IfOk, OnOk, OnErr};
 ghost use Rattle.std.specs.Io.KnownBytes.{Consumes, IsAtEnd, Keeps};
@@ -101,9 +101,9 @@ impl Window {
         self.end = end - start;
     }
 
-    /// Makes room for a read: moves the bytes in hand to the front, and leaves the rest of the buffer
+    /// Makes room for a read: moves the buffered bytes to the front, and leaves the rest of the buffer
     /// as room. A buffer that the last read filled grows four times as long, but not above `wanted`
-    /// bytes. Beyond that it grows only if the bytes in hand fill it, by an eighth.
+    /// bytes. Beyond that it grows only if the buffered bytes fill it, by an eighth.
     ///
     /// The bytes that were taken may be overwritten.
     ///

@@ -10,7 +10,7 @@ ghost use Rattle.zic_columns.specs.declared.buffer.TheConstants.{FIRST_ROOM};
 ghost use Rattle.zic_columns.specs.declared.pieces.TheConstants.{MAX_ROUND_PIECES};
 ghost use Rattle.zic_columns.specs.code.Range.{AreWithin, pieces_at};
 ghost use Rattle.zic_columns.specs.code.Mark.{ShowsMark};
-ghost use Rattle.zic_columns.specs.code.Hand.{CanBeCut, IsAtHand, UnendedBy, to_come};
+ghost use Rattle.zic_columns.specs.code.Buffered.{CanBeCut, IsBuffered, UnendedBy, to_come};
 
 use crate::buffer::Window;
 use crate::first::{first_record, split_records};
@@ -103,9 +103,9 @@ pub enum Taken {
     End,
 }
 
-/// What is in hand first.
+/// What is buffered first.
 #[derive(Clone, Copy, Drop)]
-enum AtHand {
+enum Buffered {
     /// Records, in this number of bytes.
     Records(usize),
     /// An open line.
@@ -114,21 +114,21 @@ enum AtHand {
     TooLong,
 }
 
-/// A column that is read in rounds. Clauses see it as where its records end, the round that was taken last, the bytes in
-/// hand that no round had, the length of the buffer in which these stand, and the reader that gives the
+/// A column that is read in rounds. Clauses see it as where its records end, the round that was taken
+/// last, the buffered bytes that no round had, the length of their buffer, and the reader that gives the
 /// others, with the number of bytes that it may still give.
 ///
-/// A round is what one read gave, together with what was in hand: all whole records of these bytes.
+/// A round is what one read gave, together with what was buffered: all whole records of these bytes.
 /// Where they have no whole record, they are read on.
 #[derive(Drop)]
 pub struct Column<R: Read> {
     reader: Bounded<R>,
     window: Window,
-    /// The whole records among the bytes in hand.
+    /// The whole records among the buffered bytes.
     scan: Scan,
     /// The places of the round's pieces in the bytes that were taken last.
     ranges: Vec<PieceRange>,
-    /// The number of line feeds before the bytes in hand, where they are counted.
+    /// The number of line feeds before the buffered bytes, where they are counted.
     lines: Option<u64>,
 }
 
@@ -140,7 +140,7 @@ impl<R: Read> Model for Column<R> {
 
     ghost use Rattle.zic_columns.specs.code.Window.{held_bytes, taken_bytes};
     ghost use Rattle.zic_columns.specs.code.Range.{AreWithin, pieces_at};
-    ghost use Rattle.zic_columns.specs.code.Hand.{IsScannedBy, mode_of};
+    ghost use Rattle.zic_columns.specs.code.Buffered.{IsScannedBy, mode_of};
 
     ghost view = { λ column. record {
       by = mode_of column.scan;
@@ -159,7 +159,7 @@ impl<R: Read> Model for Column<R> {
 
 impl<R: Read + Drop> Column<R> {
     /// Begins the column of a reader, of at most `most` bytes, whose records end as `records` says.
-    /// Reads once, and again only while the bytes in hand are a proper beginning of a byte order mark.
+    /// Reads once, and again only while the buffered bytes are a proper beginning of a byte order mark.
     /// Its line feeds are counted where details are noted.
     ///
     /// At most `most` bytes are taken of the reader, now and later, and one beyond, which shows that
@@ -204,10 +204,10 @@ impl<R: Read + Drop> Column<R> {
 impl<R: Read> Column<R> {
     /// Takes the next round, in pieces of `size` records each, the last of which may have fewer, or an
     /// open line, with an empty round. At the end of the column takes nothing, nor where more than
-    /// `longest` bytes are in hand of a record that goes on, where there is such a number.
+    /// `longest` bytes are buffered of a record that goes on, where there is such a number.
     ///
-    /// A round has all whole records in hand up to the first open line, also those that are longer.
-    /// Reads only while neither a whole record nor an open line is in hand, and no more than `longest`
+    /// A round has all buffered whole records up to the first open line, also those that are longer.
+    /// Reads only while neither a whole record nor an open line is buffered, and no more than `longest`
     /// bytes. A read asks for up to `wanted` bytes: at first for 64 KiB, and for more where reads give
     /// all that was requested, or a record is longer.
     ///
@@ -241,8 +241,8 @@ impl<R: Read> Column<R> {
         ensures buffer { GrowsFor wanted longest self.old self.new }
     {
         match self.gather(alloc, wanted, longest)? {
-            AtHand::Records(count) => self.take_round(alloc, count, size),
-            AtHand::Line(line) => {
+            Buffered::Records(count) => self.take_round(alloc, count, size),
+            Buffered::Line(line) => {
                 let held = self.window.held();
                 let own = Vec::from_slice(alloc, &held[..line.own])?;
                 let taken = TakenLine {
@@ -253,7 +253,7 @@ impl<R: Read> Column<R> {
                 self.pass(line.len, Vec::new(alloc));
                 Ok(Taken::OpenLine(taken))
             }
-            AtHand::TooLong => {
+            Buffered::TooLong => {
                 self.pass(0, Vec::new(alloc));
                 Ok(Taken::TooLong)
             }
@@ -305,7 +305,7 @@ impl<R: Read> Column<R> {
         }
     }
 
-    /// Reads until the bytes in hand show whether the column begins with a byte order mark.
+    /// Reads until the buffered bytes show whether the column begins with a byte order mark.
     fn read_mark(&mut self) -> Result<(), Unread>
         ensures by { self.new.by ≡ self.old.by }
         ensures keeps { IfOk result
@@ -326,10 +326,10 @@ impl<R: Read> Column<R> {
         Ok(())
     }
 
-    /// Takes a round of the first `count` bytes in hand, or nothing where they have no record.
+    /// Takes a round of the first `count` buffered bytes, or nothing where they have no record.
     fn take_round(&mut self, alloc: Global, count: usize, size: usize) -> Result<Taken, Unread>
         requires some { 0 < size }
-        requires hand { CanBeCut self.old.by self.old.held (to_come R.remaining self.old) count }
+        requires cut { CanBeCut self.old.by self.old.held (to_come R.remaining self.old) count }
         ensures by { self.new.by ≡ self.old.by }
         ensures takes { IfOk result (λ taken. Takes self.old.by (unread R.remaining self.old)
             (unread R.remaining self.new) (taken_records taken self.new.round)) }
@@ -353,7 +353,7 @@ impl<R: Read> Column<R> {
     }
 
     /// Passes over the first record that no round had, however many bytes it has, as
-    /// [`Column::pass_record`] does. `TooLong` where more than `longest` bytes are in hand of a record
+    /// [`Column::pass_record`] does. `TooLong` where more than `longest` bytes are buffered of a record
     /// that goes on.
     fn pass_next(
         &mut self,
@@ -373,17 +373,17 @@ impl<R: Read> Column<R> {
         ensures buffer { GrowsFor wanted longest self.old self.new }
     {
         match self.gather(alloc, wanted, longest)? {
-            AtHand::Records(count) => Ok(self.pass_first(alloc, count)?),
-            AtHand::Line(line) => {
+            Buffered::Records(count) => Ok(self.pass_first(alloc, count)?),
+            Buffered::Line(line) => {
                 let own = Vec::from_slice(alloc, &self.window.held()[..line.own])?;
                 self.pass(line.len, Vec::new(alloc));
                 Ok(own)
             }
-            AtHand::TooLong => Err(PassStop::TooLong),
+            Buffered::TooLong => Err(PassStop::TooLong),
         }
     }
 
-    /// Passes over the first record of the first `count` bytes in hand, if they have one. Returns the
+    /// Passes over the first record of the first `count` buffered bytes, if they have one. Returns the
     /// record's own bytes, or no bytes.
     fn pass_first(&mut self, alloc: Global, count: usize) -> Result<Vec<u8>, Unread>
         requires { CanBeCut self.old.by self.old.held (to_come R.remaining self.old) count }
@@ -403,42 +403,42 @@ impl<R: Read> Column<R> {
         Ok(own)
     }
 
-    /// Reads on until whole records or an open line are in hand, or more bytes than a record may have,
-    /// or the column ends. Returns what is in hand first.
+    /// Reads on until whole records or an open line are buffered, or more bytes than a record may have,
+    /// or the column ends. Returns what is buffered first.
     fn gather(
         &mut self,
         alloc: Global,
         wanted: usize,
         longest: Option<u64>,
-    ) -> Result<AtHand, Unread>
+    ) -> Result<Buffered, Unread>
         ensures by { self.new.by ≡ self.old.by }
         ensures takes { IfOk result (λ _. Takes self.old.by
             (unread R.remaining self.old) (unread R.remaining self.new) []) }
-        ensures hand { IfOk result
-            (IsAtHand longest self.new.by self.new.held (to_come R.remaining self.new)) }
+        ensures buffered { IfOk result
+            (IsBuffered longest self.new.by self.new.held (to_come R.remaining self.new)) }
         ensures limit { StaysWithin R.remaining self.old self.new }
         ensures buffer { GrowsFor wanted longest self.old self.new }
     {
         for _ in 0..u64::MAX {
-            if let Some(hand) = self.at_hand(alloc, longest) {
-                return Ok(hand);
+            if let Some(buffered) = self.buffered(alloc, longest) {
+                return Ok(buffered);
             }
             if self.read_on(wanted)? == 0 {
-                return Ok(self.last_at_hand(longest));
+                return Ok(self.last_buffered(longest));
             }
         }
         Err(Unread)
     }
 
-    /// Returns the whole records in hand, or the open line, or that there are more bytes than a record
-    /// may have, or `None` where there are no more: then drops the lines in hand, which are without a
+    /// Returns the buffered whole records, or the open line, or that there are more bytes than a record
+    /// may have, or `None` where there are no more: then drops the buffered lines, which are without a
     /// byte.
-    fn at_hand(&mut self, alloc: Global, longest: Option<u64>) -> Option<AtHand>
+    fn buffered(&mut self, alloc: Global, longest: Option<u64>) -> Option<Buffered>
         ensures by { self.new.by ≡ self.old.by }
         ensures takes { Takes self.old.by
             (unread R.remaining self.old) (unread R.remaining self.new) [] }
-        ensures hand { IfSome result
-            (IsAtHand longest self.new.by self.new.held (to_come R.remaining self.new)) }
+        ensures buffered { IfSome result
+            (IsBuffered longest self.new.by self.new.held (to_come R.remaining self.new)) }
         ensures none { result ≡ None → UnendedBy self.new.by self.new.held }
         ensures short { result ≡ None → may_have longest (length self.new.held) ≡ true }
         ensures limit { StaysWithin R.remaining self.old self.new }
@@ -446,31 +446,31 @@ impl<R: Read> Column<R> {
     {
         let whole = self.scan.whole();
         if first_record(&self.window.held()[..whole]).is_some() {
-            return Some(AtHand::Records(whole));
+            return Some(Buffered::Records(whole));
         }
         let opened = self.scan.opened();
         self.pass(whole, Vec::new(alloc));
         if let Some(line) = opened {
-            return Some(AtHand::Line(line));
+            return Some(Buffered::Line(line));
         }
         if may_have(longest, self.window.held().len()) {
             return None;
         }
-        Some(AtHand::TooLong)
+        Some(Buffered::TooLong)
     }
 
-    /// Returns what is in hand at the end of the column, where no line has its end.
-    fn last_at_hand(&self, longest: Option<u64>) -> AtHand
+    /// Returns what is buffered at the end of the column, where no line has its end.
+    fn last_buffered(&self, longest: Option<u64>) -> Buffered
         requires end { IsAtEnd (to_come R.remaining self.now) }
         requires unended { UnendedBy self.now.by self.now.held }
-        ensures { IsAtHand longest self.now.by self.now.held (to_come R.remaining self.now) result }
+        ensures { IsBuffered longest self.now.by self.now.held (to_come R.remaining self.now) result }
     {
         let held = self.window.held();
         let len = held.len();
         match self.scan.records() {
-            Records::Csv => AtHand::Records(len),
-            Records::Lines if is_open(held) => AtHand::Line(OpenLine { own: len, len }),
-            Records::Lines => AtHand::Records(len),
+            Records::Csv => Buffered::Records(len),
+            Records::Lines if is_open(held) => Buffered::Line(OpenLine { own: len, len }),
+            Records::Lines => Buffered::Records(len),
         }
     }
 

@@ -12,12 +12,12 @@
 mod blocks;
 mod buffer;
 mod columns;
+mod csv_scan;
 mod cursor;
 mod delimiter;
 mod ends;
 mod fields;
 mod first;
-mod hand;
 pub mod laws;
 mod limit;
 mod line;

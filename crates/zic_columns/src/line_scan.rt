@@ -1,11 +1,11 @@
-//! Whole lines among the bytes in hand, where each line is a record.
+//! Whole lines among the buffered bytes, where each line is a record.
 
 ghost use Rattle.std.specs.Prelude.{◌≡◌, ◌≤◌, All, drop, false, length, take};
 ghost use Rattle.zic_columns.specs.Column.{HasNoLineEnd, ends_line};
 ghost use Rattle.zic_columns.specs.Quotes.{is_open};
 ghost use Rattle.zic_columns.specs.code.LineScan.{AreClosedLines, IsFirstLine, IsLineScan};
 
-use crate::hand::lines_before_quote;
+use crate::csv_scan::lines_before_quote;
 use crate::machine::{Place, place_after};
 use memchr::memchr2;
 

@@ -4,12 +4,12 @@ ghost use Rattle.std.specs.Prelude.{◌≡◌, ◌≢◌, ◌+◌, ◌^◌, ◌<
 ghost use Rattle.zic_columns.specs.Record.{IsWithin, bytes_at};
 ghost use Rattle.zic_columns.specs.code.Ends.{ShowsEnds};
 ghost use Rattle.zic_columns.specs.code.Machine.{BeginsRecord};
-ghost use Rattle.zic_columns.specs.code.Plain.{IsLineEndAt, IsPlainFrom, IsSought, no_fields, record_of};
+ghost use Rattle.zic_columns.specs.code.Plain.{IsLineEndAt, IsPlainFrom, AreIndicesOf, no_fields, record_of};
 ghost use Rattle.zic_columns.specs.code.Walk.{HasFields, HasWalked, IsRecordFrom};
 
 use crate::ends::FieldEnds;
 use crate::fields::{Field, Record, Span, Wanted};
-use crate::walk::{Begun, quoted_text};
+use crate::walk::{PartRecord, quoted_text};
 
 /// The number of fields of a record, and where those that rows need stand.
 #[derive(Clone, Copy, Drop)]
@@ -53,10 +53,10 @@ fn record_of(start: usize, end: usize, fields: PlainFields) -> Record
 
 /// Returns a partly read record: it begins at `start`, and these fields were read up to `at`.
 #[inline(always)]
-fn begun_at(start: usize, fields: PlainFields, at: usize) -> Begun
+fn begun_at(start: usize, fields: PlainFields, at: usize) -> PartRecord
     ensures { result ≡ record { given = record_of start start fields; at = at } }
 {
-    Begun {
+    PartRecord {
         given: record_of(start, start, fields),
         at,
     }
@@ -65,20 +65,20 @@ fn begun_at(start: usize, fields: PlainFields, at: usize) -> Begun
 /// The indices of the fields that rows need. Where they need no zone, that of the zone is
 /// `usize::MAX`, and no record has that many fields.
 #[derive(Clone, Copy, Drop)]
-pub(crate) struct Sought {
+pub(crate) struct FieldIndices {
     zone: usize,
     time: usize,
 }
 
 /// Returns the indices of the fields that rows need.
-fn indices_of(wanted: Wanted) -> Sought
-    ensures { IsSought wanted result }
+fn indices_of(wanted: Wanted) -> FieldIndices
+    ensures { AreIndicesOf wanted result }
 {
     let zone = match wanted.zone {
         Some(index) => index,
         None => usize::MAX,
     };
-    Sought {
+    FieldIndices {
         zone,
         time: wanted.time,
     }
@@ -95,11 +95,11 @@ fn pick(index: usize, number: usize, field: Span, unchanged: Span) -> Span
 
 /// Adds a field, and keeps it if rows need it.
 #[inline(always)]
-fn with_span(fields: PlainFields, span: Span, indices: Sought) -> PlainFields
+fn with_span(fields: PlainFields, span: Span, indices: FieldIndices) -> PlainFields
     requires { fields.count + 1 < 2 ^ 64 }
     ensures count { result.count ≡ fields.count + 1 }
     ensures has { (piece : List ℕ) (start end : ℕ) (wanted : Wanted) (texts : List (List ℕ))
-        → IsSought wanted indices → HasFields piece wanted texts (record_of start end fields)
+        → AreIndicesOf wanted indices → HasFields piece wanted texts (record_of start end fields)
         → IsWithin piece span
         → HasFields piece wanted (texts ++ bytes_at piece span ∷ []) (record_of start end result) }
 {
@@ -122,7 +122,7 @@ pub(crate) fn split_plain(
     start: usize,
     wanted: Wanted,
     ends: &mut FieldEnds,
-) -> Result<Record, Begun>
+) -> Result<Record, PartRecord>
     requires begins { BeginsRecord (drop start piece.now) }
     requires shows { ShowsEnds piece.now start ends.old }
     ensures { MatchResult result (IsPlainFrom piece.now start wanted ends.new)
@@ -229,7 +229,7 @@ fn split_fields(
     start: usize,
     wanted: Wanted,
     ends: &mut FieldEnds,
-) -> Result<Record, Begun>
+) -> Result<Record, PartRecord>
     requires begins { BeginsRecord (drop start piece.now) }
     requires shows { ShowsEnds piece.now start ends.old }
     ensures { MatchResult result (IsPlainFrom piece.now start wanted ends.new)

@@ -1,13 +1,13 @@
-//! What was scanned of the bytes in hand, by where a record ends.
+//! What was scanned of the buffered bytes, by where a record ends.
 
 ghost use Rattle.std.specs.Prelude.{◌≡◌, ◌≤◌, [], drop, length, take};
-ghost use Rattle.zic_columns.specs.code.Hand.{IsScannedBy, mode_of, open_of_scan, whole_of_scan};
+ghost use Rattle.zic_columns.specs.code.Buffered.{IsScannedBy, mode_of, open_of_scan, whole_of_scan};
 
-use crate::hand::{CsvScan, scan_on, scan_rest};
+use crate::csv_scan::{CsvScan, scan_on, scan_rest};
 use crate::line_scan::{LineScan, OpenLine, scan_lines_on, scan_lines_rest};
 use zic_plan::Records;
 
-/// The whole records among the bytes in hand.
+/// The whole records among the buffered bytes.
 #[derive(Clone, Copy, Drop)]
 pub(crate) enum Scan {
     Csv(CsvScan),

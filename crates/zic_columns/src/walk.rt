@@ -35,7 +35,7 @@ pub(crate) struct QuotedText {
 
 /// A record whose first fields were read, and the index at which the next one begins.
 #[derive(Clone, Copy, Drop)]
-pub(crate) struct Begun {
+pub(crate) struct PartRecord {
     pub(crate) given: Record,
     pub(crate) at: usize,
 }
@@ -175,7 +175,7 @@ fn with_field(given: Record, found: FoundField, wanted: Wanted) -> Record
 
 /// Splits the rest of a record, whose next field begins at an index.
 #[inline(never)]
-pub(crate) fn split_rest(piece: &[u8], begun: Begun, wanted: Wanted) -> Record
+pub(crate) fn split_rest(piece: &[u8], begun: PartRecord, wanted: Wanted) -> Record
     requires begins { BeginsRecord (drop begun.given.own.start piece.now) }
     requires walked { HasWalked piece.now begun.given.own.start wanted begun.given begun.at }
     ensures { IsRecordFrom piece.now begun.given.own.start wanted result }
@@ -207,7 +207,7 @@ pub(crate) fn split_record(piece: &[u8], start: usize, wanted: Wanted) -> Record
         time: Field::Plain(own),
         stray: false,
     };
-    split_rest(piece, Begun { given, at: start }, wanted)
+    split_rest(piece, PartRecord { given, at: start }, wanted)
 }
 
 /// Returns the number of the own bytes of the record at the start of the bytes. A zone and a time

@@ -11,11 +11,11 @@ use Rattle.zic_columns.specs.declared.fields.Span.{Span}
 use Rattle.zic_columns.specs.declared.fields.Wanted.{Wanted}
 use Rattle.zic_columns.specs.declared.ends.FieldEnds.{FieldEnds}
 use Rattle.zic_columns.specs.declared.plain.PlainFields.{PlainFields}
-use Rattle.zic_columns.specs.declared.plain.Sought.{Sought}
+use Rattle.zic_columns.specs.declared.plain.FieldIndices.{FieldIndices}
 
 -- the indices of the wanted fields, and none that a record has where no zone is wanted
-abbrev pub IsSought : Wanted → Sought → Type 0
-IsSought wanted sought = MatchOption wanted.zone (sought.zone ≡ 2 ^ 64 - 1) (λ index. sought.zone ≡ index) × (sought.time ≡ wanted.time)
+abbrev pub AreIndicesOf : Wanted → FieldIndices → Type 0
+AreIndicesOf wanted sought = MatchOption wanted.zone (sought.zone ≡ 2 ^ 64 - 1) (λ index. sought.zone ≡ index) × (sought.time ≡ wanted.time)
 
 -- the record of these fields that stands from an index up to another
 abbrev pub record_of : ℕ → ℕ → PlainFields → Record

@@ -1,4 +1,4 @@
--- Bytes in hand, as clauses see them.
+-- Buffered bytes, as clauses see them.
 use Rattle.std.specs.Prelude.{ℕ, ◌-◌, List, slice_range, vec_len}
 use Rattle.zic_columns.specs.declared.buffer.Window.{Window}
 

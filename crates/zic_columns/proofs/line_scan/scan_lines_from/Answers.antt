@@ -1,6 +1,6 @@
 use Rattle.std.proofs.Common.{◌≤◌, ◌+◌, drop, length, arith}
 use Rattle.std.proofs.lemmas.List.{length-drop, take_rest}
-use Rattle.zic_columns.specs.code.Hand.{BeginWithLines}
+use Rattle.zic_columns.specs.code.Buffered.{BeginWithLines}
 use Rattle.zic_columns.proofs.LineScans.{closed_lines, closed_more, scan_all, scan_opened, scan_unended}
 use Rattle.zic_columns.proofs.line_scan.scan_lines_from.Goals as goal
 

@@ -15,47 +15,47 @@ loop-init g c = record {
 
 pub loop-preserved : goal.loop-preserved
 loop-preserved g c =
-    let grew = grows_same c.args.wanted c.args.longest c.args.self.now c.loop.self c.at_hand.new.self c.loop.invariant.buffer c.at_hand.ensures.buffer in
-    let at_hand = within_both g.R.Read.remaining c.args.self.now c.loop.self c.at_hand.new.self c.loop.invariant.limit c.at_hand.ensures.limit in
+    let grew = grows_same c.args.wanted c.args.longest c.args.self.now c.loop.self c.buffered.new.self c.loop.invariant.buffer c.buffered.ensures.buffer in
+    let buffered = within_both g.R.Read.remaining c.args.self.now c.loop.self c.buffered.new.self c.loop.invariant.limit c.buffered.ensures.limit in
     record {
-      by = c.read_on.ensures.by ∙ c.at_hand.ensures.by ∙ c.loop.invariant.by;
-      takes = takes_next c.args.self.now.by _ _ _ [] (takes_next c.args.self.now.by _ _ _ [] c.loop.invariant.takes (rw c.loop.invariant.by at c.at_hand.ensures.takes))
+      by = c.read_on.ensures.by ∙ c.buffered.ensures.by ∙ c.loop.invariant.by;
+      takes = takes_next c.args.self.now.by _ _ _ [] (takes_next c.args.self.now.by _ _ _ [] c.loop.invariant.takes (rw c.loop.invariant.by at c.buffered.ensures.takes))
           (takes_none c.args.self.now.by _ _ c.in_ok-read_on.ensures.keeps);
-      limit = within_both g.R.Read.remaining c.args.self.now c.at_hand.new.self c.read_on.new.self at_hand c.read_on.ensures.limit;
-      buffer = grows_on c.args.wanted c.args.longest c.args.self.now c.at_hand.new.self c.read_on.new.self grew (c.at_hand.ensures.short c.in_default.is) c.read_on.ensures.buffer;
+      limit = within_both g.R.Read.remaining c.args.self.now c.buffered.new.self c.read_on.new.self buffered c.read_on.ensures.limit;
+      buffer = grows_on c.args.wanted c.args.longest c.args.self.now c.buffered.new.self c.read_on.new.self grew (c.buffered.ensures.short c.in_default.is) c.read_on.ensures.buffer;
     }
 
 pub returns-in-Some-clause-limit : goal.returns-in-Some-clause-limit
-returns-in-Some-clause-limit g c = within_both g.R.Read.remaining c.args.self.now c.loop.self c.at_hand.new.self c.loop.invariant.limit c.at_hand.ensures.limit
+returns-in-Some-clause-limit g c = within_both g.R.Read.remaining c.args.self.now c.loop.self c.buffered.new.self c.loop.invariant.limit c.buffered.ensures.limit
 
 pub returns-in_err-read_on-clause-limit : goal.returns-in_err-read_on-clause-limit
 returns-in_err-read_on-clause-limit g c =
-    let at_hand = within_both g.R.Read.remaining c.args.self.now c.loop.self c.at_hand.new.self c.loop.invariant.limit c.at_hand.ensures.limit in
-    within_both g.R.Read.remaining c.args.self.now c.at_hand.new.self c.read_on.new.self at_hand c.read_on.ensures.limit
+    let buffered = within_both g.R.Read.remaining c.args.self.now c.loop.self c.buffered.new.self c.loop.invariant.limit c.buffered.ensures.limit in
+    within_both g.R.Read.remaining c.args.self.now c.buffered.new.self c.read_on.new.self buffered c.read_on.ensures.limit
 
 pub returns-then-branch-eq0-clause-limit : goal.returns-then-branch-eq0-clause-limit
 returns-then-branch-eq0-clause-limit g c =
-    let at_hand = within_both g.R.Read.remaining c.args.self.now c.loop.self c.at_hand.new.self c.loop.invariant.limit c.at_hand.ensures.limit in
-    within_both g.R.Read.remaining c.args.self.now c.at_hand.new.self c.read_on.new.self at_hand c.read_on.ensures.limit
+    let buffered = within_both g.R.Read.remaining c.args.self.now c.loop.self c.buffered.new.self c.loop.invariant.limit c.buffered.ensures.limit in
+    within_both g.R.Read.remaining c.args.self.now c.buffered.new.self c.read_on.new.self buffered c.read_on.ensures.limit
 
 pub returns-in-Some-clause-takes : goal.returns-in-Some-clause-takes
-returns-in-Some-clause-takes g c = takes_next c.args.self.now.by _ _ _ [] c.loop.invariant.takes (rw c.loop.invariant.by at c.at_hand.ensures.takes)
+returns-in-Some-clause-takes g c = takes_next c.args.self.now.by _ _ _ [] c.loop.invariant.takes (rw c.loop.invariant.by at c.buffered.ensures.takes)
 
 pub returns-then-branch-eq0-clause-takes : goal.returns-then-branch-eq0-clause-takes
 returns-then-branch-eq0-clause-takes g c =
-    takes_next c.args.self.now.by _ _ _ [] (takes_next c.args.self.now.by _ _ _ [] c.loop.invariant.takes (rw c.loop.invariant.by at c.at_hand.ensures.takes))
+    takes_next c.args.self.now.by _ _ _ [] (takes_next c.args.self.now.by _ _ _ [] c.loop.invariant.takes (rw c.loop.invariant.by at c.buffered.ensures.takes))
     (takes_none c.args.self.now.by _ _ c.in_ok-read_on.ensures.keeps)
 
 pub returns-in-Some-clause-buffer : goal.returns-in-Some-clause-buffer
 returns-in-Some-clause-buffer g c =
-    grows_same c.args.wanted c.args.longest c.args.self.now c.loop.self c.at_hand.new.self c.loop.invariant.buffer c.at_hand.ensures.buffer
+    grows_same c.args.wanted c.args.longest c.args.self.now c.loop.self c.buffered.new.self c.loop.invariant.buffer c.buffered.ensures.buffer
 
 pub returns-in_err-read_on-clause-buffer : goal.returns-in_err-read_on-clause-buffer
 returns-in_err-read_on-clause-buffer g c =
-    let grew = grows_same c.args.wanted c.args.longest c.args.self.now c.loop.self c.at_hand.new.self c.loop.invariant.buffer c.at_hand.ensures.buffer in
-    grows_on c.args.wanted c.args.longest c.args.self.now c.at_hand.new.self c.read_on.new.self grew (c.at_hand.ensures.short c.in_default.is) c.read_on.ensures.buffer
+    let grew = grows_same c.args.wanted c.args.longest c.args.self.now c.loop.self c.buffered.new.self c.loop.invariant.buffer c.buffered.ensures.buffer in
+    grows_on c.args.wanted c.args.longest c.args.self.now c.buffered.new.self c.read_on.new.self grew (c.buffered.ensures.short c.in_default.is) c.read_on.ensures.buffer
 
 pub returns-then-branch-eq0-clause-buffer : goal.returns-then-branch-eq0-clause-buffer
 returns-then-branch-eq0-clause-buffer g c =
-    let grew = grows_same c.args.wanted c.args.longest c.args.self.now c.loop.self c.at_hand.new.self c.loop.invariant.buffer c.at_hand.ensures.buffer in
-    grows_on c.args.wanted c.args.longest c.args.self.now c.at_hand.new.self c.read_on.new.self grew (c.at_hand.ensures.short c.in_default.is) c.read_on.ensures.buffer
+    let grew = grows_same c.args.wanted c.args.longest c.args.self.now c.loop.self c.buffered.new.self c.loop.invariant.buffer c.buffered.ensures.buffer in
+    grows_on c.args.wanted c.args.longest c.args.self.now c.buffered.new.self c.read_on.new.self grew (c.buffered.ensures.short c.in_default.is) c.read_on.ensures.buffer

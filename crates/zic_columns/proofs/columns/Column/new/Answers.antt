@@ -3,7 +3,7 @@ use Rattle.std.proofs.lemmas.List.Elements.{All-nil}
 use Rattle.zic_columns.specs.code.Window.{taken_bytes}
 use Rattle.std.proofs.KnownBytes.{prepend_known-nil}
 use Rattle.zic_columns.specs.Round.{ColumnOf}
-use Rattle.zic_columns.specs.code.Hand.{to_come}
+use Rattle.zic_columns.specs.code.Buffered.{to_come}
 use Rattle.zic_columns.proofs.Taking.{mark_dropped, unmarked_shorter}
 use Rattle.zic_columns.proofs.columns.Column.new.Goals as goal
 

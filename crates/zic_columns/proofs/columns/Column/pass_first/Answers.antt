@@ -1,6 +1,6 @@
 use Rattle.std.proofs.Common.{◌∙◌, ap, rules}
 use Rattle.zic_columns.specs.Round.{ColumnOf}
-use Rattle.zic_columns.specs.code.Hand.{to_come}
+use Rattle.zic_columns.specs.code.Buffered.{to_come}
 use Rattle.zic_columns.proofs.Passing.{are_first_own, passes_first, within}
 use Rattle.zic_columns.proofs.columns.Column.pass_first.Goals as goal
 

@@ -29,7 +29,7 @@ returns-in-TooLong-clause-long g c = λ _.
     let old = c.args.self.now in
     let mid = c.gather.new.self in
     long_next c.args.longest old.by (unread g.R.Read.remaining old) (unread g.R.Read.remaining mid) c.in_ok-count.ensures.takes
-    (rw (c.in-TooLong.is, c.gather.ensures.by) at c.in_ok-count.ensures.hand)
+    (rw (c.in-TooLong.is, c.gather.ensures.by) at c.in_ok-count.ensures.buffered)
 
 pub returns-in_ok-pass_first-in-Records-clause-buffer : goal.returns-in_ok-pass_first-in-Records-clause-buffer
 returns-in_ok-pass_first-in-Records-clause-buffer g c =

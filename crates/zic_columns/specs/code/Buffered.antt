@@ -1,4 +1,4 @@
--- The bytes in hand.
+-- The buffered bytes.
 use Rattle.std.specs.Prelude.{◌≡◌, ◌<◌, ◌≤◌, ◌⊎◌, ℕ, List, [], ◌∷◌, ◌++◌, length, take, drop, Option, None, MatchOption, IfSome}
 use Rattle.std.specs.Io.KnownBytes.{IsAtEnd, prepend_known}
 use Rattle.csv.specs.declared.parser.State.TheVariants as st
@@ -7,15 +7,15 @@ use Rattle.zic_plan.specs.declared.layout.Records.TheVariants as by
 use Rattle.zic_columns.specs.Column.{AreWholeRecords, HasNoLineEnd, HasNoQuote, column_records}
 use Rattle.zic_columns.specs.Lines.{open_record, records_by}
 use Rattle.zic_columns.specs.code.LineScan.{AllClosed, IsLineScan}
-use Rattle.zic_columns.specs.declared.columns.AtHand.{AtHand}
-use Rattle.zic_columns.specs.declared.columns.AtHand.TheVariants as hand
+use Rattle.zic_columns.specs.declared.columns.Buffered.{Buffered}
+use Rattle.zic_columns.specs.declared.columns.Buffered.TheVariants as buffered
 use Rattle.zic_columns.specs.declared.line_scan.OpenLine.{OpenLine}
 use Rattle.zic_columns.specs.declared.scan.Scan.{Scan}
 use Rattle.zic_columns.specs.declared.scan.Scan.TheVariants as scan
 use Rattle.zic_columns.specs.code.Line.{AreWholeLines}
 use Rattle.zic_columns.specs.Round.{ColumnOf, IsNextTooLong, with_past}
 use Rattle.zic_columns.specs.code.Machine.{BeginsRecord, ReadsTo, state_at}
-use Rattle.zic_columns.specs.declared.hand.CsvScan.{CsvScan}
+use Rattle.zic_columns.specs.declared.csv_scan.CsvScan.{CsvScan}
 use Rattle.zic_columns.specs.declared.machine.Place.{Place}
 
 -- the first `count` bytes are whole lines without a double quote, and the next byte, if there is
@@ -47,23 +47,23 @@ abbrev pub ClosedBy : Records → List ℕ → Type 0
 ClosedBy by.Csv bytes = Unit {0}
 ClosedBy by.Lines bytes = AllClosed bytes
 
--- The first `count` bytes in hand are some records, or all up to the end of the column. Where each line is a record, none of them is open.
+-- The first `count` buffered bytes are some records, or all up to the end of the column. Where each line is a record, none of them is open.
 pub record CanBeCut (by : Records) (held : List ℕ) (come : Option (List ℕ)) (count : ℕ) : Type 0 where
   pub within : count ≤ length held
   pub closed : ClosedBy by (take count held)
   pub some : AreSomeRecords (take count held) ⊎ ((count ≡ length held) × IsAtEnd come)
 
--- the first line in hand is open
+-- the first buffered line is open
 pub record OpensWith (by : Records) (held : List ℕ) (come : Option (List ℕ)) (line : OpenLine) : Type 0 where
   pub few : line.own ≤ line.len
   pub within : line.len ≤ length held
   pub opens : IfSome come (λ more. records_by by (held ++ more) ≡ open_record (take line.own held) ∷ records_by by (drop line.len held ++ more))
 
--- what is in hand first, where a record may have this number of bytes of its own
-abbrev pub IsAtHand : Option ℕ → Records → List ℕ → Option (List ℕ) → AtHand → Type 0
-IsAtHand most by held come (hand.Records count) = CanBeCut by held come count
-IsAtHand most by held come (hand.Line line) = OpensWith by held come line
-IsAtHand most by held come hand.TooLong = IsNextTooLong most by (prepend_known held come)
+-- what is buffered first, where a record may have this number of bytes of its own
+abbrev pub IsBuffered : Option ℕ → Records → List ℕ → Option (List ℕ) → Buffered → Type 0
+IsBuffered most by held come (buffered.Records count) = CanBeCut by held come count
+IsBuffered most by held come (buffered.Line line) = OpensWith by held come line
+IsBuffered most by held come buffered.TooLong = IsNextTooLong most by (prepend_known held come)
 
 -- the mode of a scan
 abbrev pub mode_of : Scan → Records

@@ -1,9 +1,9 @@
 use Rattle.std.proofs.Common.{◌≡◌, ◌∙◌, ap, sym}
 use Rattle.zic_plan.specs.declared.layout.Records.TheVariants as by
 use Rattle.zic_columns.specs.Round.{ColumnOf}
-use Rattle.zic_columns.specs.code.Hand.{to_come}
+use Rattle.zic_columns.specs.code.Buffered.{to_come}
 use Rattle.zic_columns.proofs.ScannedBy.{last_closed, last_of_csv, last_open}
-use Rattle.zic_columns.proofs.columns.Column.last_at_hand.Goals as goal
+use Rattle.zic_columns.proofs.columns.Column.last_buffered.Goals as goal
 
 pub returns-in-Lines : goal.returns-in-Lines
 returns-in-Lines g c =

@@ -1,6 +1,6 @@
 use Rattle.std.proofs.Common.{◌≤◌, ◌-◌, length, take}
 use Rattle.zic_columns.specs.Column.{AreWholeRecords}
-use Rattle.zic_columns.proofs.hand.scan_from.Given as goal
+use Rattle.zic_columns.proofs.csv_scan.scan_from.Given as goal
 
 abbrev pub invariant-loop-whole : goal.invariant-loop-whole
 invariant-loop-whole l = record {

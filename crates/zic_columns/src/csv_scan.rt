@@ -1,9 +1,9 @@
-//! Whole records among the bytes in hand.
+//! Whole records among the buffered bytes.
 
 ghost use Rattle.std.specs.Prelude.{◌≤◌, length, take, drop};
 ghost use Rattle.zic_columns.specs.Column.{AreWholeRecords};
 ghost use Rattle.zic_columns.specs.code.Cut.{AreCutAfterLines};
-ghost use Rattle.zic_columns.specs.code.Hand.{BeginWithLines, IsScanned};
+ghost use Rattle.zic_columns.specs.code.Buffered.{BeginWithLines, IsScanned};
 
 use crate::machine::{Place, record_end};
 use crate::quote::first_quote;

@@ -1,18 +1,18 @@
 use Rattle.std.proofs.Common.{◌≡◌, ◌∙◌, ℕ, false, List, ap, length, sym}
 use Rattle.zic_columns.specs.Round.{ColumnOf, may_have}
-use Rattle.zic_columns.specs.code.Hand.{UnendedBy, mode_of, whole_of_scan}
+use Rattle.zic_columns.specs.code.Buffered.{UnendedBy, mode_of, whole_of_scan}
 use Rattle.zic_columns.specs.code.Window.{held_bytes}
-use Rattle.zic_columns.proofs.Begun.{too_long}
+use Rattle.zic_columns.proofs.PartRecord.{too_long}
 use Rattle.zic_columns.proofs.Cuts.{has_none, has_record}
-use Rattle.zic_columns.proofs.ScannedBy.{cut_at_hand, opens_with, unended_by, whole_closed, whole_records}
+use Rattle.zic_columns.proofs.ScannedBy.{cut_buffered, opens_with, unended_by, whole_closed, whole_records}
 use Rattle.zic_columns.proofs.Taking.{takes_blank}
-use Rattle.zic_columns.proofs.columns.Column.at_hand.Goals as goal
+use Rattle.zic_columns.proofs.columns.Column.buffered.Goals as goal
 
-pub returns-then-is_some-clause-hand : goal.returns-then-is_some-clause-hand
-returns-then-is_some-clause-hand g c =
+pub returns-then-is_some-clause-buffered : goal.returns-then-is_some-clause-buffered
+returns-then-is_some-clause-buffered g c =
     let column = c.self.inside in
     let some = rw (c.held.ensures, c.whole-whole.ensures) at (has_record _ c.first_record.result c.first_record.ensures (sym c.if-is_some.ensures)) in
-    rw (c.whole-whole.ensures, ← c.self.view_is) (cut_at_hand (held_bytes column.window) column.scan _ c.self.invariant.1 some)
+    rw (c.whole-whole.ensures, ← c.self.view_is) (cut_buffered (held_bytes column.window) column.scan _ c.self.invariant.1 some)
 
 pub returns-in-Some-clause-takes : goal.returns-in-Some-clause-takes
 returns-in-Some-clause-takes g c =
@@ -21,8 +21,8 @@ returns-in-Some-clause-takes g c =
     let none = rw (c.held.ensures, c.whole-whole.ensures) at (has_none _ c.first_record.result c.first_record.ensures (sym c.if-is_some.ensures)) in
     rw (c.pass.ensures.passed, c.whole-whole.ensures, ← c.self.view_is) (takes_blank (mode_of column.scan) held _ (whole_of_scan column.scan) (whole_records held column.scan c.self.invariant.1) (whole_closed held column.scan c.self.invariant.1) none)
 
-pub returns-in-Some-clause-hand : goal.returns-in-Some-clause-hand
-returns-in-Some-clause-hand g c =
+pub returns-in-Some-clause-buffered : goal.returns-in-Some-clause-buffered
+returns-in-Some-clause-buffered g c =
     let column = c.self.inside in
     rw (c.pass.ensures.passed, c.whole-whole.ensures, ← c.self.view_is) (opens_with (held_bytes column.window) column.scan c.in-Some.line _ c.self.invariant.1 (sym c.opened-opened.ensures ∙ c.in-Some.is))
 
@@ -45,8 +45,8 @@ returns-clause-takes g c =
     let none = rw (c.held.ensures, c.whole-whole.ensures) at (has_none _ c.first_record.result c.first_record.ensures (sym c.if-is_some.ensures)) in
     rw (c.pass.ensures.passed, c.whole-whole.ensures, ← c.self.view_is) (takes_blank (mode_of column.scan) held _ (whole_of_scan column.scan) (whole_records held column.scan c.self.invariant.1) (whole_closed held column.scan c.self.invariant.1) none)
 
-pub returns-clause-hand : goal.returns-clause-hand
-returns-clause-hand g c =
+pub returns-clause-buffered : goal.returns-clause-buffered
+returns-clause-buffered g c =
     let column = c.self.inside in
     let now = c.pass.new.self in
     let held = c.held-2.ensures ∙ ap (λ (column : ColumnOf _). column.held) c.self-2.view_is in

@@ -1,4 +1,4 @@
--- A record whose first bytes are in hand: its own bytes are these, and perhaps more.
+-- A record whose first bytes are buffered: its own bytes are these, and perhaps more.
 use Rattle.std.proofs.Common.{◌≡◌, ◌+◌, ◌<◌, ◌≤◌, ℕ, suc, true, false, List, [], ◌∷◌, ◌++◌, length, length-append, map, Option, Some, None, refl, sym, ap, ◌∙◌, append_assoc, subst, ⊎_elim, arith}
 use Rattle.std.specs.Io.KnownBytes.{prepend_known}
 use Rattle.std.proofs.lemmas.Bool.{cases_Bool}
@@ -13,7 +13,7 @@ use Rattle.zic_columns.specs.Column.{HasNoLineEnd, ends_line, lines_of}
 use Rattle.zic_columns.specs.Lines.{records_by, texts_by}
 use Rattle.zic_columns.specs.Own.{CsvRecord, own_from, own_texts}
 use Rattle.zic_columns.specs.Round.{BeginsTooLong, IsNextTooLong, may_have}
-use Rattle.zic_columns.specs.code.Hand.{AreBegun, UnendedBy}
+use Rattle.zic_columns.specs.code.Buffered.{AreBegun, UnendedBy}
 use Rattle.zic_columns.specs.code.Machine.{BeginsRecord, ReadsTo, state_at}
 use Rattle.zic_columns.specs.declared.machine.Place.{Place}
 use Rattle.zic_columns.proofs.ByMode.{owns_by}
@@ -115,7 +115,7 @@ first_too_long : (most : Option ℕ) (n : ℕ) (row_records : List CsvRecord) �
 first_too_long most n [] over first = first
 first_too_long most n (w ∷ ws) over first = too_many most n (length w.own) first over
 
--- the next record has more bytes than it may have, where the bytes in hand are more and no record ends in them
+-- the next record has more bytes than it may have, where the buffered bytes are more and no record ends in them
 pub too_long : (most : Option ℕ) (mode : Records) (held : List ℕ) (come : Option (List ℕ)) → UnendedBy mode held → may_have most (length held) ≡ false → IsNextTooLong most mode (prepend_known held come)
 too_long most mode held None unended over = tt
 too_long most mode held (Some more) unended over =

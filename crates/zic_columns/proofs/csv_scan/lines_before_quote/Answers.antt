@@ -1,6 +1,6 @@
 use Rattle.std.proofs.Common.{inr, refl, arith}
 use Rattle.zic_columns.proofs.Scanned.{lines_up_to_quote, lines_without_quote}
-use Rattle.zic_columns.proofs.hand.lines_before_quote.Goals as goal
+use Rattle.zic_columns.proofs.csv_scan.lines_before_quote.Goals as goal
 
 pub returns-in-Some : goal.returns-in-Some
 returns-in-Some c = lines_up_to_quote c.args.bytes.now c.in-Some.at c.split_lines.result.0.now c.split_lines.result.1.now c.in-Some.ensures c.split_lines.ensures

@@ -1,8 +1,8 @@
 use Rattle.std.proofs.Common.{◌<◌, ◌+◌, drop, length, sym, arith}
 use Rattle.std.proofs.lemmas.List.{length-drop, take_rest}
-use Rattle.zic_columns.specs.code.Hand.{BeginWithLines}
+use Rattle.zic_columns.specs.code.Buffered.{BeginWithLines}
 use Rattle.zic_columns.proofs.Scanned.{begins_next, more_ends, more_lines, scanned_all, scanned_begun}
-use Rattle.zic_columns.proofs.hand.scan_from.Goals as goal
+use Rattle.zic_columns.proofs.csv_scan.scan_from.Goals as goal
 
 pub loop-whole-preserved : goal.loop-whole-preserved
 loop-whole-preserved c =

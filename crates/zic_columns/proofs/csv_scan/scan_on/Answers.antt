@@ -1,6 +1,6 @@
 use Rattle.std.proofs.lemmas.List.{take_rest}
 use Rattle.zic_columns.proofs.Scanned.{nothing_begun, still_begun, then_whole}
-use Rattle.zic_columns.proofs.hand.scan_on.Goals as goal
+use Rattle.zic_columns.proofs.csv_scan.scan_on.Goals as goal
 
 pub scan_from-requires-clause-whole : goal.scan_from-requires-clause-whole
 scan_from-requires-clause-whole c = nothing_begun c.args.bytes.now c.args.before c.requires.within c.args.scan.whole (rw c.in_default.is at c.requires.scanned)

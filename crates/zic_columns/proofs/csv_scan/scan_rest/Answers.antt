@@ -1,7 +1,7 @@
 use Rattle.std.proofs.lemmas.List.{take_rest}
 use Rattle.zic_columns.proofs.Scanned.{scanned_passed}
 use Rattle.zic_columns.proofs.SomeRecords.{whole_none}
-use Rattle.zic_columns.proofs.hand.scan_rest.Goals as goal
+use Rattle.zic_columns.proofs.csv_scan.scan_rest.Goals as goal
 
 pub returns-then-count-scan : goal.returns-then-count-scan
 returns-then-count-scan c = rw c.if-count-scan.true (scanned_passed c.args.bytes.now c.args.scan c.requires.scanned)
