@@ -1,22 +1,20 @@
 //! The rows of records.
 
 ghost use Rattle.zic_columns.specs.Lines.{exchanged_record};
-ghost use Rattle.std.specs.Prelude.{◌≡◌, ◌+◌, ◌^◌, ◌<◌, ◌≤◌, ◌++◌, ◌∷◌, ℤ, Some, None, IfOk, OnOk, MatchResult};
+ghost use Rattle.std.specs.Prelude.{◌≡◌, ◌+◌, ◌^◌, ◌<◌, ◌≤◌, ◌++◌, ℤ, Some, None, OnOk, MatchResult};
 ghost use Rattle.std.specs.Prelude.{ℕ, true, List, length};
-ghost use Rattle.std.specs.Fmt.{signed_decimal};
 ghost use Rattle.zic_columns.specs.Own.{CsvRecord};
-ghost use Rattle.zic_columns.specs.Record.{IsSplit, IsWithinPiece, bytes_at, field_text, record_at};
+ghost use Rattle.zic_columns.specs.Record.{IsSplit, bytes_at, record_at};
 ghost use Rattle.zic_columns.specs.Round.{may_have};
-ghost use Rattle.zic_rows.specs.Count.{count_of, second_of};
-ghost use Rattle.zic_rows.specs.Instant.{IsRowInstant};
-ghost use Rattle.zic_zones.specs.Zones.{AnswersAt, alone, zone_in};
+ghost use Rattle.zic_rows.specs.Count.{second_of};
+ghost use Rattle.zic_zones.specs.Zones.{AnswersAt, alone};
 ghost use Rattle.zic_plan.specs.declared.layout.TimeFrom.TheVariants as from;
 ghost use Rattle.zic_plan.specs.declared.layout.Written.TheVariants as written;
-ghost use Rattle.zic_layout_rows.specs.LayoutRows.{IsTextBy, admits_stray, input_text, rest_by};
+ghost use Rattle.zic_layout_rows.specs.LayoutRows.{IsTextBy, admits_stray};
 ghost use Rattle.zic_layout_rows.specs.Rows.{is_row_instant};
 ghost use Rattle.zic_layout_rows.specs.code.Batch.{AreColumns, AreStates, IsFoundAt, IsLookup, IsKnown, IsPen, IsQuickRow, IsRowQuery, IsSoundQuery, fault_at, records_of, state_found, wanted_by, zone_at};
 ghost use Rattle.zic_layout_rows.specs.PieceRows.{AreRowsOf, empty_rows};
-ghost use Rattle.zic_layout_rows.specs.code.Row.{AreNext, field_start};
+ghost use Rattle.zic_layout_rows.specs.code.Row.{AreNext};
 
 use crate::batch::Batch;
 use crate::faulty::{ends_run, push_faulty};
@@ -90,6 +88,7 @@ impl RowPen {
     }
 
     /// Makes the text of a state of a file, which the file shows at some second, if none is at hand.
+    #[inline(always)]
     pub(crate) fn show(&mut self, piece: &Piece<'_, '_>, file: usize, state: FoundState<'_>)
         requires within { file < length piece.now.zones.now }
         requires shown { (second : ℤ) × IsFoundAt piece.now.zones.now file second state }

@@ -1,6 +1,6 @@
 //! What rows begin with.
 
-ghost use Rattle.std.specs.Prelude.{◌≡◌, ◌++◌, ◌∷◌, [], IfOk, IsTrue, OnOk, Some, length};
+ghost use Rattle.std.specs.Prelude.{◌≡◌, ◌++◌, ◌∷◌, [], IfOk, IsTrue, OnOk, Some};
 ghost use Rattle.std.specs.Fmt.{signed_decimal};
 ghost use Rattle.zic_columns.specs.Record.{IsSplit, IsWithin, bytes_at, field_text, record_at};
 ghost use Rattle.zic_zones.specs.Zones.{zone_in};

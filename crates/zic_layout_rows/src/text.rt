@@ -1,6 +1,6 @@
 //! The text of the row of a record.
 
-ghost use Rattle.std.specs.Prelude.{◌≡◌, ◌<◌, ◌≤◌, ◌++◌, ◌∷◌, List, OnOk, drop, length, take, ℕ};
+ghost use Rattle.std.specs.Prelude.{◌≡◌, ◌<◌, ◌≤◌, ◌++◌, List, OnOk, drop, length, take, ℕ};
 ghost use Rattle.zic_columns.specs.Exchange.{exchanged};
 ghost use Rattle.zic_columns.specs.Lines.{exchanged_record};
 ghost use Rattle.zic_columns.specs.Record.{IsSplit, IsWithin, bytes_at, record_at};
