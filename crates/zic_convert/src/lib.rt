@@ -3,12 +3,15 @@
 
 mod column;
 mod conversion;
+mod crew;
 mod halt;
 mod header;
 pub mod laws;
 mod log;
 mod long;
 mod memory;
+mod noted;
+mod notes;
 mod opened;
 mod output;
 mod pieces;
