@@ -82,7 +82,7 @@ impl RowLog for Unwritable {
     }
 }
 
-/// Returns the layout of columns with details, whose rows with faults are put aside.
+/// Returns the layout of columns with details, whose rows with faults are rejected.
 fn layout_of(header: Header, records: Records) -> Layout {
     let mut layout = Layout::plain(header);
     layout.records = records;

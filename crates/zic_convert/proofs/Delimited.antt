@@ -22,10 +22,10 @@ use Rattle.zic_plan.specs.declared.layout.Header.{Header}
 use Rattle.zic_plan.specs.declared.layout.Header.TheVariants as headers
 use Rattle.zic_plan.specs.declared.layout.Layout.{Layout}
 use Rattle.zic_zones.specs.Zones.{field_at}
-use Rattle.zic_layout_rows.specs.LayoutRows.{if_aside}
-use Rattle.zic_convert.specs.Column.{AreRowRecords, header_aside, header_of, names_added, own_header, own_line, read_by}
+use Rattle.zic_layout_rows.specs.LayoutRows.{if_rejected}
+use Rattle.zic_convert.specs.Column.{AreRowRecords, rejects_header, header_of, names_added, own_header, own_line, read_by}
 use Rattle.zic_convert.specs.Header.{IsHeaderFault}
-use Rattle.zic_convert.specs.code.Progress.{header_aside_in, header_fault_in, own_line_in}
+use Rattle.zic_convert.specs.code.Progress.{rejects_header_in, header_fault_in, own_line_in}
 use Rattle.zic_convert.specs.code.Row.{records_in}
 
 -- what a byte that can stand between fields is not
@@ -141,7 +141,7 @@ pub own_line_delimited : (layout : Layout) → TextsByAreExchanged → is_delimi
     → own_line_in layout (exchanged layout.delimiter (read_by layout column)) ≡ own_line layout column
 own_line_delimited layout own_law is column = ap (header_of layout.start (names_added layout) layout.delimiter) (header_delimited layout own_law is column)
 
--- and where records are put aside
-pub aside_delimited : (layout : Layout) → TextsByAreExchanged → is_delimiter layout.delimiter ≡ true → (column : List ℕ)
-    → header_aside_in layout (exchanged layout.delimiter (read_by layout column)) ≡ header_aside layout column
-aside_delimited layout own_law is column = ap (if_aside layout.at_fault) (header_delimited layout own_law is column)
+-- and where records are rejected
+pub rejects_delimited : (layout : Layout) → TextsByAreExchanged → is_delimiter layout.delimiter ≡ true → (column : List ℕ)
+    → rejects_header_in layout (exchanged layout.delimiter (read_by layout column)) ≡ rejects_header layout column
+rejects_delimited layout own_law is column = ap (if_rejected layout.at_fault) (header_delimited layout own_law is column)

@@ -39,10 +39,10 @@ use Rattle.zic_plan.specs.declared.layout.Records.TheVariants as by
 use Rattle.zic_plan.specs.Noted.{RowNote}
 use Rattle.zic_zones.specs.Zones.{ReleasesAgree, zone_in}
 use Rattle.zic_zones.specs.declared.releases.Releases.{Releases}
-use Rattle.zic_layout_rows.specs.LayoutRows.{ending, ends_by, fault_by, if_aside, noted}
+use Rattle.zic_layout_rows.specs.LayoutRows.{ending, ends_by, fault_by, if_rejected, noted}
 use Rattle.zic_layout_rows.specs.PieceRows.{AreRowsOf, RowsOf, csv_records_in}
 use Rattle.zic_convert.specs.Header.{header_fault, header_kind}
-use Rattle.zic_convert.specs.code.Progress.{AreOfOne, EndsNoLine, HaltsAtCheck, HaltsAtHead, IsOwnFault, header_aside_in, header_fault_in, is_open_by, kept_of, passed_in}
+use Rattle.zic_convert.specs.code.Progress.{AreOfOne, EndsNoLine, HaltsAtCheck, HaltsAtHead, IsOwnFault, rejects_header_in, header_fault_in, is_open_by, kept_of, passed_in}
 use Rattle.zic_convert.specs.code.Row.{records_in}
 use Rattle.zic_convert.proofs.Staying.{IsKnownZone, fault_same, kept, round_known}
 
@@ -250,10 +250,10 @@ module _ (law : FirstRecordIsAlone) (layout : Layout) (known : Option (List ℕ)
       same ∙ ap (kept_of layout.header) (for_some known _ column is e) ∙ kept_header layout.header (texts_by layout.records (strip_bom column)))
 
   -- the log began with them
-  pub began_head : (kept aside : List ℕ) (began : Option (List ℕ)) → kept ≡ kept_of layout.header own → aside ≡ if_aside layout.at_fault (exchanged layout.delimiter kept)
-      → IfSome began (λ o. o ≡ aside) → LogBegan (header_aside_in layout) known began
-  began_head kept aside began same put has = if_some known _ (λ column e.
-      if_some began _ (λ o there. for_some began _ o has there ∙ put ∙ ap (λ (k : List ℕ). if_aside layout.at_fault (exchanged layout.delimiter k)) (for_some known _ column (kept_is kept same) e)))
+  pub began_head : (kept rejected : List ℕ) (began : Option (List ℕ)) → kept ≡ kept_of layout.header own → rejected ≡ if_rejected layout.at_fault (exchanged layout.delimiter kept)
+      → IfSome began (λ o. o ≡ rejected) → LogBegan (rejects_header_in layout) known began
+  began_head kept rejected began same put has = if_some known _ (λ column e.
+      if_some began _ (λ o there. for_some began _ o has there ∙ put ∙ ap (λ (k : List ℕ). if_rejected layout.at_fault (exchanged layout.delimiter k)) (for_some known _ column (kept_is kept same) e)))
 
   -- the fault of the header is that of its own bytes
   module _ (files : List File) (fault : Option RowKind) (found : IsOwnFault layout files own fault) where

@@ -26,18 +26,18 @@ use Rattle.zic_base.specs.declared.row_fault.RowKind.TheVariants as kinds
 use Rattle.zic_files.specs.File.{File}
 use Rattle.zic_base.specs.declared.run_stop.RunStop.{RunStop}
 use Rattle.zic_base.specs.declared.run_stop.RunStop.TheVariants as stop
-use Rattle.zic_convert.specs.Column.{AreRowRecords, header_aside, header_of, names_added, own_header, own_line, read_by}
+use Rattle.zic_convert.specs.Column.{AreRowRecords, rejects_header, header_of, names_added, own_header, own_line, read_by}
 use Rattle.zic_convert.specs.Run.{EndsAfterLines, EndsAtHeader, EndsIn, LogBegan, PassesHeader, WritesRows}
 use Rattle.zic_convert.specs.code.Halt.{IsCauseOfHalt, stop_of}
 use Rattle.zic_convert.specs.Header.{IsHeaderFault, header_fault}
-use Rattle.zic_convert.specs.code.Progress.{BeginsRows, ConvertsColumn, ConvertsRest, EndsInColumn, EndsInRest, HaltsAtBegin, HaltsAtHead, HaltsAtHeader, IsAtHeader, IsAtLongHeader, header_aside_in, header_fault_in, output, own_line_in}
+use Rattle.zic_convert.specs.code.Progress.{BeginsRows, ConvertsColumn, ConvertsRest, EndsInColumn, EndsInRest, HaltsAtBegin, HaltsAtHead, HaltsAtHeader, IsAtHeader, IsAtLongHeader, rejects_header_in, header_fault_in, output, own_line_in}
 use Rattle.zic_convert.specs.code.Row.{records_in}
 use Rattle.zic_convert.specs.code.Written.{EndsAtHead, Wrote}
 use Rattle.zic_convert.specs.declared.halt.Halt.{Halt}
 use Rattle.zic_convert.specs.declared.halt.Halt.TheVariants as halt
 use Rattle.zic_convert.proofs.Below.{ends_below, rows_below}
 use Rattle.zic_convert.proofs.Bytes.{fails_later, starts_later, wrote_both}
-use Rattle.zic_convert.proofs.Delimited.{aside_delimited, header_put_back, own_line_delimited, records_alike}
+use Rattle.zic_convert.proofs.Delimited.{rejects_delimited, header_put_back, own_line_delimited, records_alike}
 use Rattle.zic_convert.proofs.Logs.{notes_none}
 use Rattle.zic_convert.proofs.Options.{for_some, if_some}
 use Rattle.zic_convert.proofs.Sounds.{both_known}
@@ -215,9 +215,9 @@ module _ (layout : Layout) (most : ℕ) (limit : Option ℕ) (law : RecordsByAre
     ends_at_head (halt.Stop stop.LogFailed) ends = absurd ends
 
   -- the log began with the own bytes of its header
-  pub began_as : (began : Option (List ℕ)) → LogBegan (header_aside_in layout) inside began → LogBegan (header_aside layout) known began
+  pub began_as : (began : Option (List ℕ)) → LogBegan (rejects_header_in layout) inside began → LogBegan (rejects_header layout) known began
   began_as began is = if_some known _ (λ column e.
-      subst (λ (l : List ℕ). IfSome began (λ own. own ≡ l)) (aside_delimited layout own_law can column) (for_some inside _ (exchanged layout.delimiter (read_by layout column)) is (within column e)))
+      subst (λ (l : List ℕ). IfSome began (λ own. own ≡ l)) (rejects_delimited layout own_law can column) (for_some inside _ (exchanged layout.delimiter (read_by layout column)) is (within column e)))
 
   -- the rest of a column was converted, once its header was written
   module _ (releases : Releases) (left : Option (List ℕ)) (old mid new : Option (List ℕ)) (log last : Option (List RowNote))

@@ -16,7 +16,7 @@ use Rattle.zic_base.specs.declared.row_fault.RowKind.{RowKind}
 use Rattle.zic_base.specs.declared.row_fault.RowKind.TheVariants as kinds
 use Rattle.zic_base.specs.declared.run_stop.RunStop.{RunStop}
 use Rattle.zic_base.specs.declared.run_stop.RunStop.TheVariants as stop
-use Rattle.zic_layout_rows.specs.LayoutRows.{IsAnswerAt, IsRowAt, IsWrittenAt, empty_fields, ending, ends_by, fault_by, faulty_text, if_aside, noted, old_files, unless_aside}
+use Rattle.zic_layout_rows.specs.LayoutRows.{IsAnswerAt, IsRowAt, IsWrittenAt, empty_fields, ending, ends_by, fault_by, faulty_text, if_rejected, noted, old_files, unless_rejected}
 use Rattle.zic_convert.specs.code.Pieces.{joined}
 use Rattle.zic_layout_rows.specs.PieceRows.{AreRowsOf, RowsOf, empty_rows}
 use Rattle.zic_convert.specs.Run.{AreFew, IsOneTooMany}
@@ -60,7 +60,7 @@ module _ (layout : Layout) (releases : Releases) (most number : ℕ) (given : Cs
 
   -- a record whose row has a fault
   pub one_faulty : ending layout.at_fault layout.records (Some kind) ≡ None
-      → AreRowsOf layout releases most number (given ∷ []) (record { text = unless_compared layout.written (faulty_text layout kind given); count = 1; fault = None; faults = record { fault = record { row = number; kind = kind }; own = if_aside layout.at_fault given.own } ∷ [] })
+      → AreRowsOf layout releases most number (given ∷ []) (record { text = unless_compared layout.written (faulty_text layout kind given); count = 1; fault = None; faults = record { fault = record { row = number; kind = kind }; own = if_rejected layout.at_fault given.own } ∷ [] })
   one_faulty goes =
       let goes_on : ends_by layout releases.zones most (number + 0) given ≡ None = ap (ending layout.at_fault layout.records) (here releases.zones) ∙ goes in
       let noted_here : noted layout.at_fault (number + 0) given.own (fault_by layout releases.zones most (number + 0) given) ≡ noted layout.at_fault (number + 0) given.own (Some kind) =
@@ -72,7 +72,7 @@ module _ (layout : Layout) (releases : Releases) (most number : ℕ) (given : Cs
       (unless_compared layout.written (faulty_text layout kind given), faulty_written layout.written, made_here)) refl
     where
       made : ℕ → RowsOf
-      made n = record { text = unless_compared layout.written (faulty_text layout kind given); count = 1; fault = None; faults = record { fault = record { row = n; kind = kind }; own = if_aside layout.at_fault given.own } ∷ [] }
+      made n = record { text = unless_compared layout.written (faulty_text layout kind given); count = 1; fault = None; faults = record { fault = record { row = n; kind = kind }; own = if_rejected layout.at_fault given.own } ∷ [] }
 
 -- one row
 abbrev pub made_of : List ℕ → Option RowKind → List RowNote → RowsOf
@@ -199,9 +199,9 @@ module _ {W : Type 0} (contents : W → Option (List ℕ)) (old new : Counts W) 
     alone_stops stop.NoThread is = absurd is
     alone_stops stop.LogFailed is = absurd is
 
--- the text of an open line that doesn't end the run is its own bytes, unless it is put aside
+-- the text of an open line that doesn't end the run is its own bytes, unless it is rejected
 pub open_text : (layout : Layout) (files : List File) (most number : ℕ) (kind : RowKind) (own : List ℕ) → fault_by layout files most number (open_record own) ≡ Some kind → ending layout.at_fault layout.records (Some kind) ≡ None
-    → faulty_text layout kind (open_record own) ≡ unless_aside layout.at_fault (own ++ 10 ∷ [])
+    → faulty_text layout kind (open_record own) ≡ unless_rejected layout.at_fault (own ++ 10 ∷ [])
 open_text layout files most number kind own is goes =
     let ended : (other : RowKind) → ending layout.at_fault layout.records (Some other) ≡ Some other → Some other ≡ Some kind → ⊥ =
     λ other ends e. (let same : other ≡ kind = cc e in let none : ending layout.at_fault layout.records (Some other) ≡ None = subst (λ (k : RowKind). ending layout.at_fault layout.records (Some k) ≡ None) (sym same) goes in cc (ends, none)) in
@@ -210,11 +210,11 @@ open_text layout files most number kind own is goes =
         | inl short ↦
             let e : Some kinds.RowQuote ≡ Some kind = rw (below, short) at is in
             let same : kinds.RowQuote ≡ kind = cc e in
-            subst (λ (k : RowKind). faulty_text layout k (open_record own) ≡ unless_aside layout.at_fault (own ++ 10 ∷ [])) same refl
+            subst (λ (k : RowKind). faulty_text layout k (open_record own) ≡ unless_rejected layout.at_fault (own ++ 10 ∷ [])) same refl
         | inr long ↦
             let e : Some kinds.RowTooLong ≡ Some kind = rw (below, long) at is in
             let same : kinds.RowTooLong ≡ kind = cc e in
-            subst (λ (k : RowKind). faulty_text layout k (open_record own) ≡ unless_aside layout.at_fault (own ++ 10 ∷ [])) same refl
+            subst (λ (k : RowKind). faulty_text layout k (open_record own) ≡ unless_rejected layout.at_fault (own ++ 10 ∷ [])) same refl
       ]
       | inr beyond ↦ absurd (ended kinds.TooManyRows (too_many_ends layout.at_fault layout.records) (rw beyond at is))
     ]

@@ -16,7 +16,7 @@ use Rattle.zic_plan.specs.Noted.{RowNote}
 use Rattle.zic_base.specs.declared.row_fault.RowFault.{RowFault}
 use Rattle.zic_base.specs.declared.row_fault.RowKind.{RowKind}
 use Rattle.zic_base.specs.declared.row_fault.RowKind.TheVariants as kinds
-use Rattle.zic_layout_rows.specs.LayoutRows.{RecordsConvertBy, IsAnswerAt, IsRowAt, IsWrittenAt, old_files, ending, ends_by, fault_by, faults_by, if_aside, noted}
+use Rattle.zic_layout_rows.specs.LayoutRows.{RecordsConvertBy, IsAnswerAt, IsRowAt, IsWrittenAt, old_files, ending, ends_by, fault_by, faults_by, if_rejected, noted}
 use Rattle.zic_convert.specs.Run.{AreFew, IsOneTooMany, Notes}
 use Rattle.zic_layout_rows.specs.PieceRows.{AreRowsOf, RowsOf}
 use Rattle.zic_convert.specs.code.Written.{FailsInRows, IsLeft, StopsAtFault, StopsAtRow, Wrote}
@@ -195,7 +195,7 @@ module _ (layout : Layout) (releases : Releases) where
   module _ (most : ℕ) where
     -- a row with a fault, as it is noted
     abbrev note_of : ℕ → CsvRecord → RowKind → RowNote
-    note_of number x kind = record { fault = record { row = number; kind = kind }; own = if_aside layout.at_fault x.own }
+    note_of number x kind = record { fault = record { row = number; kind = kind }; own = if_rejected layout.at_fault x.own }
 
     -- what is noted of records after the first has a note, which has others before it
     pub record Follows (number : ℕ) (x : CsvRecord) (xs : List CsvRecord) (before after : List RowNote) (note : RowNote) : Type 0 where

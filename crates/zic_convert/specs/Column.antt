@@ -28,7 +28,7 @@ use Rattle.zic_plan.specs.declared.layout.Written.TheVariants as written
 use Rattle.zic_base.specs.declared.row_fault.RowKind.{RowKind}
 use Rattle.zic_layout_rows.specs.Rows.{RecordsConvertTo}
 use Rattle.zic_zones.specs.declared.releases.Releases.{Releases}
-use Rattle.zic_layout_rows.specs.LayoutRows.{RecordsConvertBy, if_aside}
+use Rattle.zic_layout_rows.specs.LayoutRows.{RecordsConvertBy, if_rejected}
 
 -- The texts of a column's rows up to the first that has a fault, and that fault, or none. Rows count from 1, and there may be at most
 -- this number. The records are those of CSV with commas and double quotes, without a header row. A byte order mark at the start is none
@@ -136,9 +136,9 @@ names_line layout = names_with layout (names_after layout.written layout.style l
 abbrev pub own_line : Layout → List ℕ → List ℕ
 own_line layout column = header_of layout.start (names_added layout) layout.delimiter (own_header layout.header (delimited_texts_by layout.records layout.delimiter (strip_bom (read_by layout column))))
 
--- the own bytes of the column's header, where there is one that is written and records are put aside, for the log of these
-abbrev pub header_aside : Layout → List ℕ → List ℕ
-header_aside layout column = if_aside layout.at_fault (own_header layout.header (delimited_texts_by layout.records layout.delimiter (strip_bom (read_by layout column))))
+-- the own bytes of the column's header, where there is one that is written and records are rejected, for the log of these
+abbrev pub rejects_header : Layout → List ℕ → List ℕ
+rejects_header layout column = if_rejected layout.at_fault (own_header layout.header (delimited_texts_by layout.records layout.delimiter (strip_bom (read_by layout column))))
 
 -- The header that is written before the rows of a column: own choice. It is the line of names where rows begin with names,
 -- and else the column's own header, with the names of the fields that rows add. It is nothing where the column has none, or it is skipped.

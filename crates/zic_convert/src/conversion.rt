@@ -11,14 +11,14 @@ ghost use Rattle.zic_counted.specs.Counts.{HasFailedSince};
 ghost use Rattle.zic_plan.specs.declared.plan.TheConstants.{MAX_ROWS};
 ghost use Rattle.zic_zones.specs.Zones.{zone_in};
 ghost use Rattle.zic_zones.specs.declared.releases.Releases.{Releases};
-ghost use Rattle.zic_convert.specs.Column.{header_aside, own_header};
+ghost use Rattle.zic_convert.specs.Column.{rejects_header, own_header};
 ghost use Rattle.zic_convert.specs.Convert.{IsCauseOf, IsCauseWithLog, WritesAll, WritesAt};
 ghost use Rattle.zic_convert.specs.Run.{ConvertsAllBy, EndsAtNames, EndsBy, EndsByZones, LogBegan};
 ghost use Rattle.zic_convert.specs.Run.{output_of, run_of};
 ghost use Rattle.zic_convert.specs.code.Halt.{IsCauseOfHalt, IsCauseWith, IsEnd, IsReadingStop, stop_of};
 ghost use Rattle.zic_convert.specs.code.Progress.{BeginsRows, ConvertsColumn, ConvertsRest};
 ghost use Rattle.zic_convert.specs.code.Progress.{EndsInColumn, EndsInRest, HaltsAtBegin, HaltsAtHead, HaltsAtHeader};
-ghost use Rattle.zic_convert.specs.code.Progress.{EndsAtTaking, EndsInTaken, TakesNext, WritesTaken, header_aside_in, header_fault_in, longest_of, own_line_in, passed_in};
+ghost use Rattle.zic_convert.specs.code.Progress.{EndsAtTaking, EndsInTaken, TakesNext, WritesTaken, rejects_header_in, header_fault_in, longest_of, own_line_in, passed_in};
 ghost use Rattle.zic_convert.specs.code.Pieces.{AreConverted, IsCrew};
 ghost use Rattle.zic_convert.specs.code.Row.{taken_rows};
 ghost use Rattle.zic_convert.specs.code.Written.{EndsInRecords, WritesRecords};
@@ -46,7 +46,7 @@ use zic_columns::laws::{
 use zic_columns::{Column, Exchanged, PassStop, Round, Taken, Truncated};
 use zic_counted::Counted;
 use zic_files::Files;
-use zic_layout_rows::aside;
+use zic_layout_rows::rejected_bytes;
 use zic_pieces::Gate;
 use zic_plan::{Header, Layout, Plan, RowLog, Unnoted};
 use zic_tzif::laws::files_answer_once;
@@ -93,7 +93,7 @@ fn round_len(plan: &Plan) -> usize {
 }
 
 /// Takes the next round of a column, and makes the zones of its records ready, or the next open line,
-/// or nothing where more bytes are in hand of a record that goes on than the layout allows and the run
+/// or nothing where more bytes are buffered of a record that goes on than the layout allows and the run
 /// ends there. Returns what it took.
 ///
 /// # Errors
@@ -280,7 +280,7 @@ fn convert_rounds<F: Fn(&RowPieces<'_, '_>) -> PieceRows, Z: Zones, R: Read, W: 
 
 /// A column after its header, and the own bytes of the header, which are none where it has none.
 #[derive(Drop)]
-struct Begun<R: Read> {
+struct BegunColumn<R: Read> {
     column: Column<R>,
     header: Vec<u8>,
 }
@@ -314,7 +314,7 @@ fn pass_header<R: Read>(by: &ReadBy<'_>, column: &mut Column<R>) -> Result<Vec<u
 /// # Errors
 ///
 /// As [`pass_header`].
-fn begin_column<R: Read + Drop>(by: &ReadBy<'_>, reader: R) -> Result<Begun<R>, Halt>
+fn begin_column<R: Read + Drop>(by: &ReadBy<'_>, reader: R) -> Result<BegunColumn<R>, Halt>
     ensures by { IfOk result (λ begun. begun.column.by ≡ by.now.layout.now.records) }
     ensures begins { IfOk result (λ begun. IfSome (R.remaining reader)
         (λ bytes. BeginsRows by.now.layout.now bytes (unread R.remaining begun.column))) }
@@ -328,17 +328,17 @@ fn begin_column<R: Read + Drop>(by: &ReadBy<'_>, reader: R) -> Result<Begun<R>, 
     match layout.header {
         Header::Absent => {
             let header = Vec::new(by.alloc);
-            Ok(Begun { column, header })
+            Ok(BegunColumn { column, header })
         }
         Header::First | Header::Skipped => {
             let header = pass_header(by, &mut column)?;
-            Ok(Begun { column, header })
+            Ok(BegunColumn { column, header })
         }
     }
 }
 
 /// Skips the header of a column, if it has one, and makes the zone ready that it names. Writes it with
-/// names added if rows begin with their records, and logs it if records are put aside.
+/// names added if rows begin with their records, and logs it if records are rejected.
 ///
 /// # Errors
 ///
@@ -351,7 +351,7 @@ fn begin_rows<Z: Zones, R: Read + Drop, W: Write, L: RowLog>(
     log: &mut L,
 ) -> Result<Column<R>, Halt>
     ensures noted { L.noted log.new ≡ L.noted log.old }
-    ensures began { LogBegan (header_aside_in by.now.layout.now) (R.remaining reader) (L.began log.new)
+    ensures began { LogBegan (rejects_header_in by.now.layout.now) (R.remaining reader) (L.began log.new)
         ⊎ (IsErr result × (L.began log.new ≡ L.began log.old)) }
     ensures by { IfOk result (λ column. column.by ≡ by.now.layout.now.records) }
     ensures begins { IfOk result (λ column. IfSome (R.remaining reader)
@@ -370,10 +370,10 @@ fn begin_rows<Z: Zones, R: Read + Drop, W: Write, L: RowLog>(
     ensures cause { IfErr result (IsCauseOfHalt writer.old writer.new) }
 {
     first_record_is_alone();
-    let Begun { column, header } = begin_column(by, reader)?;
+    let BegunColumn { column, header } = begin_column(by, reader)?;
     check_header(by, zones, &header)?;
     let header = kept_of(by.layout.header, header);
-    let own = aside(by.alloc, by.layout, &header)?;
+    let own = rejected_bytes(by.alloc, by.layout, &header)?;
     log.begin(&own);
     write_header(writer, by.layout, header)?;
     Ok(column)
@@ -408,7 +408,7 @@ pub(crate) fn convert_rows<
         (stop_of halt) (EndsInColumn conversion.now.layout.now conversion.now.plan.now.max_rows
         conversion.now.max_faults (R.remaining reader) (stop_of halt)
         (output_of W.contents L.noted writer.old writer.new log.old log.new))) }
-    ensures began { LogBegan (header_aside conversion.now.layout.now) (R.remaining reader)
+    ensures began { LogBegan (rejects_header conversion.now.layout.now) (R.remaining reader)
         (L.began log.new)
         ⊎ (IsErr result × (L.began log.new ≡ L.began log.old) × (L.noted log.new ≡ L.noted log.old)) }
     ensures cause { IfErr result (IsCauseWith (L.failed log.new) writer.old writer.new) }
@@ -489,11 +489,11 @@ fn ended<R>(
 /// stands there.
 ///
 /// As the layout's `at_fault` says, the first row with a fault ends the conversion, or rows with
-/// faults are written, or their records are put aside and nothing of them is written. A row with a
+/// faults are written, or their records are rejected and nothing of them is written. A row with a
 /// fault that is written has the instant or the local time as its record has it, and empty fields in
 /// place of the others; where the record has another number of fields than the layout's, too many bytes,
 /// or is a line whose double quotes are open at its end, the row is only the record's own bytes. The log
-/// takes note of the fault, and of the record's own bytes where it is put aside, with how its line ends
+/// takes note of the fault, and of the record's own bytes where it is rejected, with how its line ends
 /// in the column; where the layout's `notes` are details, also of the line where the record begins, from
 /// 1, with the header and lines without a byte, and of the field at fault. A line whose double quotes are
 /// open may be the header. Where each line is a record and the run goes on at faults, no more than four
@@ -520,7 +520,7 @@ fn ended<R>(
 ///   than the layout's, a name that no file has, no instant or local time, a local time that no instant or
 ///   more than one has, or a whole second out of range. All rows before it were written and flushed, and
 ///   no failure of the writer was counted.
-///   Where rows with faults are written or their records put aside, `Row` is only `TooManyRows`,
+///   Where rows with faults are written or their records are rejected, `Row` is only `TooManyRows`,
 ///   `RowTooLong` of a record of CSV, and the fault after `max_faults` others. Row 0 is the header, also
 ///   where it is skipped and where rows with faults are written: `RowTooLong` where it has more bytes than
 ///   the layout allows, `RowQuote` where it has a stray double quote and the layout's quotes are strict,
@@ -538,7 +538,7 @@ fn ended<R>(
 ///
 /// `Source` and `NoThread` are never returned. After every error other than `Row`, the lines up to
 /// some line were written, of the header and of the rows; the faults of the rows up to there were
-/// noted, also of those whose records are put aside, and no others. Nothing was written after these
+/// noted, also of those whose records are rejected, and no others. Nothing was written after these
 /// lines, except after `WriteFailed`: then perhaps a beginning of those to come. How much of the column
 /// was read is open.
 pub fn convert_column<
@@ -571,7 +571,7 @@ pub fn convert_column<
         (EndsBy conversion.now.layout.now conversion.now.plan.now.max_rows conversion.now.max_faults
         stop (run_of R.remaining W.contents L.noted reader.old reader.new writer.old writer.new log.old
         log.new))) }
-    ensures began { LogBegan (header_aside conversion.now.layout.now)
+    ensures began { LogBegan (rejects_header conversion.now.layout.now)
         (R.remaining reader.old.inner) (L.began log.new)
         ⊎ (IsErr result × (L.began log.new ≡ L.began log.old) × (L.noted log.new ≡ L.noted log.old)) }
     ensures cause { IfErr result (IsCauseWithLog (L.failed log.new)
@@ -611,7 +611,7 @@ pub fn convert_column<
 /// -62,135,510,400 to 253,402,214,399.
 ///
 /// The column is read in rounds. A round is all whole records of what one read gave and of what was
-/// in hand before it; where these have none, the column is read on. The plan's workers convert the
+/// buffered before it; where these have none, the column is read on. The plan's workers convert the
 /// pieces of a round, which have the number of records that the plan says, and pass the gate before
 /// each. The calling thread is one of them. The rows of a round are written and flushed before the column
 /// is read on. None of this changes an answer. Where all is converted, the reader's count of bytes

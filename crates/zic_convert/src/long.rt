@@ -60,8 +60,7 @@ fn long_kind(most: u64, number: u64) -> RowKind
     RowKind::RowTooLong
 }
 
-/// Has the writer pass on what it holds back, and returns the stop at such a record as the row of a
-/// number, or `WriteFailed`.
+/// Flushes the writer, and returns the stop at such a record as the row of a number, or `WriteFailed`.
 pub(crate) fn end_at_long<W: Write>(writer: &mut Counted<W>, most: u64, number: u64) -> RunStop
     ensures stop { (layout : Layout) (releases : Releases) (limit : Option ℕ) (given : CsvRecord)
         (log : Option (List RowNote)) → may_have (longest_of layout) (length given.own) ≡ false

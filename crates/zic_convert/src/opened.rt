@@ -7,7 +7,7 @@ ghost use Rattle.zic_files.specs.File.{File};
 ghost use Rattle.zic_plan.specs.declared.plan.TheConstants.{MAX_ROWS};
 ghost use Rattle.zic_zones.specs.declared.releases.Releases.{Releases};
 ghost use Rattle.zic_convert.specs.code.Row.{unless_compared};
-ghost use Rattle.zic_layout_rows.specs.LayoutRows.{fault_by, if_aside, unless_aside};
+ghost use Rattle.zic_layout_rows.specs.LayoutRows.{fault_by, if_rejected, unless_rejected};
 ghost use Rattle.zic_layout_rows.specs.PieceRows.{AreRowsOf};
 ghost use Rattle.zic_convert.specs.code.Written.{EndsInRecords, WritesRecords};
 
@@ -19,7 +19,7 @@ use std::io::Write;
 use zic_base::{RowFault, RowKind, RunStop};
 use zic_columns::{TakenLine, may_have};
 use zic_counted::Counted;
-use zic_layout_rows::{Rows, aside, ends_run, push_own};
+use zic_layout_rows::{Rows, ends_run, push_own, rejected_bytes};
 use zic_plan::{AtFault, FaultDetail, FaultyRow, Layout, RowLog, Written};
 use zic_rows::RowText;
 
@@ -39,12 +39,12 @@ pub(crate) fn open_kind(layout: &Layout, most: u64, number: u64, line: &[u8]) ->
     RowKind::RowQuote
 }
 
-/// Returns what an open line adds to the text of rows: its own bytes, unless it is put aside, or only
+/// Returns what an open line adds to the text of rows: its own bytes, unless it is rejected, or only
 /// rows are written that another release answers differently. The line has the delimiter and the comma
 /// in each other's place.
 fn open_text(alloc: Global, layout: &Layout, line: &[u8]) -> Result<Vec<u8>, AllocError>
     ensures { IfOk result (λ text. text.items ≡ unless_compared layout.now.written
-        (unless_aside layout.now.at_fault (exchanged layout.now.delimiter line.now ++ 10 ∷ []))) }
+        (unless_rejected layout.now.at_fault (exchanged layout.now.delimiter line.now ++ 10 ∷ []))) }
 {
     let mut text = Vec::new(alloc);
     match (layout.at_fault, layout.written) {
@@ -56,7 +56,7 @@ fn open_text(alloc: Global, layout: &Layout, line: &[u8]) -> Result<Vec<u8>, All
     Ok(text)
 }
 
-/// Returns what is noted of an open line: its own bytes where it is put aside, how it ends, and its number
+/// Returns what is noted of an open line: its own bytes where it is rejected, how it ends, and its number
 /// among lines where details are noted. The fault isn't of one field. The line has the delimiter and the
 /// comma in each other's place.
 fn open_note(
@@ -67,10 +67,10 @@ fn open_note(
 ) -> Result<FaultyRow, AllocError>
     ensures { IfOk result (λ row. row ≡ record {
       fault = fault;
-      own = if_aside layout.now.at_fault (exchanged layout.now.delimiter line.now.own.items);
+      own = if_rejected layout.now.at_fault (exchanged layout.now.delimiter line.now.own.items);
     }) }
 {
-    let own = aside(alloc, layout, &line.own)?;
+    let own = rejected_bytes(alloc, layout, &line.own)?;
     let detail = match line.lines_before {
         Some(before) => Some(FaultDetail {
             line: before.saturating_add(1),

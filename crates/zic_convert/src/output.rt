@@ -278,8 +278,7 @@ pub(crate) fn write_header<W: Write>(
     flush(writer)
 }
 
-/// Has the writer pass on what it holds back, and returns the stop at a row that ends the run, or
-/// `WriteFailed`.
+/// Flushes the writer, and returns the stop at a row that ends the run, or `WriteFailed`.
 pub(crate) fn stop_at<W: Write>(writer: &mut Counted<W>, row: u64, kind: RowKind) -> RunStop
     ensures { IsStopAt W.contents writer.old writer.new row kind result }
 {
@@ -290,7 +289,7 @@ pub(crate) fn stop_at<W: Write>(writer: &mut Counted<W>, row: u64, kind: RowKind
 }
 
 /// Writes the rows of pieces, one piece after another, up to the first that ends the run, notes
-/// their faults, flushes, has the log do so too, and returns the number of rows. The first is the row
+/// their faults, flushes the writer and the log, and returns the number of rows. The first is the row
 /// of this number.
 ///
 /// # Errors

@@ -5,7 +5,7 @@ use std::sync::Mutex;
 use zic_layout_rows::Rows;
 use zic_rows::RowText;
 
-/// The longest text that is put aside, in bytes.
+/// The longest text that is kept, in bytes.
 const LONGEST_SPARE: usize = 1_048_576;
 
 /// Texts whose rows were written, for the rows of the next round: a text that is new has its room cleared
@@ -23,17 +23,17 @@ impl SpareTexts {
         }
     }
 
-    /// Returns a text with room for rows, whatever it holds: one that was put aside, or a new one with room
+    /// Returns a text with room for rows, whatever it holds: one that was kept, or a new one with room
     /// for as many bytes where none was, or another thread is at the texts just now.
     pub(crate) fn take(&self, alloc: Global, room: usize) -> Result<RowText, AllocError> {
-        match self.at_hand() {
+        match self.kept() {
             Some(text) => Ok(text),
             None => RowText::with_capacity(alloc, room),
         }
     }
 
-    /// Returns a text that was put aside, if there is one.
-    fn at_hand(&self) -> Option<RowText> {
+    /// Returns a text that was kept, if there is one.
+    fn kept(&self) -> Option<RowText> {
         let mut texts = self.texts.try_lock()?;
         texts.pop()
     }

@@ -16,7 +16,7 @@ use Rattle.zic_plan.specs.Noted.{RowNote}
 use Rattle.zic_plan.specs.declared.layout.AtFault.{AtFault}
 use Rattle.zic_plan.specs.declared.layout.AtFault.TheVariants as rules
 
--- the failure that some faults of rows are, of which this is the first: that their records were put aside, or that they have faults
+-- the failure that some faults of rows are, of which this is the first: that their records were rejected, or that they have faults
 abbrev pub failure_from : AtFault → RowFault → ℕ → Failure
 failure_from rules.Reject first count = failures.Rejected first.row first.kind count
 failure_from rules.End first count = failures.Rows first.row first.kind count

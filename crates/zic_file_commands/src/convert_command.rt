@@ -1,7 +1,7 @@
 //! `convert`: converts a column by zones.
 
 ghost use Rattle.std.specs.Prelude.{◌≤◌, ◌+◌, ◌≡◌, ◌⊎◌, List, IfOk, IfErr, IsErr, IsErrOf, OnOk};
-ghost use Rattle.zic_convert.specs.Column.{header_aside};
+ghost use Rattle.zic_convert.specs.Column.{rejects_header};
 ghost use Rattle.zic_convert.specs.Run.{LogBegan, run_of};
 ghost use Rattle.zic_counted.specs.Counts.{HasFailedSince};
 ghost use Rattle.zic_file_commands.specs.Converting.{Converts, HasZone};
@@ -53,7 +53,7 @@ pub fn convert<T: Threads + Wait + Sync, G: Gate + Sync, Z: Zones, R: Read, W: W
         (run_of R.remaining W.contents L.noted reader.old reader.new writer.old writer.new
         log.old log.new)
         (zones_of Z.grown Z.broken Z.requests Z.may_be zones.old zones.new)) }
-    ensures began { LogBegan (header_aside conversion.now.layout.now)
+    ensures began { LogBegan (rejects_header conversion.now.layout.now)
         (R.remaining reader.old.inner) (L.began log.new)
         ⊎ (IsErr result × (L.began log.new ≡ L.began log.old) × (L.noted log.new ≡ L.noted log.old)) }
     ensures log { IsErrOf result Failure.CannotWriteList → L.failed log.new }

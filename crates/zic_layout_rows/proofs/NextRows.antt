@@ -11,7 +11,7 @@ use Rattle.zic_plan.specs.declared.layout.Records.{Records}
 use Rattle.zic_plan.specs.declared.layout.Records.TheVariants as by
 use Rattle.zic_plan.specs.Noted.{RowNote}
 use Rattle.zic_base.specs.declared.row_fault.RowKind.{RowKind}
-use Rattle.zic_layout_rows.specs.LayoutRows.{IsRowAt, IsRowBy, IsTextBy, ending, ends_by, fault_by, faulty_text, if_aside, noted}
+use Rattle.zic_layout_rows.specs.LayoutRows.{IsRowAt, IsRowBy, IsTextBy, ending, ends_by, fault_by, faulty_text, if_rejected, noted}
 use Rattle.zic_layout_rows.specs.PieceRows.{RowsOf}
 use Rattle.zic_layout_rows.specs.code.Row.{AreNext}
 
@@ -47,7 +47,7 @@ module _ (layout : Layout) (files : List File) (most number : ℕ) (row_record :
   module _ (kind : RowKind) (some : fault_by layout files most number row_record ≡ Some kind) where
     -- a record with a fault that doesn't end the run
     pub next_faulty : ending layout.at_fault layout.records (Some kind) ≡ None
-        → new ≡ record { text = old.text ++ faulty_text layout kind row_record; count = old.count + 1; fault = old.fault; faults = old.faults ++ record { fault = record { row = number; kind = kind }; own = if_aside layout.at_fault row_record.own } ∷ [] }
+        → new ≡ record { text = old.text ++ faulty_text layout kind row_record; count = old.count + 1; fault = old.fault; faults = old.faults ++ record { fault = record { row = number; kind = kind }; own = if_rejected layout.at_fault row_record.own } ∷ [] }
         → AreNext layout files most number row_record old new
     next_faulty goes made =
         let goes_on : ends_by layout files most number row_record ≡ None = ap (ending layout.at_fault layout.records) some ∙ goes in

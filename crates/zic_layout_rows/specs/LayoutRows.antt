@@ -1,6 +1,6 @@
 -- The rows of a column's records, by a layout: own choice. A record has an instant or a local time, and perhaps a zone's name. Its row has the
 -- text of what the file of that name answers at the instant, or a fault. A row with a fault ends the run, or is written without an answer, or
--- isn't written, and its record is put aside. Where rows are compared with another release, only those are written that it answers
+-- isn't written, and its record is rejected. Where rows are compared with another release, only those are written that it answers
 -- differently, with its answer at the end.
 use Rattle.std.specs.Prelude.{◌≡◌, ℕ, ◌+◌, nat_le, ℤ, pos, ◌+ℤ◌, ◌*ℤ◌, List, [], ◌∷◌, ◌++◌, length, replicate, take, Option, Some, None, Result, Ok, Err, option_map, is_some, IsSome, Contains, slice_get, Bool, true, not, ◌&&◌, if◌then◌else◌}
 use Rattle.std.specs.Fmt.{signed_decimal}
@@ -191,21 +191,21 @@ marked_text layout kind.RowFields row_record = row_record.own ++ 10 ∷ []
 marked_text layout kind.RowQuote row_record = row_record.own ++ 10 ∷ []
 marked_text layout _ row_record = timeless_text layout.start layout row_record
 
--- these bytes, where a record with a fault is not put aside, and else none
-abbrev pub unless_aside : AtFault → List ℕ → List ℕ
-unless_aside at.End bytes = bytes
-unless_aside at.GoOn bytes = bytes
-unless_aside at.Reject bytes = []
+-- these bytes, where a record with a fault is not rejected, and else none
+abbrev pub unless_rejected : AtFault → List ℕ → List ℕ
+unless_rejected at.End bytes = bytes
+unless_rejected at.GoOn bytes = bytes
+unless_rejected at.Reject bytes = []
 
 -- these bytes, where it is, and else none
-abbrev pub if_aside : AtFault → List ℕ → List ℕ
-if_aside at.End bytes = []
-if_aside at.GoOn bytes = []
-if_aside at.Reject bytes = bytes
+abbrev pub if_rejected : AtFault → List ℕ → List ℕ
+if_rejected at.End bytes = []
+if_rejected at.GoOn bytes = []
+if_rejected at.Reject bytes = bytes
 
--- what a row with a fault adds to the text of rows: nothing, where its record is put aside
+-- what a row with a fault adds to the text of rows: nothing, where its record is rejected
 abbrev pub faulty_text : Layout → RowKind → CsvRecord → List ℕ
-faulty_text layout kind row_record = unless_aside layout.at_fault (marked_text layout kind row_record)
+faulty_text layout kind row_record = unless_rejected layout.at_fault (marked_text layout kind row_record)
 
 -- The fault that ends a run: any, or only that of a record that is one too many, or of one of CSV that has too many bytes. Where each line
 -- is a record, one with too many bytes is a row with a fault as any other.
@@ -294,10 +294,10 @@ RecordsConvertBy layout releases most number (row_record ∷ row_records) [] fau
 RecordsConvertBy layout releases most number (row_record ∷ row_records) (text ∷ texts) fault =
     (ends_by layout releases.zones most number row_record ≡ None) × IsWrittenBy layout releases most number row_record text × RecordsConvertBy layout releases most (number + 1) row_records texts fault
 
--- what is noted of the record with these own bytes as the row of a number: its fault, if it has one, and the bytes, where it is put aside
+-- what is noted of the record with these own bytes as the row of a number: its fault, if it has one, and the bytes, where it is rejected
 abbrev pub noted : AtFault → ℕ → List ℕ → Option RowKind → List RowNote
 noted at_fault number own None = []
-noted at_fault number own (Some kind) = record { fault = record { row = number; kind = kind }; own = if_aside at_fault own } ∷ []
+noted at_fault number own (Some kind) = record { fault = record { row = number; kind = kind }; own = if_rejected at_fault own } ∷ []
 
 -- what is noted of records, the first of which is the row of this number, up to the row that ends the run
 abbrev pub faults_by : Layout → List File → ℕ → ℕ → List CsvRecord → List RowNote

@@ -8,7 +8,7 @@ ghost use Rattle.zic_columns.specs.Exchange.{exchanged};
 ghost use Rattle.zic_columns.specs.Record.{IsSplit, IsWithinPiece, field_text, record_at};
 ghost use Rattle.zic_plan.specs.declared.layout.RowStart.TheVariants as start;
 ghost use Rattle.zic_zones.specs.Zones.{field_at, zone_in};
-ghost use Rattle.zic_layout_rows.specs.LayoutRows.{answered, ending, faulty_text, if_aside, marked_text, timeless_text};
+ghost use Rattle.zic_layout_rows.specs.LayoutRows.{answered, ending, faulty_text, if_rejected, marked_text, timeless_text};
 ghost use Rattle.zic_layout_rows.specs.code.Batch.{wanted_by};
 
 use crate::piece::Piece;
@@ -154,11 +154,11 @@ pub fn push_own(
     Ok(())
 }
 
-/// Copies the own bytes of a faulty record, with the delimiter and commas swapped back, if it is put
-/// aside. Returns no bytes if it isn't.
-pub fn aside(alloc: Global, layout: &Layout, own: &[u8]) -> Result<Vec<u8>, AllocError>
+/// Copies the own bytes of a faulty record, with the delimiter and commas swapped back, if it is
+/// rejected. Returns no bytes if it isn't.
+pub fn rejected_bytes(alloc: Global, layout: &Layout, own: &[u8]) -> Result<Vec<u8>, AllocError>
     ensures { IfOk result (λ copy. copy.items
-        ≡ if_aside layout.now.at_fault (exchanged layout.now.delimiter own.now)) }
+        ≡ if_rejected layout.now.at_fault (exchanged layout.now.delimiter own.now)) }
 {
     let mut copy = Vec::new(alloc);
     if layout.at_fault == AtFault::Reject {
@@ -202,7 +202,7 @@ fn push_marked(
     }
 }
 
-/// Appends the row of a record with a fault, unless the record is put aside. The record has the
+/// Appends the row of a record with a fault, unless the record is rejected. The record has the
 /// delimiter and the comma in each other's place. Where memory runs out, a part of the row may be
 /// there.
 pub(crate) fn push_faulty(

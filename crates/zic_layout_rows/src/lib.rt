@@ -15,6 +15,6 @@ mod shown;
 mod start;
 mod text;
 
-pub use faulty::{aside, ends_run, push_own, put_back};
+pub use faulty::{ends_run, push_own, put_back, rejected_bytes};
 pub use piece::{Piece, rows_of_piece};
 pub use row::Rows;

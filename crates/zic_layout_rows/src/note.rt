@@ -5,11 +5,11 @@ ghost use Rattle.zic_columns.specs.Exchange.{exchanged};
 ghost use Rattle.zic_columns.specs.Lines.{exchanged_record};
 ghost use Rattle.zic_columns.specs.Record.{IsSplit, bytes_at, record_at};
 ghost use Rattle.zic_layout_rows.specs.Detail.{line_feeds_before, value_at_fault};
-ghost use Rattle.zic_layout_rows.specs.LayoutRows.{if_aside};
+ghost use Rattle.zic_layout_rows.specs.LayoutRows.{if_rejected};
 ghost use Rattle.zic_layout_rows.specs.code.Batch.{wanted_by};
 ghost use Rattle.zic_layout_rows.specs.code.Note.{ArePassed, IsNotedOf};
 
-use crate::faulty::{aside, copy_time, copy_zone};
+use crate::faulty::{copy_time, copy_zone, rejected_bytes};
 use crate::piece::Piece;
 use std::alloc::{AllocError, Global};
 use zic_base::{RowFault, RowKind};
@@ -102,7 +102,7 @@ fn detail_of(
     }))
 }
 
-/// Returns what is noted of a record with a fault: its own bytes where it is put aside, how its line
+/// Returns what is noted of a record with a fault: its own bytes where it is rejected, how its line
 /// ends, and its line and the field at fault where details are noted. The record has the delimiter and the
 /// comma in each other's place. Lines are counted on from the ones that were passed before.
 pub(crate) fn note_of(
@@ -115,11 +115,11 @@ pub(crate) fn note_of(
     requires { IsSplit piece.now.bytes.now (wanted_by piece.now.layout.now) given.now }
     ensures { IfOk result (λ row. row ≡ record {
       fault = fault;
-      own = if_aside piece.now.layout.now.at_fault (exchanged piece.now.layout.now.delimiter
+      own = if_rejected piece.now.layout.now.at_fault (exchanged piece.now.layout.now.delimiter
           (bytes_at piece.now.bytes.now given.now.own));
     }) }
 {
-    let own = aside(alloc, piece.layout, given.own.of(piece.bytes))?;
+    let own = rejected_bytes(alloc, piece.layout, given.own.of(piece.bytes))?;
     let detail = detail_of(alloc, piece, given, fault.kind, passed)?;
     Ok(FaultyRow {
         fault,

@@ -31,7 +31,7 @@ use Rattle.zic_base.specs.declared.run_stop.RunStop.{RunStop}
 use Rattle.zic_base.specs.declared.run_stop.RunStop.TheVariants as stop
 use Rattle.zic_zones.specs.declared.releases.Releases.{Releases}
 use Rattle.zic_convert.specs.Column.{AreRowRecords, header_of, names_added, own_header, own_line}
-use Rattle.zic_layout_rows.specs.LayoutRows.{RecordsConvertBy, faults_by, if_aside}
+use Rattle.zic_layout_rows.specs.LayoutRows.{RecordsConvertBy, faults_by, if_rejected}
 use Rattle.zic_convert.specs.Header.{IsHeaderFault, header_fault}
 use Rattle.zic_convert.specs.Run.{EndsAtHeader, EndsIn, Notes, Output, PassesHeader, WritesRows}
 use Rattle.zic_convert.specs.code.Row.{records_in, taken_rows}
@@ -90,9 +90,9 @@ EndsInColumn layout most limit known why out releases = IfSome known (λ column.
 abbrev pub own_line_in : Layout → List ℕ → List ℕ
 own_line_in layout column = header_of layout.start (names_added layout) layout.delimiter (exchanged layout.delimiter (own_header layout.header (texts_by layout.records (strip_bom column))))
 
--- and its own bytes alone, where records are put aside
-abbrev pub header_aside_in : Layout → List ℕ → List ℕ
-header_aside_in layout column = if_aside layout.at_fault (exchanged layout.delimiter (own_header layout.header (texts_by layout.records (strip_bom column))))
+-- and its own bytes alone, where records are rejected
+abbrev pub rejects_header_in : Layout → List ℕ → List ℕ
+rejects_header_in layout column = if_rejected layout.at_fault (exchanged layout.delimiter (own_header layout.header (texts_by layout.records (strip_bom column))))
 
 -- the own bytes of a column's header, also where it is skipped; none where it has none
 abbrev pub passed_in : Layout → List ℕ → List ℕ

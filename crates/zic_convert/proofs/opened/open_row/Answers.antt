@@ -4,7 +4,7 @@ use Rattle.zic_columns.specs.Lines.{open_record, exchanged_record}
 use Rattle.zic_columns.specs.Own.{CsvRecord}
 use Rattle.zic_plan.specs.Noted.{RowNote}
 use Rattle.zic_layout_rows.specs.PieceRows.{AreRowsOf, RowsOf}
-use Rattle.zic_layout_rows.specs.LayoutRows.{faulty_text, if_aside}
+use Rattle.zic_layout_rows.specs.LayoutRows.{faulty_text, if_rejected}
 use Rattle.zic_convert.specs.code.Row.{unless_compared}
 use Rattle.zic_convert.proofs.OpenLines.{one_ends, one_faulty, open_text, same_rows}
 use Rattle.zic_convert.proofs.opened.open_row.Goals as goal
@@ -32,7 +32,7 @@ returns c = λ releases.
     let text = c.in_ok-push.ensures ∙ ap (λ (l : List ℕ). l ++ c.deref.result.now) (ap (λ (r : RowsOf). r.text) none) ∙ c.deref.ensures.value ∙ c.in_ok-text.ensures
     ∙ ap (unless_compared layout.written) (sym (open_text layout releases.zones c.args.most c.args.number kind (exchanged d line) (is releases.zones) goes)) in
     let fault = ap (λ (r : RowsOf). r.fault) none in
-    let one : RowNote = record { fault = record { row = c.args.number; kind = kind }; own = if_aside layout.at_fault (exchanged d line) } in
+    let one : RowNote = record { fault = record { row = c.args.number; kind = kind }; own = if_rejected layout.at_fault (exchanged d line) } in
     let faults = c.in_ok-push-2.ensures.items ∙ ap₂ (λ (l : List RowNote) (n : RowNote). l ++ n ∷ []) (ap (λ (r : RowsOf). r.faults) none)
     (rw (← c.deref-own.ensures.value) at c.in_ok-note.ensures) in
     rw (← c.deref-own.ensures.value)
