@@ -85,6 +85,12 @@ for list in column utc.zi tree/Etc/UTC tree/+VERSION tree/zone1970.tab; do
         cmp -s "$list" ../before || differ "pzic convert --faults $path changed $list"
     done
 done
+"$program" build bare utc.zi
+for path in bare/+VERSION bare/zone.tab bare/../bare/+VERSION; do
+    convert --keep-going --faults "$path" --tree bare
+    refused "pzic convert --faults $path, which isn't there yet"
+    [ ! -e "$path" ] || differ "pzic convert made $path"
+done
 convert --keep-going --faults /dev/stdin utc.zi
 refused 'pzic convert --faults /dev/stdin'
 convert --keep-going --faults ../out utc.zi

@@ -150,22 +150,22 @@ module _ (law : FirstRecordIsAlone) (layout : Layout) (own : List ℕ) where
   -- of a record that a CSV reader gives
   pub read_by_mode : (files : List File) (mode : Records) → (own ≡ [] → ⊥) → AreOfOne mode own → is_open_by mode own ≡ false → (fault : Option RowKind)
       → ((given : CsvRecord) → csv_records_in layout.delimiter own ≡ given ∷ [] → fault ≡ fault_by layout files 0 0 given)
-      → header_kind layout.quotes fault ≡ header_fault layout files (map (exchanged_record layout.delimiter) (records_by mode own))
+      → header_kind fault ≡ header_fault layout files (map (exchanged_record layout.delimiter) (records_by mode own))
   read_by_mode files mode some of closed fault is = ⊎_elim
       (λ (none : own ≡ []). absurd (some none))
       (λ (one : (given : CsvRecord) × (records_by mode own ≡ given ∷ [])).
       let d = layout.delimiter in
       let here : csv_records_in d own ≡ exchanged_record d one.0 ∷ [] = ap (map (exchanged_record d)) (sym (read_same mode of closed) ∙ one.1) in
-      ap (header_kind layout.quotes) (is (exchanged_record d one.0) here) ∙ sym (ap (λ (l : List CsvRecord). header_fault layout files (map (exchanged_record d) l)) one.1))
+      ap header_kind (is (exchanged_record d one.0) here) ∙ sym (ap (λ (l : List CsvRecord). header_fault layout files (map (exchanged_record d) l)) one.1))
       of.one
 
   -- of an open line
   pub open_by_mode : (files : List File) (mode : Records) → EndsNoLine mode own → is_open_by mode own ≡ true → (kind : RowKind)
       → fault_by layout files 0 0 (exchanged_record layout.delimiter (open_record own)) ≡ Some kind
-      → header_kind layout.quotes (Some kind) ≡ header_fault layout files (map (exchanged_record layout.delimiter) (records_by mode own))
+      → header_kind (Some kind) ≡ header_fault layout files (map (exchanged_record layout.delimiter) (records_by mode own))
   open_by_mode files by.Csv ended opened kind is = absurd (cc opened)
   open_by_mode files by.Lines ended opened kind is =
-      ap (header_kind layout.quotes) (sym is) ∙ sym (ap (λ (l : List CsvRecord). header_fault layout files (map (exchanged_record layout.delimiter) l)) (law.opened own ended opened))
+      ap header_kind (sym is) ∙ sym (ap (λ (l : List CsvRecord). header_fault layout files (map (exchanged_record layout.delimiter) l)) (law.opened own ended opened))
 
 pub empty_own : (own : List ℕ) → true ≡ (length own == 0) → own ≡ []
 empty_own [] is = refl
@@ -211,7 +211,7 @@ module _ (law : FirstRecordIsAlone) (layout : Layout) (can : is_delimiter layout
   first_fault [] is = refl
   first_fault (first ∷ others) is =
       let keeps = (kept agree).zones in
-      ap (header_kind layout.quotes) (fault_same known.zones releases.zones keeps.still keeps.differ layout 0 0 first (All-head IsKnown first others is))
+      ap header_kind (fault_same known.zones releases.zones keeps.still keeps.differ layout 0 0 first (All-head IsKnown first others is))
 
   pub own_same : AreOfOne layout.records own → header_fault layout known.zones (records_in layout own) ≡ header_fault layout releases.zones (records_in layout own)
   own_same of = first_fault (records_in layout own) (known_by layout.records of)

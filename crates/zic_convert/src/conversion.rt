@@ -495,11 +495,11 @@ fn ended<R>(
 /// or is a line whose double quotes are open at its end, the row is only the record's own bytes. The log
 /// takes note of the fault, and of the record's own bytes where it is rejected, with how its line ends
 /// in the column; where the layout's `notes` are details, also of the line where the record begins, from
-/// 1, with the header and lines without a byte, and of the field at fault. A line whose double quotes are
-/// open may be the header. Where each line is a record and the run goes on at faults, no more than four
-/// bytes of a line are read beyond the most that the layout allows, and the others are dropped: they are
-/// in no row and no note. Where the run goes on at faults and `max_faults` is a number, it goes on after
-/// this many rows with a fault. The next ends the conversion, and is neither written nor noted.
+/// 1, with the header and lines without a byte, and of the field at fault. Where each line is a record and
+/// the run goes on at faults, no more than four bytes of a line are read beyond the most that the layout
+/// allows, and the others are dropped: they are in no row and no note. Where the run goes on at faults and
+/// `max_faults` is a number, it goes on after this many rows with a fault. The next ends the conversion,
+/// and is neither written nor noted.
 ///
 /// Where the layout's `written` says so, only the rows are written that another release answers
 /// differently. What it answers stands at the end of the row, in fields whose names begin with `old_`,
@@ -523,7 +523,7 @@ fn ended<R>(
 ///   Where rows with faults are written or their records are rejected, `Row` is only `TooManyRows`,
 ///   `RowTooLong` of a record of CSV, and the fault after `max_faults` others. Row 0 is the header, also
 ///   where it is skipped and where rows with faults are written: `RowTooLong` where it has more bytes than
-///   the layout allows, `RowQuote` where it has a stray double quote and the layout's quotes are strict,
+///   the layout allows, `RowQuote` where it has double quotes that a record of the layout may not have,
 ///   and `HeaderIsRow` where it names a zone that has a file, and has an instant or a local time. Only the
 ///   line of names was written then, and no fault was noted.
 /// - `ReadFailed` or `WriteFailed` where the reader or writer counted a failure. Each error of the

@@ -15,7 +15,7 @@ use zic_base::{RowKind, RunStop};
 use zic_columns::laws::first_record_is_alone;
 use zic_columns::{OnePiece, is_open_line};
 use zic_layout_rows::{Piece, rows_of_piece};
-use zic_plan::{Header, Layout, Plan, Quotes, Records};
+use zic_plan::{Header, Layout, Plan, Records};
 use zic_rows::RowText;
 use zic_zones::{Releases, Zones};
 
@@ -28,18 +28,15 @@ pub(crate) struct ReadBy<'a> {
 }
 
 /// Returns why a record is no header, if it is none, by the fault that it would have as a row.
-fn header_kind(quotes: Quotes, fault: Option<RowKind>) -> Option<RowKind>
-    ensures { result ≡ header_kind quotes fault }
+fn header_kind(fault: Option<RowKind>) -> Option<RowKind>
+    ensures { result ≡ header_kind fault }
 {
     match fault {
         None | Some(RowKind::RowRange | RowKind::RowSkipped | RowKind::RowRepeated) => {
             Some(RowKind::HeaderIsRow)
         }
         Some(RowKind::RowTooLong) => Some(RowKind::RowTooLong),
-        Some(RowKind::RowQuote) => match quotes {
-            Quotes::Strict => Some(RowKind::RowQuote),
-            Quotes::Lenient => None,
-        },
+        Some(RowKind::RowQuote) => Some(RowKind::RowQuote),
         Some(_) => None,
     }
 }
@@ -102,7 +99,7 @@ pub(crate) fn header_fault(
     } else {
         record_fault(alloc, layout, releases, own)?
     };
-    Ok(header_kind(layout.quotes, fault))
+    Ok(header_kind(fault))
 }
 
 /// Makes the zone ready that a header names, and checks that the header has no fault. The own bytes of the

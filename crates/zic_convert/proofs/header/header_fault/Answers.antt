@@ -15,8 +15,8 @@ returns c = λ of.
     let own = c.args.own.now in
     let some = some_own own c.if-is_empty.ensures in
     elim c.if-is_open.branch [
-      | then-is_open w ↦ c.header_kind.ensures ∙ ap (header_kind layout.quotes) w.fault-is
+      | then-is_open w ↦ c.header_kind.ensures ∙ ap header_kind w.fault-is
           ∙ open_by_mode law layout own files layout.records of.ended (sym (c.is_open.ensures of.ended) ∙ w.if-is_open.true) w.open_kind.result (w.open_kind.ensures files)
-      | else-is_open+in_ok-fault w ↦ c.header_kind.ensures ∙ ap (header_kind layout.quotes) w.fault-is
+      | else-is_open+in_ok-fault w ↦ c.header_kind.ensures ∙ ap header_kind w.fault-is
           ∙ read_by_mode law layout own files layout.records some of (sym (c.is_open.ensures of.ended) ∙ w.if-is_open.false) w.in_ok-fault.fault w.in_ok-fault.ensures
     ]
