@@ -458,12 +458,12 @@ typedef struct pzic_row_fault {
  * instant, local time, the UT offset, the daylight flag and the abbreviation. Instants of rows are from
  * -62,135,510,400 to 253,402,214,399, the years 1 to 9999 but for their first and last day. A
  * column may be given in pieces that end with a line end outside quotes; each is a column of its own.
- * It may have 100,000,000 rows and 4,294,967,296 bytes. What `rows` held before is freed first.
+ * It may have 100,000,000 rows. What `rows` held before is freed first.
  *
  * PZIC_OK         `rows` holds the rows
  * PZIC_BAD_ROW    *fault is the first row that has a fault, and `rows` holds the rows before it
  * PZIC_NO_HANDLE  `files` holds no files; `rows` holds nothing
- * PZIC_NO_MEMORY  memory is refused, or the column has more bytes; `rows` holds nothing
+ * PZIC_NO_MEMORY  `rows` holds nothing
  *
  * *fault is written by PZIC_BAD_ROW alone.
  */

@@ -10,6 +10,7 @@ pub mod Heads
 pub mod InMemory
 pub mod Joining
 pub mod Logs
+pub mod Adding
 pub mod Once
 pub mod Options
 pub mod Plain
@@ -23,7 +24,5 @@ pub mod Staying
 pub mod Stops
 pub mod TooMany
 pub mod Totals
-pub mod Walks
-pub mod InOrder
 pub mod PieceRecords
 pub mod Writings

@@ -41,7 +41,7 @@ use Rattle.zic_convert.proofs.Totals.{all_come}
 use Rattle.zic_convert.proofs.PieceRecords.{comma_fields_in}
 
 module _ (alike : PlainColumnsConvertAlike) (layout : Layout) (plain : HasPlainRows layout) (none : layout.header ≡ header.Absent) (files : List File) (most : ℕ) where
-  pub no_header : (column : List ℕ) → header_text layout column ≡ []
+  no_header : (column : List ℕ) → header_text layout column ≡ []
   no_header column = rw (plain.start, none) refl
 
   no_names : names_line layout ≡ []

@@ -1,16 +1,18 @@
-//! Converts plain columns in memory.
+//! Converts columns in memory.
 
-ghost use Rattle.std.specs.Prelude.{◌≡◌, ◌+◌, ◌≤◌, IfOk, length, option_map};
-ghost use Rattle.zic_base.specs.declared.row_fault.RowFault.{RowFault};
+ghost use Rattle.std.specs.Prelude.{◌≡◌, ◌+◌, ◌≤◌, IfOk, length};
 ghost use Rattle.zic_convert.specs.Column.{AreRowsOfColumn};
 
-use crate::laws::plain_columns_convert_alike;
-use crate::memory::rows_by_layout;
+use crate::pieces::room_for;
 use std::alloc::{AllocError, Global};
-use zic_base::{RowFault, RowKind};
-use zic_columns::laws::{column_records_are_read, delimited_records_are_one};
+use zic_base::RowKind;
+use zic_columns::laws::column_records_are_read;
+use zic_columns::without_mark;
 use zic_files::Files;
-use zic_plan::{Header, Layout, MAX_BYTES, MAX_OF_PIECE, Plan};
+use zic_layout_rows::{Piece, rows_of_piece};
+use zic_plan::{Header, Layout};
+use zic_rows::RowText;
+use zic_zones::{Releases, SourceZones, Zones};
 
 /// The rows of a column up to the first that has a fault: their text, their number, and that fault.
 #[derive(Drop)]
@@ -20,14 +22,21 @@ pub struct ColumnRows {
     pub fault: Option<RowKind>,
 }
 
-/// Returns the kind of a fault.
-fn kind_of(fault: Option<RowFault>) -> Option<RowKind>
-    ensures { result ≡ option_map (λ (fault : RowFault). fault.kind) fault }
+/// The least length of a column, in bytes, that is taken to have many rows.
+const MANY_ROWS: usize = 65_536;
+
+/// Makes the zones of files ready for a column of this length in bytes.
+pub(crate) fn zones_for(
+    alloc: Global,
+    files: &Files,
+    len: usize,
+) -> Result<SourceZones<'_>, AllocError>
+    ensures { IfOk result (λ zones. zones ≡ files.now) }
 {
-    match fault {
-        Some(fault) => Some(fault.kind),
-        None => None,
+    if len < MANY_ROWS {
+        return SourceZones::new(alloc, files);
     }
+    SourceZones::for_many_rows(alloc, files)
 }
 
 /// Converts a column in memory on the calling thread, to the rows of [`crate::convert`]. Returns
@@ -35,8 +44,7 @@ fn kind_of(fault: Option<RowFault>) -> Option<RowKind>
 ///
 /// # Errors
 ///
-/// Fails where memory is refused, or where the column has more bytes, or may have more rows, than those
-/// of any plan.
+/// Fails where memory is refused.
 pub fn rows_of_column(
     alloc: Global,
     files: &Files,
@@ -47,17 +55,42 @@ pub fn rows_of_column(
         AreRowsOfColumn files.now max_rows column.now rows.text.items rows.count rows.fault) }
     ensures few { IfOk result (λ rows. rows.count ≤ length column.now + 1) }
 {
+    let zones = zones_for(alloc, files, column.len())?;
+    let answer = rows_by(alloc, &zones, max_rows, column);
+    drop(zones);
+    answer
+}
+
+/// Converts a column in memory by these zones.
+fn rows_by(
+    alloc: Global,
+    zones: &SourceZones<'_>,
+    max_rows: u64,
+    column: &[u8],
+) -> Result<ColumnRows, AllocError>
+    ensures rows { IfOk result (λ rows.
+        AreRowsOfColumn zones.now max_rows column.now rows.text.items rows.count rows.fault) }
+    ensures few { IfOk result (λ rows. rows.count ≤ length column.now + 1) }
+{
     column_records_are_read();
-    delimited_records_are_one();
-    plain_columns_convert_alike();
+    let Releases {
+        zones: row_zones,
+        old,
+    } = zones.ready();
     let layout = Layout::plain(Header::Absent);
-    let Some(plan) = Plan::new(1, 1, MAX_OF_PIECE, max_rows, MAX_BYTES) else {
-        return Err(AllocError);
+    let piece = Piece {
+        bytes: without_mark(column),
+        zones: &row_zones,
+        layout: &layout,
+        first: 1,
+        most: max_rows,
+        lines_before: None,
     };
-    let rows = rows_by_layout(alloc, files, &plan, &layout, column)?;
+    let text = RowText::with_capacity(alloc, room_for(column.len()))?;
+    let rows = rows_of_piece(alloc, &piece, &old, text)?;
     Ok(ColumnRows {
-        text: rows.text,
+        text: rows.text.into_bytes(),
         count: rows.count,
-        fault: kind_of(rows.fault),
+        fault: rows.fault,
     })
 }

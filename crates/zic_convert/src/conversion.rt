@@ -19,11 +19,9 @@ ghost use Rattle.zic_convert.specs.code.Halt.{IsCauseOfHalt, IsCauseWith, IsEnd,
 ghost use Rattle.zic_convert.specs.code.Progress.{BeginsRows, ConvertsColumn, ConvertsRest};
 ghost use Rattle.zic_convert.specs.code.Progress.{EndsInColumn, EndsInRest, HaltsAtBegin, HaltsAtHead, HaltsAtHeader};
 ghost use Rattle.zic_convert.specs.code.Progress.{EndsAtTaking, EndsInTaken, TakesNext, WritesTaken, rejects_header_in, header_fault_in, longest_of, own_line_in, passed_in};
-ghost use Rattle.zic_convert.specs.code.Pieces.{AreConverted, IsCrew};
 ghost use Rattle.zic_convert.specs.code.Row.{taken_rows};
 ghost use Rattle.zic_convert.specs.code.Written.{EndsInRecords, WritesRecords};
 
-use crate::crew::{Converting, PieceRows, rows_by_workers};
 use crate::halt::Halt;
 use crate::header::{ReadBy, check_header, kept_of};
 use crate::laws::plain_columns_convert_alike;
@@ -99,8 +97,8 @@ fn round_len(plan: &Plan) -> usize {
 /// # Errors
 ///
 /// `Unread` where the column can't be read on, before any zone is requested, or `Memory`.
-fn next_round<F, Z: Zones, R: Read>(
-    conversion: &Converting<'_, F>,
+fn next_round<T, G, Z: Zones, R: Read>(
+    conversion: &Conversion<'_, T, G>,
     zones: &mut Z,
     column: &mut Column<R>,
 ) -> Result<Taken, Halt>
@@ -136,15 +134,14 @@ struct NextRows<'a> {
 /// # Errors
 ///
 /// `Memory`, or what ends a round.
-fn convert_ready<F: Fn(&RowPieces<'_, '_>) -> PieceRows, Z: Zones, W: Write, L: RowLog>(
-    conversion: &Converting<'_, F>,
+fn convert_ready<T: Threads + Wait + Sync, G: Gate + Sync, Z: Zones, W: Write, L: RowLog>(
+    conversion: &Conversion<'_, T, G>,
     zones: &Z,
     round: Round<'_>,
     next: &NextRows<'_>,
     writer: &mut Counted<W>,
     log: &mut L,
 ) -> Result<Tally, RunStop>
-    requires crew { IsCrew (F.pre conversion.now.crew.now) (F.post conversion.now.crew.now) }
     requires least { 1 ≤ next.now.first }
     requires first { next.now.first ≤ MAX_ROWS + 1 }
     requires some { next.now.taken.now ≡ Taken.End → ⊥ }
@@ -182,15 +179,14 @@ fn convert_ready<F: Fn(&RowPieces<'_, '_>) -> PieceRows, Z: Zones, W: Write, L: 
 /// # Errors
 ///
 /// As [`convert_ready`], or `Row` at a record that has more bytes than the layout allows.
-fn convert_taken<F: Fn(&RowPieces<'_, '_>) -> PieceRows, Z: Zones, W: Write, L: RowLog>(
-    conversion: &Converting<'_, F>,
+fn convert_taken<T: Threads + Wait + Sync, G: Gate + Sync, Z: Zones, W: Write, L: RowLog>(
+    conversion: &Conversion<'_, T, G>,
     zones: &Z,
     round: Round<'_>,
     next: &NextRows<'_>,
     writer: &mut Counted<W>,
     log: &mut L,
 ) -> Result<Option<Tally>, RunStop>
-    requires crew { IsCrew (F.pre conversion.now.crew.now) (F.post conversion.now.crew.now) }
     requires least { 1 ≤ next.now.first }
     requires first { next.now.first ≤ MAX_ROWS + 1 }
     requires few { length round ≤ MAX_ROUND_PIECES }
@@ -227,15 +223,14 @@ fn convert_taken<F: Fn(&RowPieces<'_, '_>) -> PieceRows, Z: Zones, W: Write, L: 
 ///
 /// `Unread` where the column can't be read on, `Memory`, or what ends a round. A record that is longer
 /// than the layout allows and ends the run does so even where it isn't read to its end.
-fn convert_rounds<F: Fn(&RowPieces<'_, '_>) -> PieceRows, Z: Zones, R: Read, W: Write, L: RowLog>(
-    conversion: &Converting<'_, F>,
+fn convert_rounds<T: Threads + Wait + Sync, G: Gate + Sync, Z: Zones, R: Read, W: Write, L: RowLog>(
+    conversion: &Conversion<'_, T, G>,
     zones: &mut Z,
     column: &mut Column<R>,
     writer: &mut Counted<W>,
     log: &mut L,
 ) -> Result<u64, Halt>
-    requires crew { IsCrew (F.pre conversion.now.crew.now) (F.post conversion.now.crew.now) }
-    requires by { column.old.by ≡ conversion.now.layout.now.records }
+    requires { column.old.by ≡ conversion.now.layout.now.records }
     ensures grown { IfOk result (λ _. Z.grown zones.old zones.new) }
     ensures all { (releases : Releases) → Z.may_be zones.new releases → IfOk result (λ n. ConvertsRest
         conversion.now.layout.now conversion.now.plan.now.max_rows conversion.now.max_faults
@@ -343,7 +338,7 @@ fn begin_column<R: Read + Drop>(by: &ReadBy<'_>, reader: R) -> Result<BegunColum
 /// # Errors
 ///
 /// As [`pass_header`] and [`check_header`], or `WriteFailed`.
-fn begin_rows<Z: Zones, R: Read + Drop, W: Write, L: RowLog>(
+pub(crate) fn begin_rows<Z: Zones, R: Read + Drop, W: Write, L: RowLog>(
     by: &ReadBy<'_>,
     zones: &mut Z,
     reader: R,
@@ -384,20 +379,20 @@ fn begin_rows<Z: Zones, R: Read + Drop, W: Write, L: RowLog>(
 /// # Errors
 ///
 /// As [`convert_rounds`].
-pub(crate) fn convert_rows<
-    F: Fn(&RowPieces<'_, '_>) -> PieceRows,
+fn convert_rows<
+    T: Threads + Wait + Sync,
+    G: Gate + Sync,
     Z: Zones,
     R: Read + Drop,
     W: Write,
     L: RowLog,
 >(
-    conversion: &Converting<'_, F>,
+    conversion: &Conversion<'_, T, G>,
     zones: &mut Z,
     reader: R,
     writer: &mut Counted<W>,
     log: &mut L,
 ) -> Result<u64, Halt>
-    requires crew { IsCrew (F.pre conversion.now.crew.now) (F.post conversion.now.crew.now) }
     ensures grown { IfOk result (λ _. Z.grown zones.old zones.new) }
     ensures all { (releases : Releases) → Z.may_be zones.new releases → IfOk result (λ n. ConvertsColumn
         conversion.now.layout.now conversion.now.plan.now.max_rows conversion.now.max_faults
@@ -580,18 +575,7 @@ pub fn convert_column<
     let failures = reader.failures();
     let taken = reader.taken();
     write_names(writer, conversion.layout)?;
-    let crew = |pieces: &RowPieces<'_, '_>| -> PieceRows
-        requires { length pieces.now.pieces ≤ MAX_ROUND_PIECES }
-        ensures { AreConverted pieces.entry.now result }
-    { rows_by_workers(conversion, pieces) };
-    let converting = Converting {
-        crew: &crew,
-        alloc: conversion.alloc,
-        plan: conversion.plan,
-        layout: conversion.layout,
-        max_faults: conversion.max_faults,
-    };
-    let outcome = convert_rows(&converting, zones, &mut *reader, writer, log);
+    let outcome = convert_rows(conversion, zones, &mut *reader, writer, log);
     ended(
         outcome,
         reader,

@@ -3,15 +3,12 @@
 
 mod column;
 mod conversion;
-mod crew;
 mod halt;
 mod header;
 pub mod laws;
 mod log;
 mod long;
 mod memory;
-mod noted;
-mod notes;
 mod opened;
 mod output;
 mod pieces;

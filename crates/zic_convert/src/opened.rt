@@ -11,7 +11,7 @@ ghost use Rattle.zic_layout_rows.specs.LayoutRows.{fault_by, if_rejected, unless
 ghost use Rattle.zic_layout_rows.specs.PieceRows.{AreRowsOf};
 ghost use Rattle.zic_convert.specs.code.Written.{EndsInRecords, WritesRecords};
 
-use crate::crew::Converting;
+use crate::conversion::Conversion;
 use crate::output::{stop_at, write_rows};
 use crate::tally::{Tally, left_after};
 use std::alloc::{AllocError, Global};
@@ -88,7 +88,7 @@ fn open_note(
 
 /// Returns the row of an open line, which has a fault, or the fault that ends the run there. The line is
 /// the row of this number, and has the delimiter and the comma in each other's place.
-fn open_row(
+pub(crate) fn open_row(
     alloc: Global,
     layout: &Layout,
     most: u64,
@@ -122,8 +122,8 @@ fn open_row(
 ///
 /// `Row` where the fault ends the run or is one too many, `Memory`, `WriteFailed`, or `LogFailed` once
 /// the row is written.
-pub(crate) fn write_open_line<F, W: Write, L: RowLog>(
-    conversion: &Converting<'_, F>,
+pub(crate) fn write_open_line<T, G, W: Write, L: RowLog>(
+    conversion: &Conversion<'_, T, G>,
     line: &TakenLine,
     number: u64,
     left: Option<u64>,

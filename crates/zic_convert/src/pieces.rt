@@ -205,7 +205,7 @@ impl<'a, 's> Task for RowPieces<'a, 's> {
 
 /// Returns the number of bytes to reserve for the rows of a piece of `len` bytes. Rows mostly have
 /// less than three bytes for each of their records.
-fn room_for(len: usize) -> usize {
+pub(crate) fn room_for(len: usize) -> usize {
     len.min(GREATEST_ROOM)
         .saturating_mul(3)
         .clamp(LEAST_ROOM, GREATEST_ROOM)

@@ -11,7 +11,7 @@ use Rattle.zic_convert.proofs.conversion.convert_rounds.Goals as goal
 
 pub rounds-init : goal.rounds-init
 rounds-init g c = record {
-  by = c.requires.by;
+  by = c.requires;
   within = search rules;
   failures = refl;
   began = refl;

@@ -15,7 +15,7 @@ write_rows-requires g c =
     omega (arith, few p.layout p.releases p.most p.first (records_of_all p.layout.delimiter p.pieces) (joined rows) all, few_records p sound, sound.first, c.first-first.ensures.first)
 
 pub end_at_fault-requires-clause-fault : goal.end_at_fault-requires-clause-fault
-end_at_fault-requires-clause-fault g c =
+end_at_fault-requires-clause-fault g c κs within =
     (c.args.left, (joined c.args.rows.now, joined_round c.args.pieces.now c.args.rows.now c.first-first.ensures.sound c.requires.values, c.in-Err.ensures.err.0, c.in-Err.ensures.err.1))
 
 pub returns-in-Ok-write_rows-clause-ok : goal.returns-in-Ok-write_rows-clause-ok
