@@ -85,9 +85,9 @@ for list in column utc.zi tree/Etc/UTC tree/+VERSION tree/zone1970.tab; do
         cmp -s "$list" ../before || differ "pzic convert --faults $path changed $list"
     done
 done
-"$program" build bare utc.zi
-for path in bare/+VERSION bare/zone.tab bare/../bare/+VERSION; do
-    convert --keep-going --faults "$path" --tree bare
+"$program" build released utc.zi
+for path in released/+VERSION released/zone.tab released/../released/+VERSION; do
+    convert --keep-going --faults "$path" --tree released
     refused "pzic convert --faults $path, which isn't there yet"
     [ ! -e "$path" ] || differ "pzic convert made $path"
 done
