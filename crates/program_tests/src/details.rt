@@ -191,7 +191,7 @@ fn open_and_long_lines_are_noted(rt: HostRuntime) {
     let case = Case {
         files: &files,
         layout: &layout,
-        column: b"z,\"i\r\nEtc/UTC,\"0\r\nEtc/UTC,y\n\nEtc/UTC,012345678901234567890\r\nEtc/UTC,0\nEtc/UTC,\"",
+        column: b"z,i\r\nEtc/UTC,\"0\r\nEtc/UTC,y\n\nEtc/UTC,012345678901234567890\r\nEtc/UTC,0\nEtc/UTC,\"",
         max_faults: None,
     };
     let want = b"1 RowQuote 2 CrLf |2 RowInstant 3 Lf y|3 RowTooLong 5 CrLf |5 RowQuote 7 Lf |";
