@@ -70,8 +70,8 @@ class BadSource(ValueError):
 
 
 class BadRow(ValueError):
-    """A column with a row that has a fault. ``row`` is the number of the first, from 1, ``kind`` the
-    name of the fault's kind, and ``rows`` are the rows before it."""
+    """A column with a row that has a fault. ``row`` is the number of the first, from 1, or 0 of a
+    header, ``kind`` the name of the fault's kind, and ``rows`` are the rows before it."""
 
     __module__ = "pzic"
 

@@ -37,7 +37,7 @@ class Layout(NamedTuple):
     with their records by ``append``, and rows with faults are written by ``keep_going``. By the
     ``style`` ``"iso"`` local time and the UT offset are one field, and else two. A record has at most
     ``max_record`` bytes, without its line end; a longer one has the fault ``RowTooLong``, which ends the run
-    unless records are lines and ``keep_going`` is set, and a longer header raises :class:`MemoryError`. By the
+    unless records are lines and ``keep_going`` is set, and a longer header is row 0. By the
     ``quotes`` ``"strict"`` a record has the fault ``RowQuote`` whose double quotes are open at its end, or in which a
     byte follows those of a field, and by ``"lenient"`` the field goes on; ``None`` is lenient for the layout of no
     words, and else strict.
