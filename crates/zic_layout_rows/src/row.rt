@@ -51,11 +51,11 @@ impl Model for Rows {
     ghost view = { λ r. record { text = r.text; count = r.count; fault = r.fault; faults = r.faults.items } };
 }
 
-/// What is kept from one row out of the common to the next.
+/// What rows by the slow path keep for the next.
 #[derive(Drop)]
 pub(crate) struct RowPen {
     pub(crate) alloc: Global,
-    /// The text of the last state of which none was at hand.
+    /// The text of the last state of which the tables have none.
     made: StateText,
     /// The number of the file that shows that state. `None` before the first.
     file: Option<usize>,
@@ -87,7 +87,8 @@ impl RowPen {
         }
     }
 
-    /// Makes the text of a state of a file, which the file shows at some second, if none is at hand.
+    /// Makes the text of a state of a file, which the file shows at some second, if the tables have
+    /// none.
     #[inline(always)]
     pub(crate) fn show(&mut self, piece: &Piece<'_, '_>, file: usize, state: FoundState<'_>)
         requires within { file < length piece.now.zones.now }
@@ -108,7 +109,7 @@ impl RowPen {
         self.state = number;
     }
 
-    /// Returns the text of a state: the one at hand, or the last that was made.
+    /// Returns the text of a state: that of the tables, or the last that was made.
     #[inline(always)]
     pub(crate) fn text<'s>(&'s self, state: FoundState<'s>) -> &'s StateText
         ensures { result.now ≡ state_found self.now.made state.entry }

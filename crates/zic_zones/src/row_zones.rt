@@ -173,7 +173,8 @@ impl<'a> RowZones<'a> {
         }
     }
 
-    /// Returns the text of a state of a file, by the number of the state, where one is at hand.
+    /// Returns the text of a state of a file, by the number of the state, if the tables
+    /// have one.
     #[inline(always)]
     pub fn text(&self, file: usize, number: usize) -> Option<&'a StateText>
         requires { file < length self.now }
