@@ -31,7 +31,7 @@ pub fn write_all<W: Write>(writer: &mut Counted<W>, bytes: &[u8]) -> Result<(), 
     Ok(())
 }
 
-/// Has the writer pass on what it holds back.
+/// Flushes the writer.
 ///
 /// # Errors
 ///

@@ -4,4 +4,3 @@ pub mod LineLemmas
 pub mod ListLemmas
 pub mod OutputLemmas
 pub mod SourceLemmas
-pub mod Walks

@@ -47,7 +47,7 @@ abbrev pub line_end_bytes : LineEnd → List ℕ
 line_end_bytes ends.Lf = 10 ∷ []
 line_end_bytes ends.CrLf = 13 ∷ 10 ∷ []
 
--- the line of a record that was put aside, where its line end is left open: its own bytes, and the line end
+-- the line of a record that was rejected, where its line end is left open: its own bytes, and the line end
 abbrev pub IsRecordLine : List ℕ → List ℕ → Type 0
 IsRecordLine own text = (line_end : LineEnd) × (text ≡ own ++ line_end_bytes line_end)
 
@@ -61,7 +61,7 @@ abbrev pub header_line : List ℕ → List ℕ
 header_line [] = []
 header_line (byte ∷ own) = (byte ∷ own) ++ 10 ∷ []
 
--- What stands before the records that are put aside: the line of the header, and nothing where there is no record. It is open where the
+-- What stands before the rejected records: the line of the header, and nothing where there is no record. It is open where the
 -- header isn't known, since memory to keep it was refused or it came after a record.
 abbrev pub IsHead : Option (List ℕ) → List RowNote → List ℕ → Type 0
 IsHead None noted head = Unit {0}
@@ -104,7 +104,7 @@ HasText contents start file text = IfSome file (λ f. Appends start (contents f.
 abbrev pub HasLines : {W : Type 0} → (W → Option (List ℕ)) → FaultNotes W → Type 0
 HasLines contents notes = (text : List ℕ) × AreLines (IsFaultLine notes.fields) notes.noted text × HasText contents notes.faults.start notes.faults.file text
 
--- what the file of records holds grew by the line of the header, once, and by the lines of just the records that were put aside
+-- what the file of records holds grew by the line of the header, once, and by the lines of just the rejected records
 abbrev pub HasRejects : {W : Type 0} → (W → Option (List ℕ)) → FaultNotes W → Type 0
 HasRejects contents notes = (head : List ℕ) × (text : List ℕ) × IsHead notes.header notes.noted head × AreLines (λ note. IsRecordLine note.own) notes.noted text
     × HasText contents notes.rejects.start notes.rejects.file (head ++ text)

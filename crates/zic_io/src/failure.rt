@@ -25,7 +25,7 @@ pub enum Failure {
     /// Some rows have faults: the first of them, and how many: `row N: NAME`, and on a second line
     /// `COUNT rows with faults`, or `1 row with a fault`.
     Rows { row: u64, kind: RowKind, count: u64 },
-    /// The same, where the records of these rows are put aside.
+    /// The same, where the records of these rows are rejected.
     Rejected { row: u64, kind: RowKind, count: u64 },
     /// A column has more bytes than it may: `column: ColumnTooLong`.
     ColumnTooLong,
@@ -55,7 +55,7 @@ pub enum Failure {
 impl Failure {
     /// Returns the status of a program that ends with the failure: 1 for a fault of what is read,
     /// 2 for a zone that isn't there, 3 for what can't be read or written, 4 where memory ran out or no
-    /// thread could be started, 5 where records were put aside.
+    /// thread could be started, 5 where records were rejected.
     pub fn status(&self) -> u8
         ensures { result ≡ status_of self.now }
     {

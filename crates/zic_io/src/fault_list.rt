@@ -4,13 +4,12 @@ ghost use Rattle.std.specs.Prelude.{◌≡◌, IfSome};
 
 use crate::fault_line::{FaultFields, push_fault, push_header, push_header_at_first, push_record};
 use crate::list_output::ListOutput;
-use crate::noted::Noted;
 use std::alloc::Global;
 use std::io::Write;
 use std::marker::Model;
 use std::mem;
 use zic_base::RowFault;
-use zic_plan::{FaultyRow, RowLog};
+use zic_plan::{FaultyRow, Noted, RowLog};
 
 /// Takes note of rows with a fault: counts them, keeps the first fault, and writes each into two files,
 /// where there are such. Into the one goes a line with the number of the row, the name of the fault
@@ -26,8 +25,8 @@ pub struct FaultList<W: Write> {
     header: Option<Vec<u8>>,
     first: Option<RowFault>,
     count: u64,
-    /// Whether a row was noted that the files may hold back.
-    holds_back: bool,
+    /// Whether a row was noted since the files were flushed.
+    unflushed: bool,
     faults: ListOutput<W>,
     rejects: ListOutput<W>,
     /// What was noted, and what the file of faults held before.
@@ -79,7 +78,7 @@ impl<W: Write> FaultList<W> {
             header: Some(Vec::new(alloc)),
             first: None,
             count: 0,
-            holds_back: false,
+            unflushed: false,
             faults: ListOutput::new(faults),
             rejects: ListOutput::new(rejects),
             noted,
@@ -101,7 +100,7 @@ impl<W: Write> FaultList<W> {
         self.count
     }
 
-    /// Has the file of faults pass on what it holds back. Returns true only if the lines of all faults
+    /// Flushes the file of faults. Returns true only if the lines of all faults
     /// were written, where there is a file, and false only if a failure of the file was counted.
     pub fn finish_faults(&mut self) -> bool
         ensures lines { IsTrue result → HasLines W.contents self.new }
@@ -115,7 +114,7 @@ impl<W: Write> FaultList<W> {
         self.faults.finish()
     }
 
-    /// Has the file of records pass on what it holds back. Returns true only if all records were
+    /// Flushes the file of records. Returns true only if all records were
     /// written below their header, where there is a file, and false only if a failure of the file was
     /// counted.
     pub fn finish_rejects(&mut self) -> bool
@@ -179,7 +178,7 @@ impl<W: Write> RowLog for FaultList<W> {
         push_header_at_first(&mut self.rejects, self.first, &self.header);
         self.first = self.first.or(Some(row.fault));
         self.count = self.count.saturating_add(1);
-        self.holds_back = true;
+        self.unflushed = true;
         self.noted = self.noted.and(row);
         push_fault(&mut self.faults, self.fields, row);
         push_record(&mut self.rejects, &row.own, row.line_end);
@@ -195,10 +194,10 @@ impl<W: Write> RowLog for FaultList<W> {
         ensures faults { IsSameList self.old.faults self.new.faults }
         ensures rejects { IsSameList self.old.rejects self.new.rejects }
     {
-        if self.holds_back {
+        if self.unflushed {
             let _ = self.faults.finish();
             let _ = self.rejects.finish();
-            self.holds_back = false;
+            self.unflushed = false;
         }
         !self.faults.has_failed && !self.rejects.has_failed
     }

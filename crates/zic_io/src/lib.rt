@@ -11,7 +11,6 @@ pub mod laws;
 mod link_kind;
 mod list_file;
 mod list_output;
-mod noted;
 mod output;
 mod progress;
 mod sources;

@@ -126,8 +126,8 @@ impl<'a, F: FileSystem> ListFile<'a, F> {
         Ok(())
     }
 
-    /// Has the system write what it holds back of the file if it is a regular one, since no error is
-    /// reported when a file is closed, and gives it its path.
+    /// Writes the file to its disk if it is a regular one, since no error is reported when a file is
+    /// closed, and gives it its path.
     ///
     /// # Errors
     ///
@@ -180,7 +180,7 @@ fn empty<O: OpenFile>(file: &O) -> io::Result<()> {
     Ok(())
 }
 
-/// Has the system write what it holds back of a file if it is a regular one.
+/// Writes a file to its disk if it is a regular one.
 fn synchronize<O: OpenFile>(file: &O) -> io::Result<()> {
     if file.metadata()?.is_file() {
         file.sync_data()?;

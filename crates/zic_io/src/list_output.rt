@@ -46,7 +46,7 @@ impl<W: Write> ListOutput<W> {
         }
     }
 
-    /// Has the file pass on what it holds back. Returns whether all was written, or there is no file.
+    /// Flushes the file. Returns whether all was written, or there is no file.
     pub(crate) fn finish(&mut self) -> bool
         ensures keeps { (start : Option (List ℕ)) (text : List ℕ) → IsFileOf W.contents start text self.old
             → IsFileOf W.contents start text self.new }

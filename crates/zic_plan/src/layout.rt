@@ -125,9 +125,9 @@ pub enum AtFault {
     /// It is written without local time, and the conversion goes on. A row more than there may be ends
     /// it, and so does a record of CSV of more bytes than it may have. A longer line is written in part.
     GoOn,
-    /// It isn't written, its record is put aside, and the conversion goes on. A row more than there may
-    /// be ends it, and so does a record of CSV of more bytes than it may have. A longer line is put aside
-    /// in part.
+    /// It isn't written, its record is rejected, and the conversion goes on. A row more than there may be
+    /// ends it, and so does a record of CSV of more bytes than it may have. Of a longer line a part is
+    /// rejected.
     Reject,
 }
 

@@ -4,6 +4,7 @@
 mod delimiter;
 mod disambiguation;
 mod layout;
+mod noted;
 mod plan;
 mod row_log;
 
@@ -13,5 +14,6 @@ pub use layout::{
     AtFault, FieldCount, Header, Layout, Notes, Quotes, Records, RowStart, Style, TimeFrom, Unit,
     Written, ZoneFrom,
 };
+pub use noted::Noted;
 pub use plan::{MAX_BYTES, MAX_OF_PIECE, MAX_ROWS, MAX_WORKERS, Plan};
 pub use row_log::{FaultDetail, FaultyRow, LineEnd, RowLog, Unnoted};

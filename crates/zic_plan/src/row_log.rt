@@ -3,7 +3,7 @@
 use std::marker::Model;
 use zic_base::RowFault;
 
-/// How the line of a record ends that is put aside.
+/// How the line of a rejected record ends.
 #[derive(Clone, Copy, Debug, PartialEq, Eq)]
 pub enum LineEnd {
     /// With a line feed.
@@ -21,7 +21,7 @@ pub struct FaultDetail {
     pub value: Vec<u8>,
 }
 
-/// A row with a fault, and the own bytes of its record, where that is put aside, or none.
+/// A row with a fault, and the own bytes of its record if that is rejected, or none.
 #[derive(Debug, Drop)]
 pub struct FaultyRow {
     pub fault: RowFault,
@@ -55,8 +55,7 @@ pub trait RowLog {
     // what was noted could not be written
     ghost failed: { Self → Type 0 } = { λ _. ⊥ };
 
-    /// Takes note of the own bytes of the header before the records that are put aside; empty if there
-    /// is none.
+    /// Takes note of the own bytes of the header before the rejected records; empty if there is none.
     fn begin(&mut self, header: &[u8])
         ensures noted { noted self.new ≡ noted self.old }
         ensures began { IfSome (began self.new) (λ own. own ≡ header.now) };

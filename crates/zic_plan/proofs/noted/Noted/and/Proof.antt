@@ -28,12 +28,12 @@ use denote.Triple.Table.{entered}
 use denote.Triple.Walked.{says, Stays, stay_dropped, walk_of, ends_at, walk_Meets, Goes-dropped}
 use Rattle.std.specs.contracts.marker.PhantomData as Mark
 use Rattle.zic_plan.specs.contracts.row_log.FaultyRow as FaultyRow
-use Rattle.zic_io.proofs.Walks.{none, one, one_made}
-use Rattle.zic_io.specs.contracts.noted.Noted as Noted
-use Rattle.zic_io.specs.contracts.noted.Noted.and as F
-use Rattle.zic_io.specs.contracts.noted.Noted.and.Key.{name as #self}
-use Rattle.zic_io.proofs.noted.Noted.and.Statement as stated
-use Rattle.zic_io.proofs.noted.Noted.and.Code as code
+use Rattle.zic_plan.proofs.Walks.{none, one, one_made}
+use Rattle.zic_plan.specs.contracts.noted.Noted as Noted
+use Rattle.zic_plan.specs.contracts.noted.Noted.and as F
+use Rattle.zic_plan.specs.contracts.noted.Noted.and.Key.{name as #self}
+use Rattle.zic_plan.proofs.noted.Noted.and.Statement as stated
+use Rattle.zic_plan.proofs.noted.Noted.and.Code as code
 
 abbrev ended : Ended
 ended = F.ended

@@ -30,12 +30,12 @@ use denote.Triple.Spec.{Meets, triple_of}
 use denote.Triple.Table.{entered}
 use denote.Triple.Walked.{says, Stays, stay_dropped, walk_of, ends_at, walk_Meets, Goes-dropped}
 use Rattle.std.specs.contracts.marker.PhantomData as Mark
-use Rattle.zic_io.proofs.Walks.{none, one, one_made}
-use Rattle.zic_io.specs.contracts.noted.Noted as Noted
-use Rattle.zic_io.specs.contracts.noted.Noted.new as F
-use Rattle.zic_io.specs.contracts.noted.Noted.new.Key.{name as #self}
-use Rattle.zic_io.proofs.noted.Noted.new.Statement as stated
-use Rattle.zic_io.proofs.noted.Noted.new.Code as code
+use Rattle.zic_plan.proofs.Walks.{none, one, one_made}
+use Rattle.zic_plan.specs.contracts.noted.Noted as Noted
+use Rattle.zic_plan.specs.contracts.noted.Noted.new as F
+use Rattle.zic_plan.specs.contracts.noted.Noted.new.Key.{name as #self}
+use Rattle.zic_plan.proofs.noted.Noted.new.Statement as stated
+use Rattle.zic_plan.proofs.noted.Noted.new.Code as code
 
 module _ (A : RattleType) where
   abbrev args : Args

@@ -1,20 +1,20 @@
-//! The rows with a fault that a list has noted, as proofs know them.
+//! The rows with a fault that a log has noted, as proofs know them.
 
 ghost use Rattle.std.specs.Prelude.{◌≡◌, ℕ, [], ◌∷◌, ◌++◌, List, Option};
 ghost use Rattle.std.specs.Borrow.{ftrue};
 ghost use Rattle.zic_plan.specs.Noted.{RowNote};
 
+use crate::row_log::FaultyRow;
 use std::marker::{Model, PhantomData};
-use zic_plan::FaultyRow;
 
 /// Rows with a fault in the order in which they were noted, and what a file held before them, where that is
 /// known. Only proofs read this: it takes no memory, and its methods do nothing when the program
 /// runs.
 #[derive(Drop)]
-pub(crate) struct Noted {
+pub struct Noted {
     none: PhantomData<()>,
-    pub(crate) ghost faults: { List RowNote },
-    pub(crate) ghost start: { Option (List ℕ) },
+    pub ghost faults: { List RowNote },
+    pub ghost start: { Option (List ℕ) },
 }
 
 impl Model for Noted {
@@ -23,7 +23,7 @@ impl Model for Noted {
 
 impl Noted {
     /// Returns no rows, for a file that holds what the caller says.
-    pub(crate) fn new<T>(_file: &T) -> Noted
+    pub fn new<T>(_file: &T) -> Noted
         ghost held: { Option (List ℕ) }
         ensures { (result.faults ≡ []) × (result.start ≡ held) }
     {
@@ -31,7 +31,7 @@ impl Noted {
     }
 
     /// Returns these rows and one more.
-    pub(crate) fn and(&self, row: &FaultyRow) -> Noted
+    pub fn and(&self, row: &FaultyRow) -> Noted
         ensures { (result.faults ≡ self.now.faults ++ row.now ∷ [])
             × (result.start ≡ self.now.start) }
     {
