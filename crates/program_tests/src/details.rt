@@ -199,7 +199,7 @@ fn open_and_long_lines_are_noted(rt: HostRuntime) {
 }
 
 #[test]
-fn values_have_the_delimiter_put_back(rt: HostRuntime) {
+fn values_of_fields_between_semicolons(rt: HostRuntime) {
     let alloc = rt.alloc();
     let files = must(&rt, built(&rt, alloc, "Zone Etc/UTC 0 - UTC\n", 1, &Open));
     let mut layout = layout_of(Header::Absent, Records::Csv);

@@ -1,4 +1,4 @@
--- The next commas and line ends of a piece.
+-- The next delimiters and line ends of a piece.
 use Rattle.std.proofs.Common.{◌≡◌, ℕ, ◌+◌, ◌-◌, ◌^◌, ◌<◌, ◌≤◌, true, List, length, get_or, map, inr, sym, ap, ◌∙◌, arith, w64, bit_and, ⊎_elim}
 use Rattle.std.specs.Int.{bit_at, trailing_zeros}
 use Rattle.std.specs.Int.Bits.{and_le_r}
@@ -12,10 +12,10 @@ use Rattle.zic_columns.specs.declared.ends.FieldEnds.{FieldEnds}
 use Rattle.zic_columns.proofs.LowestBit.{none_left, others_left}
 use Rattle.zic_columns.proofs.Masks.{bit_found, bit_set, bit_within}
 
-module _ (bytes : List ℕ) (at : ℕ) (ends : FieldEnds) (shows : ShowsEnds bytes at ends) where
+module _ (d : ℕ) (bytes : List ℕ) (at : ℕ) (ends : FieldEnds) (shows : ShowsEnds d bytes at ends) where
   -- none is left, and one more block was looked at
-  pub shows_block : ends.mask ≡ 0 → ends.seen + 64 ≤ length bytes → (mask : ℕ) → mask < 2 ^ 64 → mask ≡ mask_l (map ends_field (chunk ends.seen 64 bytes))
-      → ShowsEnds bytes at (record { mask = mask; seen = ends.seen + 64 })
+  pub shows_block : ends.mask ≡ 0 → ends.seen + 64 ≤ length bytes → (mask : ℕ) → mask < 2 ^ 64 → mask ≡ mask_l (map (ends_field d) (chunk ends.seen 64 bytes))
+      → ShowsEnds d bytes at (record { mask = mask; seen = ends.seen + 64 })
   shows_block none within mask fits is = record {
     low = omega (arith, shows.low);
     high = within;
@@ -23,9 +23,9 @@ module _ (bytes : List ℕ) (at : ℕ) (ends : FieldEnds) (shows : ShowsEnds byt
     set = λ k one.
         let bit = ap (λ (m : ℕ). bit_at m k) (sym is) ∙ one in
         let place : ends.seen + 64 + k - 64 ≡ ends.seen + k = omega arith in (
-          bit_within 64 ends_field bytes ends.seen within k bit,
+          bit_within 64 (ends_field d) bytes ends.seen within k bit,
           omega (arith, shows.low),
-          ap (λ (i : ℕ). ends_field (get_or bytes i 0)) place ∙ bit_set 64 ends_field bytes ends.seen within k bit,
+          ap (λ (i : ℕ). ends_field d (get_or bytes i 0)) place ∙ bit_set 64 (ends_field d) bytes ends.seen within k bit,
         );
     all = λ j from to passes. ⊎_elim
         (λ (old : j < ends.seen).
@@ -36,7 +36,7 @@ module _ (bytes : List ℕ) (at : ℕ) (ends : FieldEnds) (shows : ShowsEnds byt
         let bit : j + 64 - (ends.seen + 64) ≡ j - ends.seen = omega arith in (
           omega (arith, new),
           ap (λ (i : ℕ). bit_at mask i) bit ∙ ap (λ (m : ℕ). bit_at m (j - ends.seen)) is
-              ∙ bit_found 64 ends_field bytes ends.seen within (j - ends.seen) (omega (arith, to, new)) (ap (λ (i : ℕ). ends_field (get_or bytes i 0)) place ∙ passes),
+              ∙ bit_found 64 (ends_field d) bytes ends.seen within (j - ends.seen) (omega (arith, to, new)) (ap (λ (i : ℕ). ends_field d (get_or bytes i 0)) place ∙ passes),
         ))
         (cases_lt j ends.seen);
   }
@@ -48,7 +48,7 @@ module _ (bytes : List ℕ) (at : ℕ) (ends : FieldEnds) (shows : ShowsEnds byt
     lowest : (place < 64) × (bit_at ends.mask place ≡ 1) × ((i : ℕ) → i < place → bit_at ends.mask i ≡ 0)
     lowest = bit_at-trailing_zeros w64 ends.mask some shows.fits
 
-    there : (place < 64) × (at + 64 ≤ ends.seen + place) × (ends_field (get_or bytes (ends.seen + place - 64) 0) ≡ true)
+    there : (place < 64) × (at + 64 ≤ ends.seen + place) × (ends_field d (get_or bytes (ends.seen + place - 64) 0) ≡ true)
     there = shows.set place lowest.1
 
     pub end_after : 64 ≤ ends.seen + place
@@ -57,7 +57,7 @@ module _ (bytes : List ℕ) (at : ℕ) (ends : FieldEnds) (shows : ShowsEnds byt
     pub end_within : ends.seen + place - 64 < length bytes
     end_within = omega (arith, there.0, shows.high, end_after)
 
-    pub end_next : IsFieldEnd bytes at (ends.seen + place - 64)
+    pub end_next : IsFieldEnd d bytes at (ends.seen + place - 64)
     end_next = record {
       low = omega (arith, there.1);
       high = omega (arith, end_within);
@@ -67,7 +67,7 @@ module _ (bytes : List ℕ) (at : ℕ) (ends : FieldEnds) (shows : ShowsEnds byt
       ends = inr there.2;
     }
 
-    pub shows_rest : ShowsEnds bytes (ends.seen + place - 64 + 1) (record { mask = bit_and ends.mask (ends.mask - 1); seen = ends.seen })
+    pub shows_rest : ShowsEnds d bytes (ends.seen + place - 64 + 1) (record { mask = bit_and ends.mask (ends.mask - 1); seen = ends.seen })
     shows_rest =
         let m = ends.mask in
         record {

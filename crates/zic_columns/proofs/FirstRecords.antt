@@ -5,7 +5,7 @@ use Rattle.std.proofs.lemmas.List.Elements.{All-nil}
 use Rattle.std.proofs.lemmas.List.Splits.{slice_split_at}
 use Rattle.zic_plan.specs.declared.layout.Records.{Records}
 use Rattle.zic_plan.specs.declared.layout.Records.TheVariants as by
-use Rattle.zic_columns.specs.Column.{HasNoLineEnd, ends_line, has_byte, lines_of}
+use Rattle.zic_columns.specs.Column.{CanDelimit, HasNoLineEnd, ends_line, has_byte, lines_of}
 use Rattle.zic_columns.specs.Lines.{line_record, line_records, records_by, texts_by}
 use Rattle.zic_columns.specs.Own.{csv_records, first_text}
 use Rattle.zic_columns.specs.Quotes.{is_open}
@@ -49,16 +49,17 @@ line_ended bytes = ⊎_elim
     (λ (is : (line : List ℕ) × (rest : List (List ℕ)) × IsLine line × (lines_of bytes ≡ line ∷ rest)). subst (λ (l : List (List ℕ)). HasNoLineEnd (first_text l)) (sym is.3) is.2.ended)
     (lines_began bytes).is
 
-lines_alone : (bytes : List ℕ) → line_records (first_text (lines_of bytes)) ≡ take 1 (line_records bytes)
-lines_alone bytes = ⊎_elim
-    (λ (none : lines_of bytes ≡ []). rw none refl)
-    (λ (is : (line : List ℕ) × (rest : List (List ℕ)) × IsLine line × (lines_of bytes ≡ line ∷ rest)). rw is.3 (ap (map line_record) is.2.alone))
-    (lines_began bytes).is
+module _ {d : ℕ} (can : CanDelimit d) where
+  lines_alone : (bytes : List ℕ) → line_records d (first_text (lines_of bytes)) ≡ take 1 (line_records d bytes)
+  lines_alone bytes = ⊎_elim
+      (λ (none : lines_of bytes ≡ []). rw none refl)
+      (λ (is : (line : List ℕ) × (rest : List (List ℕ)) × IsLine line × (lines_of bytes ≡ line ∷ rest)). rw is.3 (ap (map (line_record d)) is.2.alone))
+      (lines_began bytes).is
 
-pub alone_by : (mode : Records) (bytes : List ℕ) → records_by mode (first_text (texts_by mode bytes)) ≡ take 1 (records_by mode bytes)
-alone_by by.Csv bytes = first_alone bytes
-alone_by by.Lines bytes = lines_alone bytes
+  pub alone_by : (mode : Records) (bytes : List ℕ) → records_by mode d (first_text (texts_by mode d bytes)) ≡ take 1 (records_by mode d bytes)
+  alone_by by.Csv bytes = first_alone can bytes
+  alone_by by.Lines bytes = lines_alone bytes
 
--- a line that is not open is a record of CSV
-pub of_closed : (line : List ℕ) → HasNoLineEnd line → is_open 44 line ≡ false → line_records line ≡ csv_records line
-of_closed line none closed = alike_by by.Lines line (closed_unended line none closed)
+  -- a line that is not open is a record of CSV
+  pub of_closed : (line : List ℕ) → HasNoLineEnd line → is_open d line ≡ false → line_records d line ≡ csv_records d line
+  of_closed line none closed = alike_by can by.Lines line (closed_unended can line none closed)

@@ -18,7 +18,6 @@ pub mod LineScans
 pub mod ByMode
 pub mod ScannedBy
 pub mod PartRecord
-pub mod LinesExchanged
 pub mod StrayLaws
 pub mod RfcRecords
 pub mod CutLaw
@@ -31,7 +30,6 @@ pub mod Exchanges
 pub mod OwnFacts
 pub mod OwnLens
 pub mod PieceRecords
-pub mod Written
 pub mod OwnRecords
 pub mod OwnLaw
 pub mod FirstRecords

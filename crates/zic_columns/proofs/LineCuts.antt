@@ -11,24 +11,6 @@ use Rattle.zic_columns.specs.code.Cut.{AreCutAfterLines}
 use Rattle.zic_columns.proofs.FoundBytes.{none_after, none_within}
 use Rattle.zic_columns.proofs.LineFacts.{plain_records-end}
 
--- line ends make no record
-pub ends_skipped : (skipped rest : List ℕ) → All (λ byte. ends_line byte ≡ true) skipped → plain_records (skipped ++ rest) ≡ plain_records rest
-ends_skipped [] rest all = refl
-ends_skipped (byte ∷ bytes) rest all =
-    let P = λ (b : ℕ). ends_line b ≡ true in
-    plain_records-end byte (bytes ++ rest) (All-head P byte bytes all) ∙ ends_skipped bytes rest (All-tail P byte bytes all)
-
--- a line that ends with the bytes, and one that has its end
-pub line_last : (line : List ℕ) → 0 < length line → All (λ byte. ends_line byte ≡ false) line → plain_records line ≡ fields_of line ∷ []
-unfolding plain_records
-line_last [] some none = absurd (omega arith)
-line_last (byte ∷ bytes) some none = ap (λ (lines : List (List ℕ)). map fields_of (filter has_byte lines)) (slice_split_none ends_line (byte ∷ bytes) none)
-
-pub line_ended : (line : List ℕ) (byte : ℕ) → 0 < length line → All (λ b. ends_line b ≡ false) line → ends_line byte ≡ true → plain_records (line ++ byte ∷ []) ≡ fields_of line ∷ []
-unfolding plain_records
-line_ended [] byte some none ends = absurd (omega arith)
-line_ended (first ∷ line) byte some none ends = ap (λ (lines : List (List ℕ)). map fields_of (filter has_byte lines)) (slice_split_at ends_line (first ∷ line) byte [] none ends)
-
 pub whole_ended : (bytes : List ℕ) (byte : ℕ) → ends_line byte ≡ true → AreWholeLines (bytes ++ byte ∷ [])
 whole_ended bytes byte ends = λ last is.
     let at : length bytes ≡ last = omega (arith, is, length-append bytes (byte ∷ [])) in
@@ -59,3 +41,22 @@ lines_none bytes none = record {
   whole = λ k is. absurd (omega arith);
   unended = none_within ends_line bytes none;
 }
+
+module _ (d : ℕ) where
+  -- line ends make no record
+  pub ends_skipped : (skipped rest : List ℕ) → All (λ byte. ends_line byte ≡ true) skipped → plain_records d (skipped ++ rest) ≡ plain_records d rest
+  ends_skipped [] rest all = refl
+  ends_skipped (byte ∷ bytes) rest all =
+      let P = λ (b : ℕ). ends_line b ≡ true in
+      plain_records-end d byte (bytes ++ rest) (All-head P byte bytes all) ∙ ends_skipped bytes rest (All-tail P byte bytes all)
+
+  -- a line that ends with the bytes, and one that has its end
+  pub line_last : (line : List ℕ) → 0 < length line → All (λ byte. ends_line byte ≡ false) line → plain_records d line ≡ fields_of d line ∷ []
+  unfolding plain_records
+  line_last [] some none = absurd (omega arith)
+  line_last (byte ∷ bytes) some none = ap (λ (lines : List (List ℕ)). map (fields_of d) (filter has_byte lines)) (slice_split_none ends_line (byte ∷ bytes) none)
+
+  pub line_ended : (line : List ℕ) (byte : ℕ) → 0 < length line → All (λ b. ends_line b ≡ false) line → ends_line byte ≡ true → plain_records d (line ++ byte ∷ []) ≡ fields_of d line ∷ []
+  unfolding plain_records
+  line_ended [] byte some none ends = absurd (omega arith)
+  line_ended (first ∷ line) byte some none ends = ap (λ (lines : List (List ℕ)). map (fields_of d) (filter has_byte lines)) (slice_split_at ends_line (first ∷ line) byte [] none ends)

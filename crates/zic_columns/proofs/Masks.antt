@@ -62,14 +62,6 @@ module _ (size : ℕ) (small : size ≤ 64) (bytes : List ℕ) (at : ℕ) (withi
       ≡ map (λ x. bit_or (hit x 13) (hit x 10)) (chunk at size bytes)
   either_lanes = zip2_of_maps bit_or (λ x. hit x 13) (λ x. hit x 10) (chunk at size bytes) (equal_lanes 13) (equal_lanes 10)
 
-  comma_lanes : zip2 bit_or (zip2 hit (chunk at size bytes) (replicate size 44)) (zip2 hit (chunk at size bytes) (replicate size 13))
-      ≡ map (λ x. bit_or (hit x 44) (hit x 13)) (chunk at size bytes)
-  comma_lanes = zip2_of_maps bit_or (λ x. hit x 44) (λ x. hit x 13) (chunk at size bytes) (equal_lanes 44) (equal_lanes 13)
-
-  any_lanes : zip2 bit_or (zip2 bit_or (zip2 hit (chunk at size bytes) (replicate size 44)) (zip2 hit (chunk at size bytes) (replicate size 13))) (zip2 hit (chunk at size bytes) (replicate size 10))
-      ≡ map (λ x. bit_or (bit_or (hit x 44) (hit x 13)) (hit x 10)) (chunk at size bytes)
-  any_lanes = zip2_of_maps bit_or (λ x. bit_or (hit x 44) (hit x 13)) (λ x. hit x 10) (chunk at size bytes) comma_lanes (equal_lanes 10)
-
   pub quotes_mask : mask_l (map (top 7) (zip2 hit (chunk at size bytes) (replicate size 34))) % 2 ^ 64 ≡ mask_l (map (λ byte. byte == 34) (chunk at size bytes))
   quotes_mask = mask_of (λ x. hit x 34) (λ x. x == 34) (λ x. top_one (x == 34)) (chunk at size bytes) _ few (equal_lanes 34)
     where
@@ -81,9 +73,18 @@ module _ (size : ℕ) (small : size ≤ 64) (bytes : List ℕ) (at : ℕ) (withi
       ≡ mask_l (map ends_line (chunk at size bytes))
   line_ends_mask = mask_of (λ x. bit_or (hit x 13) (hit x 10)) ends_line (λ x. top_either (x == 13) (x == 10)) (chunk at size bytes) _ few either_lanes
 
-  pub field_ends_mask : mask_l (map (top 7) (zip2 bit_or (zip2 bit_or (zip2 hit (chunk at size bytes) (replicate size 44)) (zip2 hit (chunk at size bytes) (replicate size 13))) (zip2 hit (chunk at size bytes) (replicate size 10)))) % 2 ^ 64
-      ≡ mask_l (map ends_field (chunk at size bytes))
-  field_ends_mask = mask_of (λ x. bit_or (bit_or (hit x 44) (hit x 13)) (hit x 10)) ends_field (λ x. top_any (x == 44) (x == 13) (x == 10)) (chunk at size bytes) _ few any_lanes
+  module _ (d : ℕ) where
+    delimiter_lanes : zip2 bit_or (zip2 hit (chunk at size bytes) (replicate size d)) (zip2 hit (chunk at size bytes) (replicate size 13))
+        ≡ map (λ x. bit_or (hit x d) (hit x 13)) (chunk at size bytes)
+    delimiter_lanes = zip2_of_maps bit_or (λ x. hit x d) (λ x. hit x 13) (chunk at size bytes) (equal_lanes d) (equal_lanes 13)
+
+    any_lanes : zip2 bit_or (zip2 bit_or (zip2 hit (chunk at size bytes) (replicate size d)) (zip2 hit (chunk at size bytes) (replicate size 13))) (zip2 hit (chunk at size bytes) (replicate size 10))
+        ≡ map (λ x. bit_or (bit_or (hit x d) (hit x 13)) (hit x 10)) (chunk at size bytes)
+    any_lanes = zip2_of_maps bit_or (λ x. bit_or (hit x d) (hit x 13)) (λ x. hit x 10) (chunk at size bytes) delimiter_lanes (equal_lanes 10)
+
+    pub field_ends_mask : mask_l (map (top 7) (zip2 bit_or (zip2 bit_or (zip2 hit (chunk at size bytes) (replicate size d)) (zip2 hit (chunk at size bytes) (replicate size 13))) (zip2 hit (chunk at size bytes) (replicate size 10)))) % 2 ^ 64
+        ≡ mask_l (map (ends_field d) (chunk at size bytes))
+    field_ends_mask = mask_of (λ x. bit_or (bit_or (hit x d) (hit x 13)) (hit x 10)) (ends_field d) (λ x. top_any (x == d) (x == 13) (x == 10)) (chunk at size bytes) _ few any_lanes
 
 module _ (bytes : List ℕ) (at : ℕ) (within : at + 32 ≤ length bytes) where
   pub mask_small : (test : ℕ → Bool) → mask_at test bytes at < 2 ^ 32

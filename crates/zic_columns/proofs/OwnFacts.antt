@@ -2,48 +2,14 @@
 use Rattle.std.proofs.Common.{◌≡◌, ◌==◌, ℕ, suc, true, false, List, [], ◌∷◌, ◌++◌, length, length-append, Option, Some, None, refl, ap, ◌∙◌, subst, ⊎_elim, arith}
 use Rattle.std.proofs.lemmas.Bool.{cases_Bool, cond_both, eqb-true}
 use Rattle.csv.specs.Machine.{Read, ends_at_end, field_after, fields_after, is_end, next_record, step}
-use Rattle.csv.specs.Reading.{AreRecords, Reached, default_config}
+use Rattle.csv.specs.Reading.{AreRecords, Reached}
 use Rattle.csv.specs.declared.parser.Config.{Config}
 use Rattle.csv.specs.declared.parser.State.{State}
 use Rattle.csv.specs.declared.parser.State.TheVariants as st
-use Rattle.zic_columns.specs.Column.{AreWholeRecords, IsBeforeRecord, column_records, state_after}
-use Rattle.zic_columns.specs.Exchange.{config_of}
-use Rattle.zic_columns.specs.Laws.{TextsAreCounted}
+use Rattle.zic_columns.specs.Column.{AreWholeRecords, CanDelimit, IsBeforeRecord, column_records, config_of, state_after}
 use Rattle.zic_columns.specs.Own.{own_after, own_from, own_texts}
 use Rattle.zic_columns.proofs.SomeRecords.{are_read}
-
--- ---- before a record
-
-after_return : (bytes : List ℕ) → own_from default_config st.AfterCr [] bytes ≡ own_texts bytes
-unfolding own_from
-after_return [] = refl
-after_return (byte ∷ bytes) = ⊎_elim (λ feed. rw feed (rw (eqb-true byte 10 feed) refl)) (λ other. rw other refl) (cases_Bool (byte == 10))
-
-pub own_before : (t : State) (bytes : List ℕ) → ends_at_end t ≡ false → own_from default_config t [] bytes ≡ own_texts bytes
-own_before st.StartRecord bytes before = refl
-own_before st.AfterCr bytes before = after_return bytes
-own_before st.StartField bytes before = absurd (cc before)
-own_before st.InField bytes before = absurd (cc before)
-own_before st.InQuoted bytes before = absurd (cc before)
-own_before st.AfterQuote bytes before = absurd (cc before)
-own_before st.InEscape bytes before = absurd (cc before)
-own_before st.InComment bytes before = absurd (cc before)
-
--- ---- where a column is cut
-
-own_cut : (s : State) (own a b : List ℕ) → (ends_at_end s ≡ false → own ≡ []) → ends_at_end (state_after default_config s a) ≡ false
-    → own_from default_config s own (a ++ b) ≡ own_from default_config s own a ++ own_texts b
-unfolding own_from state_after
-own_cut s own [] b none before = rw (none before, before) (own_before s b before)
-own_cut s own (byte ∷ a) b none before =
-    let to = step default_config s byte in
-    ⊎_elim
-    (λ (ends : is_end to.1 ≡ true). rw ends (ap (λ (texts : List (List ℕ)). own ∷ texts) (own_cut to.0 [] a b (λ _. refl) before)))
-    (λ (goes : is_end to.1 ≡ false). rw goes (own_cut to.0 (own_after to.0 byte own) a b (λ no. rw no refl) before))
-    (cases_Bool (is_end to.1))
-
-pub own_ahead : (a b : List ℕ) → IsBeforeRecord a → own_texts (a ++ b) ≡ own_texts a ++ own_texts b
-own_ahead a b before = own_cut st.StartRecord [] a b (λ _. refl) before
+use Rattle.zic_columns.proofs.StepFacts.{quote_other}
 
 -- ---- each record has its own bytes
 
@@ -85,48 +51,79 @@ module _ (cfg : Config) where
       let next : OwnNext s [] bytes (Some read) = subst (OwnNext s [] bytes) are.2.1 (own_next s [] [] [] bytes) in
       ap length next.1 ∙ ap (λ (n : ℕ). suc n) (own_count read.1 read.2 records (are.0, are.1, are.2.3, are.3))
 
-pub own_counted : (bytes : List ℕ) → length (own_texts bytes) ≡ length (column_records bytes)
-own_counted bytes = own_count default_config st.StartRecord bytes (column_records bytes) (are_read bytes)
+pub own_counted : (d : ℕ) (bytes : List ℕ) → length (own_texts d bytes) ≡ length (column_records d bytes)
+own_counted d bytes = own_count (config_of d) st.StartRecord bytes (column_records d bytes) (are_read d bytes)
 
-pub delimited_counted : TextsAreCounted
-delimited_counted delimiter = own_count (config_of delimiter) st.StartRecord
+module _ {d : ℕ} (can : CanDelimit d) where
+  -- ---- before a record
 
--- ---- whole records end before a record
+  after_return : (bytes : List ℕ) → own_from (config_of d) st.AfterCr [] bytes ≡ own_texts d bytes
+  unfolding own_from
+  after_return [] = refl
+  after_return (byte ∷ bytes) = ⊎_elim (λ feed. rw feed (rw (eqb-true byte 10 feed) refl)) (λ other. rw other refl) (cases_Bool (byte == 10))
 
--- a letter goes on with a record
-one_more : (s : State) (own : List ℕ) → ends_at_end s ≡ true → length (own_from default_config s own (97 ∷ [])) ≡ length (own_from default_config s own [])
-unfolding own_from
-one_more st.StartRecord own ends = absurd (cc ends)
-one_more st.AfterCr own ends = absurd (cc ends)
-one_more st.StartField own ends = refl
-one_more st.InField own ends = refl
-one_more st.InQuoted own ends = refl
-one_more st.AfterQuote own ends = refl
-one_more st.InEscape own ends = refl
-one_more st.InComment own ends = refl
+  pub own_before : (t : State) (bytes : List ℕ) → ends_at_end t ≡ false → own_from (config_of d) t [] bytes ≡ own_texts d bytes
+  own_before st.StartRecord bytes before = refl
+  own_before st.AfterCr bytes before = after_return bytes
+  own_before st.StartField bytes before = absurd (cc before)
+  own_before st.InField bytes before = absurd (cc before)
+  own_before st.InQuoted bytes before = absurd (cc before)
+  own_before st.AfterQuote bytes before = absurd (cc before)
+  own_before st.InEscape bytes before = absurd (cc before)
+  own_before st.InComment bytes before = absurd (cc before)
 
-goes_on : (s : State) (own a : List ℕ) → ends_at_end (state_after default_config s a) ≡ true
-    → length (own_from default_config s own (a ++ 97 ∷ [])) ≡ length (own_from default_config s own a)
-unfolding own_from state_after
-goes_on s own [] ends = one_more s own ends
-goes_on s own (byte ∷ a) ends =
-    let to = step default_config s byte in
-    ⊎_elim
-    (λ (is : is_end to.1 ≡ true). rw is (ap (λ (n : ℕ). suc n) (goes_on to.0 [] a ends)))
-    (λ (no : is_end to.1 ≡ false). rw no (goes_on to.0 (own_after to.0 byte own) a ends))
-    (cases_Bool (is_end to.1))
+  -- ---- where a column is cut
 
-letter_is_one : length (own_texts (97 ∷ [])) ≡ 1
-unfolding own_from
-letter_is_one = refl
+  own_cut : (s : State) (own a b : List ℕ) → (ends_at_end s ≡ false → own ≡ []) → ends_at_end (state_after (config_of d) s a) ≡ false
+      → own_from (config_of d) s own (a ++ b) ≡ own_from (config_of d) s own a ++ own_texts d b
+  unfolding own_from state_after
+  own_cut s own [] b none before = rw (none before, before) (own_before s b before)
+  own_cut s own (byte ∷ a) b none before =
+      let to = step (config_of d) s byte in
+      ⊎_elim
+      (λ (ends : is_end to.1 ≡ true). rw ends (ap (λ (texts : List (List ℕ)). own ∷ texts) (own_cut to.0 [] a b (λ _. refl) before)))
+      (λ (goes : is_end to.1 ≡ false). rw goes (own_cut to.0 (own_after to.0 byte own) a b (λ no. rw no refl) before))
+      (cases_Bool (is_end to.1))
 
-pub whole_before : (bytes : List ℕ) → AreWholeRecords bytes → IsBeforeRecord bytes
-whole_before bytes whole = ⊎_elim
-    (λ (within : ends_at_end (state_after default_config st.StartRecord bytes) ≡ true).
-    let longer = own_counted (bytes ++ 97 ∷ []) ∙ ap length (whole (97 ∷ [])) ∙ length-append (column_records bytes) (column_records (97 ∷ [])) in
-    absurd (omega (arith, longer, goes_on st.StartRecord [] bytes within, own_counted bytes, own_counted (97 ∷ []), letter_is_one)))
-    (λ before. before)
-    (cases_Bool (ends_at_end (state_after default_config st.StartRecord bytes)))
+  pub own_ahead : (a b : List ℕ) → IsBeforeRecord d a → own_texts d (a ++ b) ≡ own_texts d a ++ own_texts d b
+  own_ahead a b before = own_cut st.StartRecord [] a b (λ _. refl) before
 
-pub own_whole : (a b : List ℕ) → AreWholeRecords a → own_texts (a ++ b) ≡ own_texts a ++ own_texts b
-own_whole a b whole = own_ahead a b (whole_before a whole)
+  -- ---- whole records end before a record
+
+  -- a double quote goes on with a record
+  one_more : (s : State) (own : List ℕ) → ends_at_end s ≡ true → length (own_from (config_of d) s own (34 ∷ [])) ≡ length (own_from (config_of d) s own [])
+  unfolding own_from
+  one_more st.StartRecord own ends = absurd (cc ends)
+  one_more st.AfterCr own ends = absurd (cc ends)
+  one_more st.StartField own ends = refl
+  one_more st.InField own ends = rw (quote_other can) refl
+  one_more st.InQuoted own ends = refl
+  one_more st.AfterQuote own ends = refl
+  one_more st.InEscape own ends = refl
+  one_more st.InComment own ends = refl
+
+  goes_on : (s : State) (own a : List ℕ) → ends_at_end (state_after (config_of d) s a) ≡ true
+      → length (own_from (config_of d) s own (a ++ 34 ∷ [])) ≡ length (own_from (config_of d) s own a)
+  unfolding own_from state_after
+  goes_on s own [] ends = one_more s own ends
+  goes_on s own (byte ∷ a) ends =
+      let to = step (config_of d) s byte in
+      ⊎_elim
+      (λ (is : is_end to.1 ≡ true). rw is (ap (λ (n : ℕ). suc n) (goes_on to.0 [] a ends)))
+      (λ (no : is_end to.1 ≡ false). rw no (goes_on to.0 (own_after to.0 byte own) a ends))
+      (cases_Bool (is_end to.1))
+
+  quote_is_one : length (own_texts d (34 ∷ [])) ≡ 1
+  unfolding own_from
+  quote_is_one = refl
+
+  pub whole_before : (bytes : List ℕ) → AreWholeRecords d bytes → IsBeforeRecord d bytes
+  whole_before bytes whole = ⊎_elim
+      (λ (within : ends_at_end (state_after (config_of d) st.StartRecord bytes) ≡ true).
+      let longer = own_counted d (bytes ++ 34 ∷ []) ∙ ap length (whole (34 ∷ [])) ∙ length-append (column_records d bytes) (column_records d (34 ∷ [])) in
+      absurd (omega (arith, longer, goes_on st.StartRecord [] bytes within, own_counted d bytes, own_counted d (34 ∷ []), quote_is_one)))
+      (λ before. before)
+      (cases_Bool (ends_at_end (state_after (config_of d) st.StartRecord bytes)))
+
+  pub own_whole : (a b : List ℕ) → AreWholeRecords d a → own_texts d (a ++ b) ≡ own_texts d a ++ own_texts d b
+  own_whole a b whole = own_ahead a b (whole_before a whole)

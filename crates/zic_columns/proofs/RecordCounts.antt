@@ -5,7 +5,7 @@ use Rattle.std.specs.Simd.Lanes.{chunk}
 use Rattle.std.proofs.lemmas.Bool.{cases_Bool}
 use Rattle.std.proofs.lemmas.List.{drop_all, length-take-le, take-append-drop, take-take, take_all, take_at, take_more}
 use Rattle.std.proofs.lemmas.List.Elements.{All-append, All-head, All-nil, All-tail, All-take}
-use Rattle.zic_columns.specs.Column.{AreWholeRecords, HasNoQuote, column_records, ends_line, plain_records}
+use Rattle.zic_columns.specs.Column.{AreWholeRecords, CanDelimit, HasNoQuote, column_records, ends_line, plain_records}
 use Rattle.zic_columns.specs.code.Line.{AreWholeLines, IsFirstRecord}
 use Rattle.zic_columns.specs.code.Cut.{AreCutAfter, AreCutAfterLines}
 use Rattle.zic_columns.specs.code.Block.{AreCounted, ArePassed, is_after_line, records_ended}
@@ -17,24 +17,6 @@ use Rattle.zic_columns.proofs.SomeRecords.{joined, plain_read, whole_both, whole
 -- 1 where a record has begun and not ended, and else 0
 abbrev open_records : Bool → List ℕ → ℕ
 open_records before bytes = cond (is_after_line before bytes) 0 1
-
--- records of bytes end in them, but for the last
-counted : (bytes : List ℕ) → (length (plain_records bytes) ≡ records_ended true bytes + open_records true bytes)
-    × (1 + length (later_records bytes) ≡ records_ended false bytes + open_records false bytes)
-unfolding records_ended is_after_line
-counted [] = (ap length plain_records-nil, ap (λ r. 1 + length r) later_records-nil)
-counted (byte ∷ bytes) =
-    let later = counted bytes in
-    ⊎_elim
-    (λ (ends : ends_line byte ≡ true). (
-      rw ends (omega (arith, ap length (plain_records-end byte bytes ends), later.0)),
-      rw ends (omega (arith, ap length (later_records-end byte bytes ends), later.0)),
-    ))
-    (λ (within : ends_line byte ≡ false). (
-      rw within (omega (arith, ap length (plain_records-within byte bytes within), later.1)),
-      rw within (omega (arith, ap length (later_records-within byte bytes within), later.1)),
-    ))
-    (cases_Bool (ends_line byte))
 
 pub records_ended-append : (before : Bool) (xs ys : List ℕ) → records_ended before (xs ++ ys) ≡ records_ended before xs + records_ended (is_after_line before xs) ys
 unfolding records_ended is_after_line
@@ -78,13 +60,6 @@ unfolding is_after_line
 lines_closed [] whole = refl
 lines_closed (byte ∷ bytes) whole = whole_after byte bytes whole
 
--- the records of whole lines, and of those that are left of a line after them, end in the lines
-lines_counted : (bytes lines rest : List ℕ) → HasNoQuote lines → AreCutAfterLines bytes lines rest → length (column_records lines) ≡ records_ended true bytes
-lines_counted bytes lines rest plain cut =
-    let closed : open_records true lines ≡ 0 = ap (λ (b : Bool). cond {A = ℕ} b 0 1) (lines_closed lines cut.whole) in
-    let sum = ap (records_ended true) cut.parts ∙ records_ended-append true lines rest in
-    ap length (plain_read lines plain) ∙ omega (arith, (counted lines).0, closed, sum, none_ended (is_after_line true lines) rest cut.unended)
-
 -- ---- blocks
 
 nothing_ended : 0 ≡ records_ended true []
@@ -107,49 +82,75 @@ counted_more bytes most passed more are within plain is few =
       few = omega (arith, few);
     }
 
--- the whole lines of what was counted
-pub lines_passed : (bytes : List ℕ) (most : ℕ) (passed : Passed) (lines rest : List ℕ) → AreCounted bytes most passed → AreCutAfterLines (take passed.len bytes) lines rest
-    → ArePassed bytes most (record { len = length lines; records = passed.records })
-lines_passed bytes most passed lines rest are cut =
-    let front = take passed.len bytes in
-    let size : length lines + length rest ≡ passed.len = sym (ap length cut.parts ∙ length-append lines rest) ∙ length-take-le passed.len bytes are.within in
-    let same : take (length lines) bytes ≡ lines = sym (take-take (length lines) passed.len bytes (omega (arith, size))) ∙ ap (take (length lines)) cut.parts ∙ take_at lines rest (length lines) refl in
-    let plain : HasNoQuote lines = subst HasNoQuote (ap (take (length lines)) cut.parts ∙ take_at lines rest (length lines) refl) (All-take (λ byte. byte ≢ 34) (length lines) front are.plain) in
-    record {
-      within = omega (arith, size, are.within);
-      whole = subst AreWholeRecords (sym same) (whole_lines lines plain cut.whole);
-      counted = ap (λ (b : List ℕ). length (column_records b)) same ∙ lines_counted front lines rest plain cut ∙ sym are.counted;
-      few = are.few;
-    }
+module _ {d : ℕ} (can : CanDelimit d) where
+  -- records of bytes end in them, but for the last
+  counted : (bytes : List ℕ) → (length (plain_records d bytes) ≡ records_ended true bytes + open_records true bytes)
+      × (1 + length (later_records d bytes) ≡ records_ended false bytes + open_records false bytes)
+  unfolding records_ended is_after_line
+  counted [] = (ap length (plain_records-nil d), ap (λ r. 1 + length r) (later_records-nil d))
+  counted (byte ∷ bytes) =
+      let later = counted bytes in
+      ⊎_elim
+      (λ (ends : ends_line byte ≡ true). (
+        rw ends (omega (arith, ap length (plain_records-end d byte bytes ends), later.0)),
+        rw ends (omega (arith, ap length (later_records-end d byte bytes ends), later.0)),
+      ))
+      (λ (within : ends_line byte ≡ false). (
+        rw within (omega (arith, ap length (plain_records-within d byte bytes within), later.1)),
+        rw within (omega (arith, ap length (later_records-within d byte bytes within), later.1)),
+      ))
+      (cases_Bool (ends_line byte))
 
--- whole records were passed over
-pub passed_lines : (bytes : List ℕ) (count : ℕ) (rest : List ℕ) (most : ℕ) (passed : Passed) → HasPassed bytes count rest → ArePassed rest most passed
-    → HasPassed bytes (count + passed.records) (drop passed.len rest)
-passed_lines bytes count rest most passed has are =
-    let lines = take passed.len rest in
-    let nothing : rest ≡ [] → lines ≡ [] = λ none. take_all passed.len rest (omega (arith, ap length none)) ∙ none in
-    let before : (lines ≡ []) ⊎ AreWholeRecords has.first = ⊎_elim (λ none. inl (nothing none)) (λ whole. inr whole) has.whole in
-    record {
-      first = has.first ++ lines;
-      parts = has.parts ∙ ap (λ (r : List ℕ). has.first ++ r) (sym (take-append-drop passed.len rest)) ∙ sym (append_assoc has.first lines (drop passed.len rest));
-      whole = ⊎_elim
-          (λ (none : rest ≡ []). inl (drop_all passed.len rest (omega (arith, ap length none))))
-          (λ (whole : AreWholeRecords has.first). inr (whole_both has.first lines whole are.whole))
-          has.whole;
-      counted = ap length (joined has.first lines before) ∙ length-append (column_records has.first) (column_records lines) ∙ omega (arith, has.counted, are.counted);
-    }
+  -- the records of whole lines, and of those that are left of a line after them, end in the lines
+  lines_counted : (bytes lines rest : List ℕ) → HasNoQuote lines → AreCutAfterLines bytes lines rest → length (column_records d lines) ≡ records_ended true bytes
+  lines_counted bytes lines rest plain cut =
+      let closed : open_records true lines ≡ 0 = ap (λ (b : Bool). cond {A = ℕ} b 0 1) (lines_closed lines cut.whole) in
+      let sum = ap (records_ended true) cut.parts ∙ records_ended-append true lines rest in
+      ap length (plain_read can lines plain) ∙ omega (arith, (counted lines).0, closed, sum, none_ended (is_after_line true lines) rest cut.unended)
 
--- whole records were passed over, and then one
-module _ (bytes : List ℕ) (count left : ℕ) (rest : List ℕ) (passed : Passed) (after : List ℕ) (few : left ≤ count) (has : HasPassed bytes (count - left) rest)
-    (are : ArePassed rest left passed) (is : after ≡ drop passed.len rest) where
-  passed_before : HasPassed bytes (count - left + passed.records) after
-  passed_before = subst (HasPassed bytes (count - left + passed.records)) (sym is) (passed_lines bytes (count - left) rest left passed has are)
+  -- the whole lines of what was counted
+  pub lines_passed : (bytes : List ℕ) (most : ℕ) (passed : Passed) (lines rest : List ℕ) → AreCounted bytes most passed → AreCutAfterLines (take passed.len bytes) lines rest
+      → ArePassed d bytes most (record { len = length lines; records = passed.records })
+  lines_passed bytes most passed lines rest are cut =
+      let front = take passed.len bytes in
+      let size : length lines + length rest ≡ passed.len = sym (ap length cut.parts ∙ length-append lines rest) ∙ length-take-le passed.len bytes are.within in
+      let same : take (length lines) bytes ≡ lines = sym (take-take (length lines) passed.len bytes (omega (arith, size))) ∙ ap (take (length lines)) cut.parts ∙ take_at lines rest (length lines) refl in
+      let plain : HasNoQuote lines = subst HasNoQuote (ap (take (length lines)) cut.parts ∙ take_at lines rest (length lines) refl) (All-take (λ byte. byte ≢ 34) (length lines) front are.plain) in
+      record {
+        within = omega (arith, size, are.within);
+        whole = subst (AreWholeRecords d) (sym same) (whole_lines can lines plain cut.whole);
+        counted = ap (λ (b : List ℕ). length (column_records d b)) same ∙ lines_counted front lines rest plain cut ∙ sym are.counted;
+        few = are.few;
+      }
 
-  pub passed_on : (len : ℕ) (next : List ℕ) → IsFirstRecord after len → next ≡ drop len after → HasPassed bytes (count - (left - (passed.records + 1))) next
-  passed_on len next first goes =
-      let number : count - left + passed.records + 1 ≡ count - (left - (passed.records + 1)) = omega (arith, few, are.few) in
-      subst (λ (n : ℕ). HasPassed bytes n next) number
-      (subst (HasPassed bytes (count - left + passed.records + 1)) (sym goes) (passed_record bytes (count - left + passed.records) after len passed_before first))
+  -- whole records were passed over
+  pub passed_lines : (bytes : List ℕ) (count : ℕ) (rest : List ℕ) (most : ℕ) (passed : Passed) → HasPassed can bytes count rest → ArePassed d rest most passed
+      → HasPassed can bytes (count + passed.records) (drop passed.len rest)
+  passed_lines bytes count rest most passed has are =
+      let lines = take passed.len rest in
+      let nothing : rest ≡ [] → lines ≡ [] = λ none. take_all passed.len rest (omega (arith, ap length none)) ∙ none in
+      let before : (lines ≡ []) ⊎ AreWholeRecords d has.first = ⊎_elim (λ none. inl (nothing none)) (λ whole. inr whole) has.whole in
+      record {
+        first = has.first ++ lines;
+        parts = has.parts ∙ ap (λ (r : List ℕ). has.first ++ r) (sym (take-append-drop passed.len rest)) ∙ sym (append_assoc has.first lines (drop passed.len rest));
+        whole = ⊎_elim
+            (λ (none : rest ≡ []). inl (drop_all passed.len rest (omega (arith, ap length none))))
+            (λ (whole : AreWholeRecords d has.first). inr (whole_both d has.first lines whole are.whole))
+            has.whole;
+        counted = ap length (joined d has.first lines before) ∙ length-append (column_records d has.first) (column_records d lines) ∙ omega (arith, has.counted, are.counted);
+      }
 
-  pub passed_to_end : column_records after ≡ [] → AreCutAfter bytes count bytes []
-  passed_to_end none = passed_all bytes (count - left + passed.records) count after passed_before (omega (arith, few, are.few)) none
+  -- whole records were passed over, and then one
+  module _ (bytes : List ℕ) (count left : ℕ) (rest : List ℕ) (passed : Passed) (after : List ℕ) (few : left ≤ count) (has : HasPassed can bytes (count - left) rest)
+      (are : ArePassed d rest left passed) (is : after ≡ drop passed.len rest) where
+    passed_before : HasPassed can bytes (count - left + passed.records) after
+    passed_before = subst (HasPassed can bytes (count - left + passed.records)) (sym is) (passed_lines bytes (count - left) rest left passed has are)
+
+    pub passed_on : (len : ℕ) (next : List ℕ) → IsFirstRecord d after len → next ≡ drop len after → HasPassed can bytes (count - (left - (passed.records + 1))) next
+    passed_on len next first goes =
+        let number : count - left + passed.records + 1 ≡ count - (left - (passed.records + 1)) = omega (arith, few, are.few) in
+        subst (λ (n : ℕ). HasPassed can bytes n next) number
+        (subst (HasPassed can bytes (count - left + passed.records + 1)) (sym goes) (passed_record can bytes (count - left + passed.records) after len passed_before first))
+
+    pub passed_to_end : column_records d after ≡ [] → AreCutAfter d bytes count bytes []
+    passed_to_end none = passed_all can bytes (count - left + passed.records) count after passed_before (omega (arith, few, are.few)) none

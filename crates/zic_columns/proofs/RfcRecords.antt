@@ -6,8 +6,7 @@ use Rattle.std.proofs.lemmas.List.Elements.{All-head, All-tail}
 use Rattle.csv.specs.Machine.{step}
 use Rattle.csv.specs.declared.parser.State.{State}
 use Rattle.csv.specs.declared.parser.State.TheVariants as st
-use Rattle.zic_columns.specs.Column.{ends_line, state_after}
-use Rattle.zic_columns.specs.Exchange.{CanDelimit, config_of}
+use Rattle.zic_columns.specs.Column.{CanDelimit, config_of, ends_line, state_after}
 use Rattle.zic_columns.specs.Laws.{RfcRecordsHaveNoStray}
 use Rattle.zic_columns.specs.Quotes.{IsRfcField, delimited, doubled, goes_past, is_past_quote, is_quoted, is_text_data}
 use Rattle.zic_columns.specs.code.Quote.{strays_from}
@@ -89,4 +88,4 @@ module _ (d : ℕ) (can : CanDelimit d) where
       (refl, fields (next ∷ others) (All-tail (IsRfcField d) field (next ∷ others) are))
 
 pub rfc_strays : RfcRecordsHaveNoStray
-rfc_strays d all can are = from_field d can (delimited d all) ∙ fields d can all are
+rfc_strays d all can are = from_field can (delimited d all) ∙ fields d can all are

@@ -5,7 +5,7 @@ use Rattle.std.proofs.lemmas.Bool.{cases_lt}
 use Rattle.std.proofs.lemmas.List.{drop-append-le, drop-drop, drop_all, drop_at, get_or-drop, get_or-take, length-drop, length-take-le, take_all, take_at, take-append-drop, take-take}
 use Rattle.std.proofs.lemmas.List.Elements.{All-take}
 use Rattle.csv.specs.declared.parser.State.TheVariants as st
-use Rattle.zic_columns.specs.Column.{AreWholeRecords, HasNoQuote, ends_line}
+use Rattle.zic_columns.specs.Column.{AreWholeRecords, CanDelimit, HasNoQuote, ends_line}
 use Rattle.zic_columns.specs.code.Line.{AreWholeLines}
 use Rattle.zic_columns.specs.code.Quote.{IsFirstQuote}
 use Rattle.zic_columns.specs.code.Cut.{AreCutAfterLines}
@@ -62,26 +62,6 @@ lines_up_to_quote bytes at lines rest quote cut =
       then = inr (record { some = omega (arith, sum, quote.within, length-drop n bytes); begins = ap ends_line first ∙ ends });
     }
 
--- ---- whole records, and more of them
-
-module _ (bytes : List ℕ) (whole : ℕ) (records : AreWholeRecords (take whole bytes)) where
-  whole_more : (n : ℕ) → AreWholeRecords (take n (drop whole bytes)) → AreWholeRecords (take (whole + n) bytes)
-  whole_more n more = subst AreWholeRecords (sym (take-add whole n bytes)) (whole_both (take whole bytes) (take n (drop whole bytes)) records more)
-
-  pub more_lines : (n : ℕ) → BeginWithLines (drop whole bytes) n → AreWholeRecords (take (whole + n) bytes)
-  more_lines n lines = whole_more n (whole_lines (take n (drop whole bytes)) lines.plain lines.whole)
-
-  pub more_ends : (len : ℕ) → BeginsRecord (drop whole bytes) → IsEndOfRecord st.StartField (drop whole bytes) len → AreWholeRecords (take (whole + len) bytes)
-  more_ends len begins is =
-      let rest = drop whole bytes in
-      let size = length-take-le len rest is.within in
-      let front : BeginsRecord (take len rest) = record { some = omega (arith, size, is.some); begins = ap ends_line (get_or-take len rest 0 0 is.some) ∙ begins.begins } in
-      whole_more len (one_whole (take len rest) front is.ends).2
-
-  pub scanned_begun : (p : Place) → whole ≤ length bytes → BeginsRecord (drop whole bytes) → ReadsTo st.StartField (drop whole bytes) (state_at p)
-      → IsScanned bytes (record { whole = whole; begun = Some p })
-  scanned_begun p within begins reads = record { within = within; whole = records; begun = (begins, reads) }
-
 -- after lines a record begins, or nothing is left
 pub begins_next : (bytes : List ℕ) (whole n : ℕ) → BeginWithLines (drop whole bytes) n → whole + n < length bytes → BeginsRecord (drop (whole + n) bytes)
 begins_next bytes whole n lines more =
@@ -91,72 +71,94 @@ begins_next bytes whole n lines more =
     (λ begins. begins)
     lines.then)
 
-pub scanned_all : (bytes : List ℕ) (whole : ℕ) → AreWholeRecords (take whole bytes) → length bytes ≡ whole → IsScanned bytes (record { whole = whole; begun = None })
-scanned_all bytes whole records all = record { within = omega (arith, all); whole = records; begun = drop_all whole bytes (omega (arith, all)) }
+module _ (d : ℕ) where
+  -- ---- after whole records were taken
 
--- ---- more bytes
+  pub scanned_passed : (bytes : List ℕ) (scan : CsvScan) → IsScanned d bytes scan → IsScanned d (drop scan.whole bytes) (record { whole = 0; begun = scan.begun })
+  scanned_passed bytes scan scanned = record { within = omega arith; whole = whole_none d; begun = scanned.begun }
 
-module _ (bytes : List ℕ) (before : ℕ) (within : before ≤ length bytes) where
-  size : length (take before bytes) ≡ before
-  size = length-take-le before bytes within
+  pub scanned_none : IsScanned d [] (record { whole = 0; begun = None })
+  scanned_none = record { within = omega arith; whole = whole_none d; begun = refl }
 
-  -- nothing but whole records came before
-  pub nothing_begun : (whole : ℕ) → IsScanned (take before bytes) (record { whole = whole; begun = None }) → AreWholeRecords (take before bytes)
-  nothing_begun whole scanned =
-      let left = ap length scanned.begun in
-      let at : whole ≡ before = omega (arith, left, length-drop whole (take before bytes), scanned.within, size) in
-      subst AreWholeRecords (take_all whole (take before bytes) (omega (arith, size, at))) scanned.whole
+module _ {d : ℕ} (can : CanDelimit d) where
+  -- ---- whole records, and more of them
 
-  module _ (whole : ℕ) (p : Place) (scanned : IsScanned (take before bytes) (record { whole = whole; begun = Some p })) where
-    begun_part : List ℕ
-    begun_part = drop whole (take before bytes)
+  module _ (bytes : List ℕ) (whole : ℕ) (records : AreWholeRecords d (take whole bytes)) where
+    whole_more : (n : ℕ) → AreWholeRecords d (take n (drop whole bytes)) → AreWholeRecords d (take (whole + n) bytes)
+    whole_more n more = subst (AreWholeRecords d) (sym (take-add whole n bytes)) (whole_both d (take whole bytes) (take n (drop whole bytes)) records more)
 
-    in_front : whole ≤ before
-    in_front = omega (arith, scanned.within, size)
+    pub more_lines : (n : ℕ) → BeginWithLines (drop whole bytes) n → AreWholeRecords d (take (whole + n) bytes)
+    more_lines n lines = whole_more n (whole_lines can (take n (drop whole bytes)) lines.plain lines.whole)
 
-    same_whole : take whole (take before bytes) ≡ take whole bytes
-    same_whole = take-take whole before bytes in_front
+    pub more_ends : (len : ℕ) → BeginsRecord (drop whole bytes) → IsEndOfRecord d st.StartField (drop whole bytes) len → AreWholeRecords d (take (whole + len) bytes)
+    more_ends len begins is =
+        let rest = drop whole bytes in
+        let size = length-take-le len rest is.within in
+        let front : BeginsRecord (take len rest) = record { some = omega (arith, size, is.some); begins = ap ends_line (get_or-take len rest 0 0 is.some) ∙ begins.begins } in
+        whole_more len (one_whole can (take len rest) front is.ends).2
 
-    -- the begun part, and what follows it
-    goes_on : begun_part ++ drop before bytes ≡ drop whole bytes
-    unfolding begun_part
-    goes_on = sym (drop-append-le whole (take before bytes) (drop before bytes) scanned.within) ∙ ap (drop whole) (take-append-drop before bytes)
+    pub scanned_begun : (p : Place) → whole ≤ length bytes → BeginsRecord (drop whole bytes) → ReadsTo d st.StartField (drop whole bytes) (state_at p)
+        → IsScanned d bytes (record { whole = whole; begun = Some p })
+    scanned_begun p within begins reads = record { within = within; whole = records; begun = (begins, reads) }
 
-    begins : (more : List ℕ) → BeginsRecord (begun_part ++ more)
-    unfolding begun_part
-    begins more = begins_more (drop whole (take before bytes)) more scanned.begun.0 where
-      begins_more : (xs ys : List ℕ) → BeginsRecord xs → BeginsRecord (xs ++ ys)
-      begins_more [] ys is = absurd (omega (arith, is.some))
-      begins_more (x ∷ xs) ys is = record { some = omega arith; begins = is.begins }
+  pub scanned_all : (bytes : List ℕ) (whole : ℕ) → AreWholeRecords d (take whole bytes) → length bytes ≡ whole → IsScanned d bytes (record { whole = whole; begun = None })
+  scanned_all bytes whole records all = record { within = omega (arith, all); whole = records; begun = drop_all whole bytes (omega (arith, all)) }
 
-    -- the begun record goes on
-    pub still_begun : (next : Place) → ReadsTo (state_at p) (drop before bytes) (state_at next) → IsScanned bytes (record { whole = whole; begun = Some next })
-    unfolding begun_part
-    still_begun next reads = record {
-      within = omega (arith, in_front, within);
-      whole = subst AreWholeRecords same_whole scanned.whole;
-      begun = (
-        subst BeginsRecord goes_on (begins (drop before bytes)),
-        subst (λ (b : List ℕ). ReadsTo st.StartField b (state_at next)) goes_on
-            (reads_both st.StartField (state_at p) (state_at next) begun_part (drop before bytes) scanned.begun.1 reads),
-      );
-    }
+  -- ---- more bytes
 
-    -- the begun record ends
-    pub then_whole : (len : ℕ) → IsEndOfRecord (state_at p) (drop before bytes) len → AreWholeRecords (take (before + len) bytes)
-    unfolding begun_part
-    then_whole len is =
-        let ended = take len (drop before bytes) in
-        let one = (one_whole (begun_part ++ ended) (begins ended) (ends_both st.StartField (state_at p) begun_part ended scanned.begun.1 is.ends)).2 in
-        let parts : take (before + len) bytes ≡ take whole (take before bytes) ++ (begun_part ++ ended) =
-        take-add before len bytes ∙ ap (λ (b : List ℕ). b ++ ended) (sym (take-append-drop whole (take before bytes)))
-        ∙ append_assoc (take whole (take before bytes)) begun_part ended in
-        subst AreWholeRecords (sym parts) (whole_both (take whole (take before bytes)) (begun_part ++ ended) scanned.whole one)
+  module _ (bytes : List ℕ) (before : ℕ) (within : before ≤ length bytes) where
+    size : length (take before bytes) ≡ before
+    size = length-take-le before bytes within
 
--- ---- after whole records were taken
+    -- nothing but whole records came before
+    pub nothing_begun : (whole : ℕ) → IsScanned d (take before bytes) (record { whole = whole; begun = None }) → AreWholeRecords d (take before bytes)
+    nothing_begun whole scanned =
+        let left = ap length scanned.begun in
+        let at : whole ≡ before = omega (arith, left, length-drop whole (take before bytes), scanned.within, size) in
+        subst (AreWholeRecords d) (take_all whole (take before bytes) (omega (arith, size, at))) scanned.whole
 
-pub scanned_passed : (bytes : List ℕ) (scan : CsvScan) → IsScanned bytes scan → IsScanned (drop scan.whole bytes) (record { whole = 0; begun = scan.begun })
-scanned_passed bytes scan scanned = record { within = omega arith; whole = whole_none; begun = scanned.begun }
+    module _ (whole : ℕ) (p : Place) (scanned : IsScanned d (take before bytes) (record { whole = whole; begun = Some p })) where
+      begun_part : List ℕ
+      begun_part = drop whole (take before bytes)
 
-pub scanned_none : IsScanned [] (record { whole = 0; begun = None })
-scanned_none = record { within = omega arith; whole = whole_none; begun = refl }
+      in_front : whole ≤ before
+      in_front = omega (arith, scanned.within, size)
+
+      same_whole : take whole (take before bytes) ≡ take whole bytes
+      same_whole = take-take whole before bytes in_front
+
+      -- the begun part, and what follows it
+      goes_on : begun_part ++ drop before bytes ≡ drop whole bytes
+      unfolding begun_part
+      goes_on = sym (drop-append-le whole (take before bytes) (drop before bytes) scanned.within) ∙ ap (drop whole) (take-append-drop before bytes)
+
+      begins : (more : List ℕ) → BeginsRecord (begun_part ++ more)
+      unfolding begun_part
+      begins more = begins_more (drop whole (take before bytes)) more scanned.begun.0 where
+        begins_more : (xs ys : List ℕ) → BeginsRecord xs → BeginsRecord (xs ++ ys)
+        begins_more [] ys is = absurd (omega (arith, is.some))
+        begins_more (x ∷ xs) ys is = record { some = omega arith; begins = is.begins }
+
+      -- the begun record goes on
+      pub still_begun : (next : Place) → ReadsTo d (state_at p) (drop before bytes) (state_at next) → IsScanned d bytes (record { whole = whole; begun = Some next })
+      unfolding begun_part
+      still_begun next reads = record {
+        within = omega (arith, in_front, within);
+        whole = subst (AreWholeRecords d) same_whole scanned.whole;
+        begun = (
+          subst BeginsRecord goes_on (begins (drop before bytes)),
+          subst (λ (b : List ℕ). ReadsTo d st.StartField b (state_at next)) goes_on
+              (reads_both can st.StartField (state_at p) (state_at next) begun_part (drop before bytes) scanned.begun.1 reads),
+        );
+      }
+
+      -- the begun record ends
+      pub then_whole : (len : ℕ) → IsEndOfRecord d (state_at p) (drop before bytes) len → AreWholeRecords d (take (before + len) bytes)
+      unfolding begun_part
+      then_whole len is =
+          let ended = take len (drop before bytes) in
+          let one = (one_whole can (begun_part ++ ended) (begins ended) (ends_both can st.StartField (state_at p) begun_part ended scanned.begun.1 is.ends)).2 in
+          let parts : take (before + len) bytes ≡ take whole (take before bytes) ++ (begun_part ++ ended) =
+          take-add before len bytes ∙ ap (λ (b : List ℕ). b ++ ended) (sym (take-append-drop whole (take before bytes)))
+          ∙ append_assoc (take whole (take before bytes)) begun_part ended in
+          subst (AreWholeRecords d) (sym parts) (whole_both d (take whole (take before bytes)) (begun_part ++ ended) scanned.whole one)

@@ -13,6 +13,7 @@ use Rattle.zic_columns.specs.declared.fields.Wanted.{Wanted}
 use Rattle.zic_columns.proofs.FirstFacts.{begins_after}
 use Rattle.zic_columns.proofs.OwnLens.{own_end, own_ends, own_nil}
 use Rattle.zic_columns.proofs.OwnRecords.{of_own_bytes}
+use Rattle.zic_columns.specs.Column.{CanDelimit}
 
 -- the rest stand where the line ends before the record end
 pub rest_at : (piece rest : List ℕ) (at : ℕ) → IsAfterLineEnds (drop at piece) rest → drop (length piece - length rest) piece ≡ rest
@@ -23,36 +24,37 @@ rest_at piece rest at after =
     let size : length front ≡ length piece - length rest = omega (arith, ap length parts, length-append front rest) in
     ap (drop (length piece - length rest)) parts ∙ drop_at front rest (length piece - length rest) size
 
--- a line end between records makes none
-pub after_end : (piece : List ℕ) (at : ℕ) → IsLineEndAt piece at → csv_records (drop at piece) ≡ csv_records (drop (at + 1) piece)
-after_end piece at is =
-    let rest = drop (at + 1) piece in
-    of_own_bytes (drop at piece) ∙ ap (λ (l : List ℕ). map own_record (own_texts l)) (drop_more piece at 0 is.within)
-    ∙ ap (map own_record) (own_end (get_or piece at 0) rest is.here) ∙ sym (of_own_bytes rest)
+module _ {d : ℕ} (can : CanDelimit d) where
+  -- a line end between records makes none
+  pub after_end : (piece : List ℕ) (at : ℕ) → IsLineEndAt piece at → csv_records d (drop at piece) ≡ csv_records d (drop (at + 1) piece)
+  after_end piece at is =
+      let rest = drop (at + 1) piece in
+      of_own_bytes can (drop at piece) ∙ ap (λ (l : List ℕ). map (own_record d) (own_texts d l)) (drop_more piece at 0 is.within)
+      ∙ ap (map (own_record d)) (own_end can (get_or piece at 0) rest is.here) ∙ sym (of_own_bytes can rest)
 
-module _ (piece : List ℕ) (at start : ℕ) (after : IsAfterLineEnds (drop at piece) (drop start piece)) where
-  -- the line ends make no record
-  rest_records : csv_records (drop at piece) ≡ csv_records (drop start piece)
-  rest_records =
-      of_own_bytes (drop at piece) ∙ ap (λ (l : List ℕ). map own_record (own_texts l)) after.parts
-      ∙ ap (map own_record) (own_ends after.skipped (drop start piece) after.ends) ∙ sym (of_own_bytes (drop start piece))
+  module _ (piece : List ℕ) (at start : ℕ) (after : IsAfterLineEnds (drop at piece) (drop start piece)) where
+    -- the line ends make no record
+    rest_records : csv_records d (drop at piece) ≡ csv_records d (drop start piece)
+    rest_records =
+        of_own_bytes can (drop at piece) ∙ ap (λ (l : List ℕ). map (own_record d) (own_texts d l)) after.parts
+        ∙ ap (map (own_record d)) (own_ends can after.skipped (drop start piece) after.ends) ∙ sym (of_own_bytes can (drop start piece))
 
-  pub none_next : drop start piece ≡ [] → (csv_records (drop at piece) ≡ []) × (csv_records (drop start piece) ≡ [])
-  none_next none =
-      let nothing : csv_records (drop start piece) ≡ [] =
-      of_own_bytes (drop start piece) ∙ ap (λ (l : List ℕ). map own_record (own_texts l)) none ∙ ap (map own_record) own_nil in
-      (rest_records ∙ nothing, nothing)
+    pub none_next : drop start piece ≡ [] → (csv_records d (drop at piece) ≡ []) × (csv_records d (drop start piece) ≡ [])
+    none_next none =
+        let nothing : csv_records d (drop start piece) ≡ [] =
+        of_own_bytes can (drop start piece) ∙ ap (λ (l : List ℕ). map (own_record d) (own_texts d l)) none ∙ ap (map (own_record d)) (own_nil can) in
+        (rest_records ∙ nothing, nothing)
 
-  pub begins_next : 0 < length (drop start piece) → BeginsRecord (drop start piece)
-  begins_next some = begins_after (drop at piece) (drop start piece) after some
+    pub begins_next : 0 < length (drop start piece) → BeginsRecord (drop start piece)
+    begins_next some = begins_after (drop at piece) (drop start piece) after some
 
-  pub first_next : (wanted : Wanted) (given : Record) → IsRecordFrom piece start wanted given
-      → csv_records (drop at piece) ≡ record_at piece given ∷ csv_records (drop given.own.«end» piece)
-  first_next wanted given is =
-      rest_records ∙ of_own_bytes (drop start piece) ∙ ap (map own_record) is.owns
-      ∙ ap (λ (w : List CsvRecord). record_at piece given ∷ w) (sym (of_own_bytes (drop given.own.«end» piece)))
+    pub first_next : (wanted : Wanted) (given : Record) → IsRecordFrom d piece start wanted given
+        → csv_records d (drop at piece) ≡ record_at d piece given ∷ csv_records d (drop given.own.«end» piece)
+    first_next wanted given is =
+        rest_records ∙ of_own_bytes can (drop start piece) ∙ ap (map (own_record d)) is.owns
+        ∙ ap (λ (w : List CsvRecord). record_at d piece given ∷ w) (sym (of_own_bytes can (drop given.own.«end» piece)))
 
-  pub plain_next : (wanted : Wanted) (ends : FieldEnds) (given : Record) → IsPlainFrom piece start wanted ends given
-      → csv_records (drop at piece) ≡ record_at piece given ∷ csv_records (drop (given.own.«end» + 1) piece)
-  plain_next wanted ends given is =
-      first_next wanted given is.from ∙ ap (λ (w : List CsvRecord). record_at piece given ∷ w) (after_end piece given.own.«end» is.ended)
+    pub plain_next : (wanted : Wanted) (ends : FieldEnds) (given : Record) → IsPlainFrom d piece start wanted ends given
+        → csv_records d (drop at piece) ≡ record_at d piece given ∷ csv_records d (drop (given.own.«end» + 1) piece)
+    plain_next wanted ends given is =
+        first_next wanted given is.from ∙ ap (λ (w : List CsvRecord). record_at d piece given ∷ w) (after_end piece given.own.«end» is.ended)

@@ -2,12 +2,10 @@
 -- after it.
 use Rattle.std.specs.Prelude.{ℕ, List, [], ◌∷◌, ◌++◌, if◌then◌else◌}
 use Rattle.csv.specs.Machine.{ends_at_end, is_end, step}
-use Rattle.csv.specs.Reading.{default_config}
 use Rattle.csv.specs.declared.parser.Config.{Config}
 use Rattle.csv.specs.declared.parser.State.{State}
 use Rattle.csv.specs.declared.parser.State.TheVariants as st
-use Rattle.zic_columns.specs.Column.{column_records}
-use Rattle.zic_columns.specs.Exchange.{config_of}
+use Rattle.zic_columns.specs.Column.{column_records, config_of}
 
 -- The own bytes of a record so far, after one more byte, which leads the machine to a state. Within a record the byte joins them; before
 -- one there are none. (`ends_at_end`: the machine is within a record, which the end of the column would end.)
@@ -22,12 +20,8 @@ own_from cfg s own (byte ∷ bytes) =
     else own_from cfg (step cfg s byte).0 (own_after (step cfg s byte).0 byte own) bytes
 
 -- the own bytes of the records of a column
-abbrev pub own_texts : List ℕ → List (List ℕ)
-own_texts bytes = own_from default_config st.StartRecord [] bytes
-
--- and with another delimiter
-abbrev pub delimited_texts : ℕ → List ℕ → List (List ℕ)
-delimited_texts delimiter bytes = own_from (config_of delimiter) st.StartRecord [] bytes
+abbrev pub own_texts : ℕ → List ℕ → List (List ℕ)
+own_texts delimiter bytes = own_from (config_of delimiter) st.StartRecord [] bytes
 
 -- the first of texts, and no bytes where there is none
 abbrev pub first_text : List (List ℕ) → List ℕ
@@ -35,8 +29,8 @@ first_text [] = []
 first_text (text ∷ texts) = text
 
 -- the own bytes of the first record, and no bytes where there is no record
-abbrev pub first_own : List ℕ → List ℕ
-first_own bytes = first_text (own_texts bytes)
+abbrev pub first_own : ℕ → List ℕ → List ℕ
+first_own delimiter bytes = first_text (own_texts delimiter bytes)
 
 -- a record's own bytes and its fields
 pub record CsvRecord : Type 0 where
@@ -50,5 +44,5 @@ paired (own ∷ texts) [] = []
 paired (own ∷ texts) (fields ∷ records) = record { own = own; fields = fields } ∷ paired texts records
 
 -- the records of a column, each with its own bytes
-abbrev pub csv_records : List ℕ → List CsvRecord
-csv_records bytes = paired (own_texts bytes) (column_records bytes)
+abbrev pub csv_records : ℕ → List ℕ → List CsvRecord
+csv_records delimiter bytes = paired (own_texts delimiter bytes) (column_records delimiter bytes)

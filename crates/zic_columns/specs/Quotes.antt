@@ -5,8 +5,7 @@ use Rattle.std.specs.Prelude.{◌≡◌, ◌⊎◌, ℕ, Bool, true, false, not,
 use Rattle.csv.specs.Machine.{step}
 use Rattle.csv.specs.declared.parser.State.{State}
 use Rattle.csv.specs.declared.parser.State.TheVariants as st
-use Rattle.zic_columns.specs.Column.{ends_line, state_after}
-use Rattle.zic_columns.specs.Exchange.{config_of}
+use Rattle.zic_columns.specs.Column.{config_of, ends_line, state_after}
 
 -- a CSV reader's machine stands between double quotes
 abbrev pub is_quoted : State → Bool

@@ -15,8 +15,8 @@ first_fields [] = []
 first_fields (fields ∷ records) = fields
 
 -- the record of some own bytes: its fields are those that a CSV reader gives of these bytes alone
-abbrev pub own_record : List ℕ → CsvRecord
-own_record own = record { own = own; fields = first_fields (column_records own) }
+abbrev pub own_record : ℕ → List ℕ → CsvRecord
+own_record delimiter own = record { own = own; fields = first_fields (column_records delimiter own) }
 
 -- the span is one of the piece
 abbrev pub IsWithin : List ℕ → Span → Type 0
@@ -32,13 +32,13 @@ IsWithinPiece piece (Plain span) = IsWithin piece span
 IsWithinPiece piece (Quoted span) = IsWithin piece span
 
 -- the text of the first field that a CSV reader gives of these bytes alone, and no bytes where there is none
-abbrev pub text_alone : List ℕ → List ℕ
-text_alone bytes = first_text (first_fields (column_records bytes))
+abbrev pub text_alone : ℕ → List ℕ → List ℕ
+text_alone delimiter bytes = first_text (first_fields (column_records delimiter bytes))
 
 -- The text of a field: its bytes, or of a field with double quotes what a CSV reader makes of them alone.
-abbrev pub field_text : List ℕ → Field → List ℕ
-field_text piece (Plain span) = bytes_at piece span
-field_text piece (Quoted span) = text_alone (bytes_at piece span)
+abbrev pub field_text : ℕ → List ℕ → Field → List ℕ
+field_text delimiter piece (Plain span) = bytes_at piece span
+field_text delimiter piece (Quoted span) = text_alone delimiter (bytes_at piece span)
 
 -- the text of a wanted field: none where the record has no such field, or none is wanted
 abbrev pub wanted_text : List (List ℕ) → Option ℕ → List ℕ
@@ -46,21 +46,22 @@ wanted_text fields None = []
 wanted_text fields (Some index) = slice_index_or fields index []
 
 -- the record that stands in a piece
-abbrev pub record_at : List ℕ → Record → CsvRecord
-record_at piece given = own_record (bytes_at piece given.own)
+abbrev pub record_at : ℕ → List ℕ → Record → CsvRecord
+record_at delimiter piece given = own_record delimiter (bytes_at piece given.own)
 
 -- the parts of a record of a piece
-pub record IsSplit (piece : List ℕ) (wanted : Wanted) (given : Record) : Type 0 where
+pub record IsSplit (delimiter : ℕ) (piece : List ℕ) (wanted : Wanted) (given : Record) : Type 0 where
   pub own : IsWithin piece given.own
-  pub count : given.count ≡ length (record_at piece given).fields
+  pub count : given.count ≡ length (record_at delimiter piece given).fields
   pub zone_within : IsWithinPiece piece given.zone
-  pub zone : field_text piece given.zone ≡ wanted_text (record_at piece given).fields wanted.zone
+  pub zone : field_text delimiter piece given.zone ≡ wanted_text (record_at delimiter piece given).fields wanted.zone
   pub time_within : IsWithinPiece piece given.time
-  pub time : field_text piece given.time ≡ wanted_text (record_at piece given).fields (Some wanted.time)
-  pub stray : given.stray ≡ has_stray 44 (bytes_at piece given.own)
+  pub time : field_text delimiter piece given.time ≡ wanted_text (record_at delimiter piece given).fields (Some wanted.time)
+  pub stray : given.stray ≡ has_stray delimiter (bytes_at piece given.own)
 
--- a piece that is split: its bytes, the fields that rows need, and the records to come
+-- a piece that is split: its delimiter, its bytes, the fields that rows need, and the records to come
 pub record Splitting : Type 0 where
+  pub delimiter : ℕ
   pub piece : List ℕ
   pub wanted : Wanted
   pub left : List CsvRecord

@@ -16,11 +16,12 @@ abbrev pub with_past : Option ℕ → Option (List ℕ) → Option (List ℕ)
 with_past None known = known
 with_past (Some byte) known = prepend_known (byte ∷ []) known
 
--- A column, as far as it was taken: where its records end, the pieces of the round that was taken last,
+-- A column, as far as it was taken: where its records end, its delimiter, the pieces of the round that was taken last,
 -- the buffered bytes that no round had, the length of the buffer in which these stand, the byte beyond the
 -- limit, if there was one, the number of bytes that the reader may still give, and the reader.
 pub record ColumnOf (R : Type 0) : Type 0 where
   pub by : Records
+  pub delimiter : ℕ
   pub round : List (List ℕ)
   pub held : List ℕ
   pub buffer : ℕ
@@ -46,12 +47,12 @@ abbrev pub StaysWithin : {R : Type 0} → (R → Option (List ℕ)) → ColumnOf
 StaysWithin remaining old new = TakesOf (remaining old.reader) (remaining new.reader) (may_take old.past old.left) (may_take new.past new.left)
 
 -- the records of pieces, one piece after another
-abbrev pub records_of : List (List ℕ) → List (List (List ℕ))
-records_of pieces = flat_map column_records pieces
+abbrev pub records_of : ℕ → List (List ℕ) → List (List (List ℕ))
+records_of delimiter pieces = flat_map (column_records delimiter) pieces
 
 -- the same, each with its own bytes
-abbrev pub records_of_pieces : List (List ℕ) → List CsvRecord
-records_of_pieces pieces = flat_map csv_records pieces
+abbrev pub records_of_pieces : ℕ → List (List ℕ) → List CsvRecord
+records_of_pieces delimiter pieces = flat_map (csv_records delimiter) pieces
 
 -- a record may have this number of bytes of its own, where there is a greatest number of them
 abbrev pub may_have : Option ℕ → ℕ → Bool
@@ -74,33 +75,35 @@ BeginsTooLong most [] = ⊥
 BeginsTooLong most (first ∷ others) = may_have most (length first.own) ≡ false
 
 -- Where the bytes that are left are known, the next record has more bytes of its own than it may have.
-abbrev pub IsNextTooLong : Option ℕ → Records → Option (List ℕ) → Type 0
-IsNextTooLong most by known = IfSome known (λ bytes. BeginsTooLong most (records_by by bytes))
+abbrev pub IsNextTooLong : Option ℕ → Records → ℕ → Option (List ℕ) → Type 0
+IsNextTooLong most by delimiter known = IfSome known (λ bytes. BeginsTooLong most (records_by by delimiter bytes))
 
 -- the records that were taken: those of the pieces of a round, or that of an open line; one that is too long is left
-abbrev pub taken_records : Taken → List (List ℕ) → List CsvRecord
-taken_records taken.Round pieces = records_of_pieces pieces
-taken_records (taken.OpenLine line) pieces = open_record line.own.items ∷ []
-taken_records taken.TooLong pieces = []
-taken_records taken.End pieces = []
+abbrev pub taken_records : ℕ → Taken → List (List ℕ) → List CsvRecord
+taken_records delimiter taken.Round pieces = records_of_pieces delimiter pieces
+taken_records delimiter (taken.OpenLine line) pieces = open_record line.own.items ∷ []
+taken_records delimiter taken.TooLong pieces = []
+taken_records delimiter taken.End pieces = []
 
 -- Where the bytes that are left of a column are known, these records come first, and then those of the bytes that are left then.
-abbrev pub Takes : Records → Option (List ℕ) → Option (List ℕ) → List CsvRecord → Type 0
-Takes by old new first = IfSome old (λ bytes. (rest : List ℕ) × (new ≡ Some rest) × (records_by by bytes ≡ first ++ records_by by rest))
+abbrev pub Takes : Records → ℕ → Option (List ℕ) → Option (List ℕ) → List CsvRecord → Type 0
+Takes by delimiter old new first =
+    IfSome old (λ bytes. (rest : List ℕ) × (new ≡ Some rest) × (records_by by delimiter bytes ≡ first ++ records_by by delimiter rest))
 
 -- The first record was passed over, if there was one, where the bytes before and after are known: the others are left.
-abbrev pub PassesFirst : Records → Option (List ℕ) → Option (List ℕ) → Type 0
-PassesFirst by old new = IfSome old (λ bytes. (rest : List ℕ) × (new ≡ Some rest) × (records_by by rest ≡ drop 1 (records_by by bytes)))
+abbrev pub PassesFirst : Records → ℕ → Option (List ℕ) → Option (List ℕ) → Type 0
+PassesFirst by delimiter old new =
+    IfSome old (λ bytes. (rest : List ℕ) × (new ≡ Some rest) × (records_by by delimiter rest ≡ drop 1 (records_by by delimiter bytes)))
 
 abbrev pub PassesRecord : {R : Type 0} → (R → Option (List ℕ)) → ColumnOf R → ColumnOf R → Type 0
-PassesRecord remaining old new = PassesFirst old.by (unread remaining old) (unread remaining new)
+PassesRecord remaining old new = PassesFirst old.by old.delimiter (unread remaining old) (unread remaining new)
 
 -- No record is left, where the bytes are known.
-abbrev pub HasNoRecord : Records → Option (List ℕ) → Type 0
-HasNoRecord by known = IfSome known (λ bytes. records_by by bytes ≡ [])
+abbrev pub HasNoRecord : Records → ℕ → Option (List ℕ) → Type 0
+HasNoRecord by delimiter known = IfSome known (λ bytes. records_by by delimiter bytes ≡ [])
 
 -- each piece has `size` records, but for the last, which has 1 to `size`
-abbrev pub ArePiecesOf : ℕ → List (List ℕ) → Type 0
-ArePiecesOf size [] = Unit {0}
-ArePiecesOf size (piece ∷ []) = IsInRange 1 size (length (column_records piece))
-ArePiecesOf size (piece ∷ next ∷ pieces) = (length (column_records piece) ≡ size) × ArePiecesOf size (next ∷ pieces)
+abbrev pub ArePiecesOf : ℕ → ℕ → List (List ℕ) → Type 0
+ArePiecesOf delimiter size [] = Unit {0}
+ArePiecesOf delimiter size (piece ∷ []) = IsInRange 1 size (length (column_records delimiter piece))
+ArePiecesOf delimiter size (piece ∷ next ∷ pieces) = (length (column_records delimiter piece) ≡ size) × ArePiecesOf delimiter size (next ∷ pieces)

@@ -1,12 +1,13 @@
 //! Bytes, taken 32 or 64 at a time.
 
-ghost use Rattle.std.specs.Prelude.{◌≡◌, ◌+◌, ◌<◌, ◌≤◌, ◌^◌, ◌==◌, true, length, map, take, Some, IfSome};
+ghost use Rattle.std.specs.Prelude.{◌≡◌, ◌+◌, ◌<◌, ◌≤◌, ◌^◌, ◌==◌, ℕ, true, length, map, take, Some, IfSome};
 ghost use Rattle.std.specs.Simd.Lanes.{chunk, mask_l};
 ghost use Rattle.memchr.specs.Find.{IsFirst, Passes};
-ghost use Rattle.zic_columns.specs.Column.{HasNoQuote, ends_line};
+ghost use Rattle.zic_columns.specs.Column.{CanDelimit, HasNoQuote, ends_line};
 ghost use Rattle.zic_columns.specs.code.Block.{AreCounted, ArePassed, ends_field, is_after_line, mask_at, records_ended};
 
 use crate::csv_scan::split_lines;
+use crate::delimiter::Separator;
 use crate::line::ends_line;
 use std::simd::prelude::*;
 
@@ -55,30 +56,30 @@ fn line_ends_at(bytes: &[u8], at: usize) -> u64
     (block.simd_eq(u8x64::splat(b'\r')) | block.simd_eq(u8x64::splat(b'\n'))).to_bitmask()
 }
 
-/// Returns a mask of the commas and line ends among the 32 bytes from an index on.
+/// Returns a mask of the delimiters and line ends among the 32 bytes from an index on.
 #[inline(always)]
-fn field_ends_at(bytes: &[u8], at: usize) -> u64
+fn field_ends_at(bytes: &[u8], at: usize, delimiter: Separator) -> u64
     requires { at + BLOCK ≤ length bytes.now }
-    ensures { result ≡ mask_at ends_field bytes.now at }
+    ensures { result ≡ mask_at (ends_field delimiter.byte) bytes.now at }
 {
     let block = u8x32::from_slice(&bytes[at..]);
-    (block.simd_eq(u8x32::splat(b','))
+    (block.simd_eq(u8x32::splat(delimiter.byte))
         | block.simd_eq(u8x32::splat(b'\r'))
         | block.simd_eq(u8x32::splat(b'\n'))).to_bitmask()
 }
 
-/// Returns the index of the first comma or line end among the 32 bytes from an index on, where
+/// Returns the index of the first delimiter or line end among the 32 bytes from an index on, where
 /// there are as many.
 #[inline(always)]
-pub(crate) fn near_field_end(bytes: &[u8], from: usize) -> Option<usize>
+pub(crate) fn near_field_end(bytes: &[u8], from: usize, delimiter: Separator) -> Option<usize>
     requires { from ≤ length bytes.now }
     ensures { IfSome result
-        (λ at. IsFirst (Passes ends_field bytes.now) from (length bytes.now) (Some at)) }
+        (λ at. IsFirst (Passes (ends_field delimiter.byte) bytes.now) from (length bytes.now) (Some at)) }
 {
     if bytes.len() - from < BLOCK {
         return None;
     }
-    let ends = field_ends_at(bytes, from);
+    let ends = field_ends_at(bytes, from, delimiter);
     if ends == 0 {
         return None;
     }
@@ -150,7 +151,7 @@ fn count_records(bytes: &[u8], most: usize) -> Passed
 /// Passes over whole lines without a double quote that are fewer records than `most`.
 pub(crate) fn pass_records(bytes: &[u8], most: usize) -> Passed
     requires { 0 < most }
-    ensures { ArePassed bytes.now most result }
+    ensures { (delimiter : ℕ) → CanDelimit delimiter → ArePassed delimiter bytes.now most result }
 {
     let counted = count_records(bytes, most);
     Passed {

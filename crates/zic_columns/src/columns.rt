@@ -13,6 +13,7 @@ ghost use Rattle.zic_columns.specs.code.Mark.{ShowsMark};
 ghost use Rattle.zic_columns.specs.code.Buffered.{CanBeCut, IsBuffered, UnendedBy, to_come};
 
 use crate::buffer::Window;
+use crate::delimiter::Separator;
 use crate::first::{first_record, split_records};
 use crate::limit::Bounded;
 use crate::line_scan::{OpenLine, is_open};
@@ -26,7 +27,7 @@ use crate::scan::Scan;
 use std::alloc::{AllocError, Global};
 use std::io::{self, Read};
 use std::marker::Model;
-use zic_plan::{LineEnd, Notes, Records};
+use zic_plan::{Delimiter, LineEnd, Notes, Records};
 
 /// The number of bytes that show whether a column begins with a byte order mark, whatever they are.
 const MARK_LEN: usize = 3;
@@ -114,7 +115,7 @@ enum Buffered {
     TooLong,
 }
 
-/// A column that is read in rounds. Clauses see it as where its records end, the round that was taken
+/// A column that is read in rounds. Clauses see it as where its records end, its delimiter, the round that was taken
 /// last, the buffered bytes that no round had, the length of their buffer, and the reader that gives the
 /// others, with the number of bytes that it may still give.
 ///
@@ -124,6 +125,7 @@ enum Buffered {
 pub struct Column<R: Read> {
     reader: Bounded<R>,
     window: Window,
+    delimiter: Separator,
     /// The whole records among the buffered bytes.
     scan: Scan,
     /// The places of the round's pieces in the bytes that were taken last.
@@ -144,6 +146,7 @@ impl<R: Read> Model for Column<R> {
 
     ghost view = { λ column. record {
       by = mode_of column.scan;
+      delimiter = column.delimiter.byte;
       round = pieces_at (taken_bytes column.window) column.ranges.items;
       held = held_bytes column.window;
       buffer = vec_len column.window.bytes;
@@ -154,11 +157,12 @@ impl<R: Read> Model for Column<R> {
 
     ghost invariant = { λ column.
         AreWithin column.ranges.items (length (taken_bytes column.window))
-        × IsScannedBy (held_bytes column.window) column.scan };
+        × IsScannedBy column.delimiter.byte (held_bytes column.window) column.scan };
 }
 
 impl<R: Read + Drop> Column<R> {
-    /// Begins the column of a reader, of at most `most` bytes, whose records end as `records` says.
+    /// Begins the column of a reader, of at most `most` bytes, with this delimiter between fields, whose
+    /// records end as `records` says.
     /// Reads once, and again only while the buffered bytes are a proper beginning of a byte order mark.
     /// Its line feeds are counted where details are noted.
     ///
@@ -173,9 +177,11 @@ impl<R: Read + Drop> Column<R> {
         reader: R,
         most: u64,
         records: Records,
+        delimiter: &Delimiter,
         notes: Notes,
     ) -> Result<Column<R>, Unread>
         ensures by { IfOk result (λ column. column.by ≡ records) }
+        ensures delimiter { IfOk result (λ column. column.delimiter ≡ delimiter.now) }
         ensures bytes { IfOk result (λ column. IfSome (R.remaining reader)
             (λ bytes. unread R.remaining column ≡ Some (strip_bom bytes))) }
         ensures limit { IfOk result (λ column. TakesOf (R.remaining reader)
@@ -186,6 +192,7 @@ impl<R: Read + Drop> Column<R> {
         let mut column = Column {
             reader: Bounded::new(reader, most),
             window: Window::new(alloc),
+            delimiter: Separator::of(delimiter),
             scan: Scan::new(records),
             ranges: Vec::new(alloc),
             lines: match notes {
@@ -227,15 +234,16 @@ impl<R: Read> Column<R> {
     ) -> Result<Taken, Unread>
         requires { 0 < size }
         ensures by { self.new.by ≡ self.old.by }
-        ensures takes { IfOk result (λ taken. Takes self.old.by (unread R.remaining self.old)
-            (unread R.remaining self.new) (taken_records taken self.new.round)) }
+        ensures delimiter { self.new.delimiter ≡ self.old.delimiter }
+        ensures takes { IfOk result (λ taken. Takes self.old.by self.old.delimiter (unread R.remaining self.old)
+            (unread R.remaining self.new) (taken_records self.old.delimiter taken self.new.round)) }
         ensures some { IfOk result (λ taken. taken ≡ Taken.Round ↔ (0 < length self.new.round)) }
         ensures end { IfOk result
-            (λ taken. taken ≡ Taken.End → HasNoRecord self.old.by (unread R.remaining self.new)) }
+            (λ taken. taken ≡ Taken.End → HasNoRecord self.old.by self.old.delimiter (unread R.remaining self.new)) }
         ensures long { IfOk result (λ taken. taken ≡ Taken.TooLong
-            → IsNextTooLong longest self.old.by (unread R.remaining self.new)) }
+            → IsNextTooLong longest self.old.by self.old.delimiter (unread R.remaining self.new)) }
         ensures few { IfOk result (λ _. length self.new.round ≤ MAX_ROUND_PIECES) }
-        ensures cut { IfOk result (λ _. ArePiecesOf size self.new.round) }
+        ensures cut { IfOk result (λ _. ArePiecesOf self.old.delimiter size self.new.round) }
         ensures limit { StaysWithin R.remaining self.old self.new }
         ensures held { OnOk result (length self.new.held ≤ self.new.buffer) }
         ensures buffer { GrowsFor wanted longest self.old self.new }
@@ -277,13 +285,14 @@ impl<R: Read> Column<R> {
         longest: Option<u64>,
     ) -> Result<Vec<u8>, PassStop>
         ensures by { self.new.by ≡ self.old.by }
+        ensures delimiter { self.new.delimiter ≡ self.old.delimiter }
         ensures passes { IfOk result (λ _. PassesRecord R.remaining self.old self.new) }
         ensures own { IfOk result (λ own. IfSome (unread R.remaining self.old)
-            (λ bytes. own.items ≡ first_text (texts_by self.old.by bytes))) }
+            (λ bytes. own.items ≡ first_text (texts_by self.old.by self.old.delimiter bytes))) }
         ensures none { IfOk result (λ _. self.new.round ≡ []) }
         ensures short { IfOk result (λ own. may_have longest (length own.items) ≡ true) }
         ensures long { IfErr result (λ why. why ≡ PassStop.TooLong
-            → IsNextTooLong longest self.old.by (unread R.remaining self.old)) }
+            → IsNextTooLong longest self.old.by self.old.delimiter (unread R.remaining self.old)) }
         ensures limit { StaysWithin R.remaining self.old self.new }
         ensures held { OnOk result (length self.new.held ≤ self.new.buffer) }
         ensures buffer { GrowsFor wanted longest self.old self.new }
@@ -308,6 +317,7 @@ impl<R: Read> Column<R> {
     /// Reads until the buffered bytes show whether the column begins with a byte order mark.
     fn read_mark(&mut self) -> Result<(), Unread>
         ensures by { self.new.by ≡ self.old.by }
+        ensures delimiter { self.new.delimiter ≡ self.old.delimiter }
         ensures keeps { IfOk result
             (λ _. Keeps (unread R.remaining self.old) (unread R.remaining self.new)) }
         ensures shows { IfOk result
@@ -329,21 +339,28 @@ impl<R: Read> Column<R> {
     /// Takes a round of the first `count` buffered bytes, or nothing where they have no record.
     fn take_round(&mut self, alloc: Global, count: usize, size: usize) -> Result<Taken, Unread>
         requires some { 0 < size }
-        requires cut { CanBeCut self.old.by self.old.held (to_come R.remaining self.old) count }
+        requires cut { CanBeCut self.old.by self.old.delimiter self.old.held (to_come R.remaining self.old) count }
         ensures by { self.new.by ≡ self.old.by }
-        ensures takes { IfOk result (λ taken. Takes self.old.by (unread R.remaining self.old)
-            (unread R.remaining self.new) (taken_records taken self.new.round)) }
+        ensures delimiter { self.new.delimiter ≡ self.old.delimiter }
+        ensures takes { IfOk result (λ taken. Takes self.old.by self.old.delimiter (unread R.remaining self.old)
+            (unread R.remaining self.new) (taken_records self.old.delimiter taken self.new.round)) }
         ensures some { IfOk result (λ taken. taken ≡ Taken.Round ↔ (0 < length self.new.round)) }
         ensures end { IfOk result
-            (λ taken. taken ≡ Taken.End → HasNoRecord self.old.by (unread R.remaining self.new)) }
+            (λ taken. taken ≡ Taken.End → HasNoRecord self.old.by self.old.delimiter (unread R.remaining self.new)) }
         ensures short { IfOk result (λ taken. taken ≡ Taken.TooLong → ⊥) }
         ensures few { IfOk result (λ _. length self.new.round ≤ MAX_ROUND_PIECES) }
-        ensures cut { IfOk result (λ _. ArePiecesOf size self.new.round) }
+        ensures cut { IfOk result (λ _. ArePiecesOf self.old.delimiter size self.new.round) }
         ensures limit { StaysWithin R.remaining self.old self.new }
         ensures held { OnOk result (length self.new.held ≤ self.new.buffer) }
         ensures buffer { self.new.buffer ≡ self.old.buffer }
     {
-        let cut = cut_pieces(alloc, &self.window.held()[..count], size, self.lines)?;
+        let cut = cut_pieces(
+            alloc,
+            &self.window.held()[..count],
+            size,
+            self.lines,
+            self.delimiter,
+        )?;
         let none = cut.ranges.is_empty();
         self.pass(cut.len, cut.ranges);
         if none {
@@ -362,12 +379,13 @@ impl<R: Read> Column<R> {
         longest: Option<u64>,
     ) -> Result<Vec<u8>, PassStop>
         ensures by { self.new.by ≡ self.old.by }
+        ensures delimiter { self.new.delimiter ≡ self.old.delimiter }
         ensures passes { IfOk result (λ _. PassesRecord R.remaining self.old self.new) }
         ensures own { IfOk result (λ own. IfSome (unread R.remaining self.old)
-            (λ bytes. own.items ≡ first_text (texts_by self.old.by bytes))) }
+            (λ bytes. own.items ≡ first_text (texts_by self.old.by self.old.delimiter bytes))) }
         ensures none { IfOk result (λ _. self.new.round ≡ []) }
         ensures long { IfErr result (λ why. why ≡ PassStop.TooLong
-            → IsNextTooLong longest self.old.by (unread R.remaining self.old)) }
+            → IsNextTooLong longest self.old.by self.old.delimiter (unread R.remaining self.old)) }
         ensures limit { StaysWithin R.remaining self.old self.new }
         ensures held { OnOk result (length self.new.held ≤ self.new.buffer) }
         ensures buffer { GrowsFor wanted longest self.old self.new }
@@ -386,18 +404,19 @@ impl<R: Read> Column<R> {
     /// Passes over the first record of the first `count` buffered bytes, if they have one. Returns the
     /// record's own bytes, or no bytes.
     fn pass_first(&mut self, alloc: Global, count: usize) -> Result<Vec<u8>, Unread>
-        requires { CanBeCut self.old.by self.old.held (to_come R.remaining self.old) count }
+        requires { CanBeCut self.old.by self.old.delimiter self.old.held (to_come R.remaining self.old) count }
         ensures by { self.new.by ≡ self.old.by }
+        ensures delimiter { self.new.delimiter ≡ self.old.delimiter }
         ensures passes { IfOk result (λ _. PassesRecord R.remaining self.old self.new) }
         ensures own { IfOk result (λ own. IfSome (unread R.remaining self.old)
-            (λ bytes. own.items ≡ first_text (texts_by self.old.by bytes))) }
+            (λ bytes. own.items ≡ first_text (texts_by self.old.by self.old.delimiter bytes))) }
         ensures none { IfOk result (λ _. self.new.round ≡ []) }
         ensures limit { StaysWithin R.remaining self.old self.new }
         ensures held { OnOk result (length self.new.held ≤ self.new.buffer) }
         ensures buffer { self.new.buffer ≡ self.old.buffer }
     {
-        let (record, _) = split_records(&self.window.held()[..count], 1);
-        let own = first_own_bytes(alloc, record)?;
+        let (record, _) = split_records(&self.window.held()[..count], 1, self.delimiter);
+        let own = first_own_bytes(alloc, record, self.delimiter)?;
         let len = record.len();
         self.pass(len, Vec::new(alloc));
         Ok(own)
@@ -412,10 +431,11 @@ impl<R: Read> Column<R> {
         longest: Option<u64>,
     ) -> Result<Buffered, Unread>
         ensures by { self.new.by ≡ self.old.by }
-        ensures takes { IfOk result (λ _. Takes self.old.by
+        ensures delimiter { self.new.delimiter ≡ self.old.delimiter }
+        ensures takes { IfOk result (λ _. Takes self.old.by self.old.delimiter
             (unread R.remaining self.old) (unread R.remaining self.new) []) }
         ensures buffered { IfOk result
-            (IsBuffered longest self.new.by self.new.held (to_come R.remaining self.new)) }
+            (IsBuffered longest self.new.by self.new.delimiter self.new.held (to_come R.remaining self.new)) }
         ensures limit { StaysWithin R.remaining self.old self.new }
         ensures buffer { GrowsFor wanted longest self.old self.new }
     {
@@ -435,17 +455,18 @@ impl<R: Read> Column<R> {
     /// byte.
     fn buffered(&mut self, alloc: Global, longest: Option<u64>) -> Option<Buffered>
         ensures by { self.new.by ≡ self.old.by }
-        ensures takes { Takes self.old.by
+        ensures delimiter { self.new.delimiter ≡ self.old.delimiter }
+        ensures takes { Takes self.old.by self.old.delimiter
             (unread R.remaining self.old) (unread R.remaining self.new) [] }
         ensures buffered { IfSome result
-            (IsBuffered longest self.new.by self.new.held (to_come R.remaining self.new)) }
-        ensures none { result ≡ None → UnendedBy self.new.by self.new.held }
+            (IsBuffered longest self.new.by self.new.delimiter self.new.held (to_come R.remaining self.new)) }
+        ensures none { result ≡ None → UnendedBy self.new.by self.new.delimiter self.new.held }
         ensures short { result ≡ None → may_have longest (length self.new.held) ≡ true }
         ensures limit { StaysWithin R.remaining self.old self.new }
         ensures buffer { self.new.buffer ≡ self.old.buffer }
     {
         let whole = self.scan.whole();
-        if first_record(&self.window.held()[..whole]).is_some() {
+        if first_record(&self.window.held()[..whole], self.delimiter).is_some() {
             return Some(Buffered::Records(whole));
         }
         let opened = self.scan.opened();
@@ -462,14 +483,17 @@ impl<R: Read> Column<R> {
     /// Returns what is buffered at the end of the column, where no line has its end.
     fn last_buffered(&self, longest: Option<u64>) -> Buffered
         requires end { IsAtEnd (to_come R.remaining self.now) }
-        requires unended { UnendedBy self.now.by self.now.held }
-        ensures { IsBuffered longest self.now.by self.now.held (to_come R.remaining self.now) result }
+        requires unended { UnendedBy self.now.by self.now.delimiter self.now.held }
+        ensures { IsBuffered longest self.now.by self.now.delimiter self.now.held (to_come R.remaining self.now) result }
     {
         let held = self.window.held();
         let len = held.len();
         match self.scan.records() {
             Records::Csv => Buffered::Records(len),
-            Records::Lines if is_open(held) => Buffered::Line(OpenLine { own: len, len }),
+            Records::Lines if is_open(held, self.delimiter) => Buffered::Line(OpenLine {
+                own: len,
+                len,
+            }),
             Records::Lines => Buffered::Records(len),
         }
     }
@@ -480,6 +504,7 @@ impl<R: Read> Column<R> {
         ensures keeps { IfOk result
             (λ _. Keeps (unread R.remaining self.old) (unread R.remaining self.new)) }
         ensures by { self.new.by ≡ self.old.by }
+        ensures delimiter { self.new.delimiter ≡ self.old.delimiter }
         ensures grows { IfOk result (λ n. (more : List ℕ) × (length more ≡ n)
             × (self.new.held ≡ self.old.held ++ more)) }
         ensures end { IfOk result (λ n. n ≡ 0 → IsAtEnd (to_come R.remaining self.new)) }
@@ -491,7 +516,7 @@ impl<R: Read> Column<R> {
         self.window.make_room(wanted)?;
         let before = self.window.held().len();
         let count = self.window.read_from(&mut self.reader)?;
-        self.scan = self.scan.on(self.window.held(), before);
+        self.scan = self.scan.on(self.window.held(), before, self.delimiter);
         Ok(count)
     }
 
@@ -501,6 +526,7 @@ impl<R: Read> Column<R> {
         requires ranges { AreWithin ranges.items count }
         ensures passed { self.new ≡ record {
           by = self.old.by;
+          delimiter = self.old.delimiter;
           round = pieces_at (take count self.old.held) ranges.items;
           held = drop count self.old.held;
           buffer = self.old.buffer;
@@ -510,7 +536,7 @@ impl<R: Read> Column<R> {
         } }
         ensures held { length self.new.held ≤ self.new.buffer }
     {
-        let scan = self.scan.rest(self.window.held(), count);
+        let scan = self.scan.rest(self.window.held(), count, self.delimiter);
         self.lines = lines_after(self.lines, &self.window.held()[..count]);
         self.window.take(count);
         self.scan = scan;

@@ -5,6 +5,7 @@ ghost use Rattle.zic_columns.specs.Column.{AreWholeRecords};
 ghost use Rattle.zic_columns.specs.code.Cut.{AreCutAfterLines};
 ghost use Rattle.zic_columns.specs.code.Buffered.{BeginWithLines, IsScanned};
 
+use crate::delimiter::Separator;
 use crate::machine::{Place, record_end};
 use crate::quote::first_quote;
 use crate::walk::whole_record_end;
@@ -45,10 +46,10 @@ pub(crate) fn lines_before_quote(bytes: &[u8]) -> usize
 ///
 /// Lines are passed over together. From the line of a double quote on, the bytes are read one by
 /// one up to the end of its record.
-pub(crate) fn scan_from(bytes: &[u8], start: usize) -> CsvScan
+pub(crate) fn scan_from(bytes: &[u8], start: usize, delimiter: Separator) -> CsvScan
     requires within { start ≤ length bytes.now }
-    requires whole { AreWholeRecords (take start bytes.now) }
-    ensures { IsScanned bytes.now result }
+    requires whole { AreWholeRecords delimiter.byte (take start bytes.now) }
+    ensures { IsScanned delimiter.byte bytes.now result }
 {
     let mut whole = start;
     while whole < bytes.len() {
@@ -56,7 +57,7 @@ pub(crate) fn scan_from(bytes: &[u8], start: usize) -> CsvScan
         if whole == bytes.len() {
             break;
         }
-        match whole_record_end(&bytes[whole..]) {
+        match whole_record_end(&bytes[whole..], delimiter) {
             Ok(len) => whole += len,
             Err(place) => {
                 return CsvScan {
@@ -70,16 +71,16 @@ pub(crate) fn scan_from(bytes: &[u8], start: usize) -> CsvScan
 }
 
 /// Scans on where more bytes came after the first `before`, which were scanned.
-pub(crate) fn scan_on(bytes: &[u8], before: usize, scan: CsvScan) -> CsvScan
+pub(crate) fn scan_on(bytes: &[u8], before: usize, scan: CsvScan, delimiter: Separator) -> CsvScan
     requires within { before ≤ length bytes.now }
-    requires scanned { IsScanned (take before bytes.now) scan }
-    ensures { IsScanned bytes.now result }
+    requires scanned { IsScanned delimiter.byte (take before bytes.now) scan }
+    ensures { IsScanned delimiter.byte bytes.now result }
 {
     let Some(place) = scan.begun else {
-        return scan_from(bytes, before);
+        return scan_from(bytes, before, delimiter);
     };
-    match record_end(place, &bytes[before..]) {
-        Ok(len) => scan_from(bytes, before + len),
+    match record_end(place, &bytes[before..], delimiter) {
+        Ok(len) => scan_from(bytes, before + len, delimiter),
         Err(place) => CsvScan {
             whole: scan.whole,
             begun: Some(place),
@@ -88,10 +89,10 @@ pub(crate) fn scan_on(bytes: &[u8], before: usize, scan: CsvScan) -> CsvScan
 }
 
 /// Returns the scan of the bytes after the first `count`.
-pub(crate) fn scan_rest(bytes: &[u8], count: usize, scan: CsvScan) -> CsvScan
+pub(crate) fn scan_rest(bytes: &[u8], count: usize, scan: CsvScan, delimiter: Separator) -> CsvScan
     requires within { count ≤ length bytes.now }
-    requires scanned { IsScanned bytes.now scan }
-    ensures { IsScanned (drop count bytes.now) result }
+    requires scanned { IsScanned delimiter.byte bytes.now scan }
+    ensures { IsScanned delimiter.byte (drop count bytes.now) result }
 {
     if count == scan.whole {
         return CsvScan {
@@ -99,5 +100,5 @@ pub(crate) fn scan_rest(bytes: &[u8], count: usize, scan: CsvScan) -> CsvScan
             begun: scan.begun,
         };
     }
-    scan_from(&bytes[count..], 0)
+    scan_from(&bytes[count..], 0, delimiter)
 }

@@ -6,6 +6,7 @@ ghost use Rattle.zic_columns.specs.code.Line.{IsAfterLineEnds};
 ghost use Rattle.zic_columns.specs.code.Machine.{BeginsRecord};
 ghost use Rattle.zic_columns.specs.code.Plain.{IsNextAt, record_of};
 
+use crate::delimiter::Separator;
 use crate::ends::FieldEnds;
 use crate::fields::{Record, Wanted};
 use crate::line::{after_line_ends, ends_line};
@@ -23,8 +24,8 @@ impl Cursor {
     /// Begins at an index.
     pub(crate) fn new(at: usize) -> Cursor
         ensures at { result.at ≡ at }
-        ensures shows { (piece : List ℕ) → at ≤ length piece
-            → ShowsEnds piece result.at result.ends }
+        ensures shows { (delimiter : ℕ) (piece : List ℕ) → at ≤ length piece
+            → ShowsEnds delimiter piece result.at result.ends }
     {
         Cursor {
             at,
@@ -35,8 +36,9 @@ impl Cursor {
     /// Passes over line ends.
     #[inline(always)]
     fn pass_line_ends(&mut self, piece: &[u8])
-        requires { ShowsEnds piece.now self.old.at self.old.ends }
-        ensures shows { ShowsEnds piece.now self.new.at self.new.ends }
+        requires { self.old.at ≤ length piece.now }
+        ensures shows { (delimiter : ℕ) → ShowsEnds delimiter piece.now self.old.at self.old.ends
+            → ShowsEnds delimiter piece.now self.new.at self.new.ends }
         ensures after { IsAfterLineEnds (drop self.old.at piece.now) (drop self.new.at piece.now) }
     {
         if self.at < piece.len() && !ends_line(piece[self.at]) {
@@ -57,10 +59,15 @@ impl Cursor {
     /// Splits the next record if it begins here and is just a zone and a time, bare or between double
     /// quotes. `None` leaves the cursor where it is, for [`Cursor::next_record`].
     #[inline(always)]
-    pub(crate) fn next_pair(&mut self, piece: &[u8], wanted: Wanted) -> Option<PlainRecord>
-        requires { ShowsEnds piece.now self.old.at self.old.ends }
-        ensures shows { ShowsEnds piece.now self.new.at self.new.ends }
-        ensures next { IfSome result (λ plain. IsNextAt piece.now wanted self.old.at
+    pub(crate) fn next_pair(
+        &mut self,
+        piece: &[u8],
+        wanted: Wanted,
+        delimiter: Separator,
+    ) -> Option<PlainRecord>
+        requires { ShowsEnds delimiter.byte piece.now self.old.at self.old.ends }
+        ensures shows { ShowsEnds delimiter.byte piece.now self.new.at self.new.ends }
+        ensures next { IfSome result (λ plain. IsNextAt delimiter.byte piece.now wanted self.old.at
             (Some (record_of plain.start plain.end plain.fields)) self.new.at) }
         ensures none { result ≡ None → self.new ≡ self.old }
     {
@@ -68,38 +75,43 @@ impl Cursor {
             return None;
         }
         if piece[self.at] == b'"' {
-            let plain = split_quoted_pair(piece, self.at, wanted)?;
+            let plain = split_quoted_pair(piece, self.at, wanted, delimiter)?;
             *self = Cursor::new(plain.end + 1);
             return Some(plain);
         }
-        let plain = split_pair(piece, self.at, wanted, &mut self.ends)?;
+        let plain = split_pair(piece, self.at, wanted, delimiter, &mut self.ends)?;
         self.at = plain.end + 1;
         Some(plain)
     }
 
     /// Splits the next record, if there is one.
     #[inline(always)]
-    pub(crate) fn next_record(&mut self, piece: &[u8], wanted: Wanted) -> Option<Record>
-        requires { ShowsEnds piece.now self.old.at self.old.ends }
-        ensures shows { ShowsEnds piece.now self.new.at self.new.ends }
-        ensures next { IsNextAt piece.now wanted self.old.at result self.new.at }
+    pub(crate) fn next_record(
+        &mut self,
+        piece: &[u8],
+        wanted: Wanted,
+        delimiter: Separator,
+    ) -> Option<Record>
+        requires { ShowsEnds delimiter.byte piece.now self.old.at self.old.ends }
+        ensures shows { ShowsEnds delimiter.byte piece.now self.new.at self.new.ends }
+        ensures next { IsNextAt delimiter.byte piece.now wanted self.old.at result self.new.at }
     {
         self.pass_line_ends(piece);
         if self.at == piece.len() {
             return None;
         }
         if piece[self.at] == b'"' {
-            let given = split_record(piece, self.at, wanted);
+            let given = split_record(piece, self.at, wanted, delimiter);
             *self = Cursor::new(given.own.end);
             return Some(given);
         }
-        match split_plain(piece, self.at, wanted, &mut self.ends) {
+        match split_plain(piece, self.at, wanted, delimiter, &mut self.ends) {
             Ok(given) => {
                 self.at = given.own.end + 1;
                 Some(given)
             }
             Err(begun) => {
-                let given = split_rest(piece, begun, wanted);
+                let given = split_rest(piece, begun, wanted, delimiter);
                 *self = Cursor::new(given.own.end);
                 Some(given)
             }

@@ -1,10 +1,29 @@
-//! Another delimiter than the comma: the two in each other's place.
+//! What stands between the fields of a column.
 
 ghost use Rattle.zic_plan.specs.Delimiter.{exchange};
 ghost use Rattle.std.specs.Prelude.{◌≡◌, map};
+ghost use Rattle.zic_columns.specs.Column.{CanDelimit};
 ghost use Rattle.zic_columns.specs.Exchange.{exchanged};
 
-use std::io::{self, Read};
+use zic_plan::Delimiter;
+
+/// The byte of a delimiter: no double quote, and no line end.
+#[derive(Clone, Copy, Drop)]
+pub(crate) struct Separator {
+    pub(crate) byte: u8,
+    ghost can: { CanDelimit byte },
+}
+
+impl Separator {
+    /// Returns the byte of a delimiter.
+    pub(crate) fn of(delimiter: &Delimiter) -> Separator
+        ensures { result.byte ≡ delimiter.now }
+    {
+        Separator {
+            byte: delimiter.byte(),
+        }
+    }
+}
 
 /// Returns the delimiter for a comma, a comma for the delimiter, and each other byte as it is.
 #[inline(always)]
@@ -20,7 +39,8 @@ fn exchanged_byte(byte: u8, delimiter: u8) -> u8
     }
 }
 
-/// Puts commas in the place of the delimiter, and the delimiter in the place of commas.
+/// Puts commas in the place of the delimiter, and the delimiter in the place of commas: for rows that
+/// were written with commas.
 pub fn exchange(bytes: &mut [u8], delimiter: u8)
     ensures { bytes.new ≡ exchanged delimiter bytes.old }
 {
@@ -29,36 +49,5 @@ pub fn exchange(bytes: &mut [u8], delimiter: u8)
     }
     for byte in bytes.iter_mut() {
         *byte = exchanged_byte(*byte, delimiter);
-    }
-}
-
-/// A reader that gives the bytes of another, with commas in the place of the delimiter, and the
-/// delimiter in the place of commas.
-#[derive(Drop)]
-pub struct Exchanged<R: Read> {
-    inner: R,
-    delimiter: u8,
-}
-
-impl<R: Read> Exchanged<R> {
-    /// Returns a reader of the bytes of `inner`.
-    pub fn new(inner: R, delimiter: u8) -> Exchanged<R>
-        ensures inner { result.inner ≡ inner }
-        ensures delimiter { result.delimiter ≡ delimiter }
-    {
-        Exchanged { inner, delimiter }
-    }
-}
-
-impl<R: Read> Read for Exchanged<R> {
-    ghost use Rattle.std.specs.Prelude.{option_map};
-    ghost use Rattle.zic_columns.specs.Exchange.{exchanged};
-
-    ghost remaining = { λ r. option_map (exchanged r.delimiter) (R.remaining r.inner) };
-
-    fn read(&mut self, buf: &mut [u8]) -> io::Result<usize> {
-        let count = self.inner.read(buf)?;
-        exchange(&mut buf[..count], self.delimiter);
-        Ok(count)
     }
 }

@@ -1,4 +1,4 @@
-//! The commas and line ends of a piece, found 64 bytes at a time.
+//! The delimiters and line ends of a piece, found 64 bytes at a time.
 
 ghost use Rattle.std.specs.Prelude.{◌≡◌, ◌+◌, ◌<◌, ◌≤◌, ℕ, List, length, IfSome, map};
 ghost use Rattle.std.specs.Simd.Lanes.{chunk, mask_l};
@@ -6,12 +6,13 @@ ghost use Rattle.zic_columns.specs.code.Block.{ends_field};
 ghost use Rattle.zic_columns.specs.code.Ends.{ShowsEnds};
 ghost use Rattle.zic_columns.specs.code.Walk.{IsFieldEnd};
 
+use crate::delimiter::Separator;
 use std::simd::prelude::*;
 
 /// The number of bytes that are looked at together.
 const BLOCK: usize = 64;
 
-/// The commas and line ends that come next in a piece, as far as they are known.
+/// The delimiters and line ends that come next in a piece, as far as they are known.
 #[derive(Clone, Copy, Drop)]
 pub(crate) struct FieldEnds {
     /// Bit k is set if byte k of the last block is one that wasn't passed yet.
@@ -20,14 +21,14 @@ pub(crate) struct FieldEnds {
     seen: usize,
 }
 
-/// Returns a mask of the commas and line ends among the 64 bytes from an index on.
+/// Returns a mask of the delimiters and line ends among the 64 bytes from an index on.
 #[inline(always)]
-fn field_ends_in(bytes: &[u8], at: usize) -> u64
+fn field_ends_in(bytes: &[u8], at: usize, delimiter: Separator) -> u64
     requires { at + BLOCK ≤ length bytes.now }
-    ensures { result ≡ mask_l (map ends_field (chunk at BLOCK bytes.now)) }
+    ensures { result ≡ mask_l (map (ends_field delimiter.byte) (chunk at BLOCK bytes.now)) }
 {
     let block = u8x64::from_slice(&bytes[at..]);
-    (block.simd_eq(u8x64::splat(b','))
+    (block.simd_eq(u8x64::splat(delimiter.byte))
         | block.simd_eq(u8x64::splat(b'\r'))
         | block.simd_eq(u8x64::splat(b'\n'))).to_bitmask()
 }
@@ -35,7 +36,7 @@ fn field_ends_in(bytes: &[u8], at: usize) -> u64
 impl FieldEnds {
     /// Returns the field ends from an index on, none of which is known yet.
     pub(crate) fn unknown(at: usize) -> FieldEnds
-        ensures { (bytes : List ℕ) → at ≤ length bytes → ShowsEnds bytes at result }
+        ensures { (delimiter : ℕ) (bytes : List ℕ) → at ≤ length bytes → ShowsEnds delimiter bytes at result }
     {
         FieldEnds { mask: 0, seen: at }
     }
@@ -43,9 +44,9 @@ impl FieldEnds {
     /// Returns these field ends if one of them is known, or else those of the next block, if it has
     /// any.
     #[inline(always)]
-    fn known(self, bytes: &[u8], at: usize) -> Option<FieldEnds>
-        requires { ShowsEnds bytes.now at self }
-        ensures shows { IfSome result (ShowsEnds bytes.now at) }
+    fn known(self, bytes: &[u8], at: usize, delimiter: Separator) -> Option<FieldEnds>
+        requires { ShowsEnds delimiter.byte bytes.now at self }
+        ensures shows { IfSome result (ShowsEnds delimiter.byte bytes.now at) }
         ensures some { IfSome result (λ ends. 0 < ends.mask) }
     {
         if self.mask != 0 {
@@ -54,7 +55,7 @@ impl FieldEnds {
         if bytes.len() - self.seen < BLOCK {
             return None;
         }
-        let mask = field_ends_in(bytes, self.seen);
+        let mask = field_ends_in(bytes, self.seen, delimiter);
         if mask == 0 {
             return None;
         }
@@ -62,16 +63,21 @@ impl FieldEnds {
         Some(FieldEnds { mask, seen })
     }
 
-    /// Returns the index of the first comma or line end from an index on, and passes over it. Returns
+    /// Returns the index of the first delimiter or line end from an index on, and passes over it. Returns
     /// `None` where the next block doesn't show it.
     #[inline(always)]
-    pub(crate) fn next_end(&mut self, bytes: &[u8], at: usize) -> Option<usize>
-        requires { ShowsEnds bytes.now at self.old }
-        ensures end { IfSome result (IsFieldEnd bytes.now at) }
+    pub(crate) fn next_end(
+        &mut self,
+        bytes: &[u8],
+        at: usize,
+        delimiter: Separator,
+    ) -> Option<usize>
+        requires { ShowsEnds delimiter.byte bytes.now at self.old }
+        ensures end { IfSome result (IsFieldEnd delimiter.byte bytes.now at) }
         ensures within { IfSome result (λ stop. stop < length bytes.now) }
-        ensures shows { IfSome result (λ stop. ShowsEnds bytes.now (stop + 1) self.new) }
+        ensures shows { IfSome result (λ stop. ShowsEnds delimiter.byte bytes.now (stop + 1) self.new) }
     {
-        let ends = self.known(bytes, at)?;
+        let ends = self.known(bytes, at, delimiter)?;
         *self = FieldEnds {
             mask: ends.mask & (ends.mask - 1),
             seen: ends.seen,

@@ -3,9 +3,11 @@
 ghost use Rattle.std.specs.Prelude.{◌≡◌, ◌++◌, OnOk};
 ghost use Rattle.zic_columns.specs.Record.{IsWithin, IsWithinPiece, bytes_at, field_text, text_alone};
 
+use crate::delimiter::Separator;
 use crate::line::after_line_ends;
 use crate::machine::{Place, field_byte};
 use std::alloc::AllocError;
+use zic_plan::Delimiter;
 
 /// A range of bytes of a piece: from its start up to its end.
 #[derive(Clone, Copy, Drop)]
@@ -58,18 +60,23 @@ impl Span {
     }
 }
 
-/// Appends the text of a field of a piece.
+/// Appends the text of a field of a piece, in which this delimiter stands between fields.
 ///
 /// # Errors
 ///
 /// Fails where memory is refused.
-pub fn push_field(text: &mut Vec<u8>, piece: &[u8], field: Field) -> Result<(), AllocError>
+pub fn push_field(
+    text: &mut Vec<u8>,
+    piece: &[u8],
+    field: Field,
+    delimiter: &Delimiter,
+) -> Result<(), AllocError>
     requires { IsWithinPiece piece.now field }
-    ensures { OnOk result (text.new.items ≡ text.old.items ++ field_text piece.now field) }
+    ensures { OnOk result (text.new.items ≡ text.old.items ++ field_text delimiter.now piece.now field) }
 {
     match field {
         Field::Plain(span) => text.extend_from_slice(span.of(piece)),
-        Field::Quoted(span) => push_quoted(text, span.of(piece)),
+        Field::Quoted(span) => push_quoted(text, span.of(piece), Separator::of(delimiter)),
     }
 }
 
@@ -78,13 +85,13 @@ pub fn push_field(text: &mut Vec<u8>, piece: &[u8], field: Field) -> Result<(), 
 /// # Errors
 ///
 /// Fails where memory is refused.
-fn push_quoted(text: &mut Vec<u8>, bytes: &[u8]) -> Result<(), AllocError>
-    ensures { OnOk result (text.new.items ≡ text.old.items ++ text_alone bytes.now) }
+fn push_quoted(text: &mut Vec<u8>, bytes: &[u8], delimiter: Separator) -> Result<(), AllocError>
+    ensures { OnOk result (text.new.items ≡ text.old.items ++ text_alone delimiter.byte bytes.now) }
 {
     let mut place_now = Place::Start;
     let rest = after_line_ends(bytes);
     for byte in rest {
-        let Some(read) = field_byte(place_now, *byte) else {
+        let Some(read) = field_byte(place_now, *byte, delimiter) else {
             return Ok(());
         };
         if read.is_text {

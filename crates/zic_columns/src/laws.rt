@@ -1,14 +1,10 @@
 //! Laws of the definitions that the contracts of this crate cite. These functions do nothing.
 
-ghost use Rattle.zic_columns.specs.Laws.{ColumnRecordsAreRead, PlainRecordsAreRead, RecordsAreCut};
-ghost use Rattle.zic_columns.specs.Laws.{DelimitedRecordsAreOne, RecordsAreExchanged, RecordsAreOne};
-ghost use Rattle.zic_columns.specs.Laws.{RowsAreExchanged};
-ghost use Rattle.zic_columns.specs.Laws.{PairsAreMapped, OwnTextsAreOfRecords, PiecesHaveRecords};
+ghost use Rattle.zic_columns.specs.Laws.{ColumnRecordsAreRead, PlainRecordsAreRead, RecordsAreCut, RecordsAreOne};
+ghost use Rattle.zic_columns.specs.Laws.{OwnTextsAreOfRecords, PiecesHaveRecords, WholeRecordsAreCut};
 ghost use Rattle.zic_columns.specs.Laws.{ColumnIsOwnBytes, FirstRecordIsAlone, OwnBytesAreRecords, OwnBytesAreTrimmed, RecordsAreOfOwnBytes};
 ghost use Rattle.zic_columns.specs.Laws.{LinesAreCut, LinesAreTruncated, LinesWithoutQuotesAreCsv};
-ghost use Rattle.zic_columns.specs.Laws.{PlainBytesHaveNoStray, RecordsByAreExchanged, RfcRecordsHaveNoStray, StraysAreExchanged};
-ghost use Rattle.zic_columns.specs.Laws.{RecordsByAreOne, TextsByAreExchanged, TextsByAreOfRecords};
-ghost use Rattle.zic_columns.specs.Laws.{TextsAreCounted, TextsAreExchanged, WholeRecordsAreCut};
+ghost use Rattle.zic_columns.specs.Laws.{PlainBytesHaveNoStray, RfcRecordsHaveNoStray, TextsByAreOfRecords};
 
 /// States that a CSV reader gives bytes their records.
 pub fn column_records_are_read()
@@ -20,11 +16,6 @@ pub fn records_are_one()
     ensures { RecordsAreOne }
 {}
 
-/// States that a CSV reader with another delimiter gives bytes one list of records.
-pub fn delimited_records_are_one()
-    ensures { DelimitedRecordsAreOne }
-{}
-
 /// States that bytes without a double quote have the fields of each line as records.
 pub fn plain_records_are_read()
     ensures { PlainRecordsAreRead }
@@ -34,12 +25,6 @@ pub fn plain_records_are_read()
 /// before and those after.
 pub fn records_are_cut()
     ensures { RecordsAreCut }
-{}
-
-/// States that a column with another delimiter has the records of the column in which the delimiter
-/// and the comma stand in each other's place.
-pub fn records_are_exchanged()
-    ensures { RecordsAreExchanged }
 {}
 
 /// States that each record has its own bytes.
@@ -55,27 +40,6 @@ pub fn whole_records_are_cut()
 /// States that the records of pieces with their own bytes have the fields of the records.
 pub fn pieces_have_records()
     ensures { PiecesHaveRecords }
-{}
-
-/// States that a column with another delimiter has the own bytes of the column in which the
-/// delimiter and the comma stand in each other's place.
-pub fn texts_are_exchanged()
-    ensures { TextsAreExchanged }
-{}
-
-/// States that each record of a column with another delimiter has its own bytes.
-pub fn texts_are_counted()
-    ensures { TextsAreCounted }
-{}
-
-/// States that own bytes and fields that are changed are paired as before.
-pub fn pairs_are_mapped()
-    ensures { PairsAreMapped }
-{}
-
-/// States that what a CSV writer makes of fields is exchanged as its fields are.
-pub fn rows_are_exchanged()
-    ensures { RowsAreExchanged }
 {}
 
 /// States that the own bytes of a record are, by themselves, that record alone.
@@ -114,32 +78,9 @@ pub fn lines_are_truncated()
     ensures { LinesAreTruncated }
 {}
 
-/// States that bytes have one list of records with a delimiter, wherever records end.
-pub fn records_by_are_one()
-    ensures { RecordsByAreOne }
-{}
-
 /// States that each record has its own bytes, wherever records end.
 pub fn texts_by_are_of_records()
     ensures { TextsByAreOfRecords }
-{}
-
-/// States that a column with another delimiter has the records of the column in which the delimiter
-/// and the comma stand in each other's place, wherever records end.
-pub fn records_by_are_exchanged()
-    ensures { RecordsByAreExchanged }
-{}
-
-/// States that a column with another delimiter has the own bytes of the column in which the
-/// delimiter and the comma stand in each other's place, wherever records end.
-pub fn texts_by_are_exchanged()
-    ensures { TextsByAreExchanged }
-{}
-
-/// States that bytes in which the delimiter and the comma stand in each other's place have a stray double
-/// quote if they had one.
-pub fn strays_are_exchanged()
-    ensures { StraysAreExchanged }
 {}
 
 /// States that bytes without a double quote have no stray one.

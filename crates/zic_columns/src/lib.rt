@@ -1,8 +1,8 @@
 //! Reads a column in rounds of whole records, cut into pieces for several workers.
 //!
 //! The records of a column are those that a CSV reader gives of its bytes, without a byte order
-//! mark at its start: fields end at commas, records at a carriage return, a line feed or both, and
-//! a line without a byte makes no record. Between double quotes, commas and line ends are text. A
+//! mark at its start: fields end at delimiters, records at a carriage return, a line feed or both, and
+//! a line without a byte makes no record. Between double quotes, delimiters and line ends are text. A
 //! column can be cut wherever a CSV reader stands before a record. A column may also be read line by
 //! line: then a record ends at its line's end, also between double quotes, and a line whose double
 //! quotes are open there is a record without fields. The functions of `laws` do nothing: their
@@ -38,7 +38,7 @@ mod walk;
 
 pub use buffer::FIRST_ROOM;
 pub use columns::{Column, PassStop, Taken, TakenLine, Unread};
-pub use delimiter::{Exchanged, exchange};
+pub use delimiter::exchange;
 pub use fields::{Field, Record, Span, Wanted, push_field};
 pub use line_scan::is_open_line;
 pub use lines::{line_end_at, line_feeds};

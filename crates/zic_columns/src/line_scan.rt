@@ -6,8 +6,10 @@ ghost use Rattle.zic_columns.specs.Quotes.{is_open};
 ghost use Rattle.zic_columns.specs.code.LineScan.{AreClosedLines, IsFirstLine, IsLineScan};
 
 use crate::csv_scan::lines_before_quote;
+use crate::delimiter::Separator;
 use crate::machine::{Place, place_after};
 use memchr::memchr2;
+use zic_plan::Delimiter;
 
 /// The number of bytes of an open line at the start of some bytes, without its line end and with it.
 #[derive(Clone, Copy, Drop)]
@@ -35,13 +37,13 @@ pub(crate) struct LineScan {
 }
 
 /// Returns whether the double quotes of a line are open at its end.
-pub(crate) fn is_open(line: &[u8]) -> bool
+pub(crate) fn is_open(line: &[u8], delimiter: Separator) -> bool
     requires { HasNoLineEnd line.now }
-    ensures { result ≡ is_open 44 line.now }
+    ensures { result ≡ is_open delimiter.byte line.now }
 {
     let mut place_now = Place::Start;
     for byte in line {
-        match place_after(place_now, *byte) {
+        match place_after(place_now, *byte, delimiter) {
             Some(next) => place_now = next,
             None => unreachable!(),
         }
@@ -51,22 +53,25 @@ pub(crate) fn is_open(line: &[u8]) -> bool
 
 /// Returns whether the double quotes of a line are open at its end. Returns false for bytes with a line
 /// end.
-pub fn is_open_line(line: &[u8]) -> bool
-    ensures { HasNoLineEnd line.now → result ≡ is_open 44 line.now }
+pub fn is_open_line(line: &[u8], delimiter: &Delimiter) -> bool
+    ensures { HasNoLineEnd line.now → result ≡ is_open delimiter.now line.now }
 {
     match memchr2(b'\r', b'\n', line) {
-        None => is_open(line),
+        None => is_open(line, Separator::of(delimiter)),
         Some(_) => false,
     }
 }
 
 /// Finds the end of the first line.
-fn first_line(bytes: &[u8]) -> FirstLine
-    ensures { IsFirstLine bytes.now result }
+fn first_line(bytes: &[u8], delimiter: Separator) -> FirstLine
+    ensures { IsFirstLine delimiter.byte bytes.now result }
 {
     match memchr2(b'\r', b'\n', bytes) {
         None => FirstLine::Unended,
-        Some(own) if is_open(&bytes[..own]) => FirstLine::Open(OpenLine { own, len: own + 1 }),
+        Some(own) if is_open(&bytes[..own], delimiter) => FirstLine::Open(OpenLine {
+            own,
+            len: own + 1,
+        }),
         Some(own) => FirstLine::Closed(own + 1),
     }
 }
@@ -74,15 +79,15 @@ fn first_line(bytes: &[u8]) -> FirstLine
 /// Finds whole lines from an index on at which a line begins, up to the first open one.
 ///
 /// Lines without a double quote are passed over together.
-pub(crate) fn scan_lines_from(bytes: &[u8], start: usize) -> LineScan
+pub(crate) fn scan_lines_from(bytes: &[u8], start: usize, delimiter: Separator) -> LineScan
     requires within { start ≤ length bytes.now }
-    requires closed { AreClosedLines (take start bytes.now) }
-    ensures { IsLineScan bytes.now result }
+    requires closed { AreClosedLines delimiter.byte (take start bytes.now) }
+    ensures { IsLineScan delimiter.byte bytes.now result }
 {
     let mut whole = start;
     while whole < bytes.len() {
         whole += lines_before_quote(&bytes[whole..]);
-        match first_line(&bytes[whole..]) {
+        match first_line(&bytes[whole..], delimiter) {
             FirstLine::Closed(len) => whole += len,
             FirstLine::Open(line) => {
                 return LineScan {
@@ -105,25 +110,35 @@ pub(crate) fn scan_lines_from(bytes: &[u8], start: usize) -> LineScan
 /// Scans on where more bytes came after the first `before`, which were scanned.
 ///
 /// A line that had no end is scanned once its end came.
-pub(crate) fn scan_lines_on(bytes: &[u8], before: usize, scan: LineScan) -> LineScan
+pub(crate) fn scan_lines_on(
+    bytes: &[u8],
+    before: usize,
+    scan: LineScan,
+    delimiter: Separator,
+) -> LineScan
     requires within { before ≤ length bytes.now }
-    requires scanned { IsLineScan (take before bytes.now) scan }
-    ensures { IsLineScan bytes.now result }
+    requires scanned { IsLineScan delimiter.byte (take before bytes.now) scan }
+    ensures { IsLineScan delimiter.byte bytes.now result }
 {
     if scan.opened.is_some() {
         return scan;
     }
     match memchr2(b'\r', b'\n', &bytes[before..]) {
         None => scan,
-        Some(_) => scan_lines_from(bytes, scan.whole),
+        Some(_) => scan_lines_from(bytes, scan.whole, delimiter),
     }
 }
 
 /// Returns the scan of the bytes after the first `count`.
-pub(crate) fn scan_lines_rest(bytes: &[u8], count: usize, scan: LineScan) -> LineScan
+pub(crate) fn scan_lines_rest(
+    bytes: &[u8],
+    count: usize,
+    scan: LineScan,
+    delimiter: Separator,
+) -> LineScan
     requires within { count ≤ length bytes.now }
-    requires scanned { IsLineScan bytes.now scan }
-    ensures { IsLineScan (drop count bytes.now) result }
+    requires scanned { IsLineScan delimiter.byte bytes.now scan }
+    ensures { IsLineScan delimiter.byte (drop count bytes.now) result }
 {
     if count == scan.whole {
         return LineScan {
@@ -131,5 +146,5 @@ pub(crate) fn scan_lines_rest(bytes: &[u8], count: usize, scan: LineScan) -> Lin
             opened: scan.opened,
         };
     }
-    scan_lines_from(&bytes[count..], 0)
+    scan_lines_from(&bytes[count..], 0, delimiter)
 }

@@ -1,9 +1,11 @@
 //! The machine by which a CSV reader reads a field or a record.
 
 ghost use Rattle.std.specs.Prelude.{◌≡◌, ℕ, List, MatchOption, MatchResult, take};
+ghost use Rattle.zic_columns.specs.Column.{CanDelimit};
 ghost use Rattle.zic_columns.specs.code.Field.{EndsField, HasQuotes, IsField, IsOfField};
 ghost use Rattle.zic_columns.specs.code.Machine.{EndsRecord, GoesOn, IsEndOfRecord, ReadsTo, state_at};
 
+use crate::delimiter::Separator;
 use crate::line::ends_line;
 
 /// The state of a CSV reader in a record.
@@ -40,7 +42,7 @@ pub(crate) struct FieldLen {
 /// Returns what a double quote is to a field: text after text that has no quotes round it, and after
 /// another quote.
 fn quote_byte(place: Place) -> FieldByte
-    ensures { IsOfField place 34 result }
+    ensures { (delimiter : ℕ) → CanDelimit delimiter → IsOfField delimiter place 34 result }
 {
     let (next, is_text) = match place {
         Place::Start => (Place::Quoted, false),
@@ -56,15 +58,15 @@ fn quote_byte(place: Place) -> FieldByte
 }
 
 /// Returns what a byte is to a field, or `None` where it ends the field.
-pub(crate) fn field_byte(place: Place, byte: u8) -> Option<FieldByte>
-    ensures { MatchOption result (EndsField place byte) (IsOfField place byte) }
+pub(crate) fn field_byte(place: Place, byte: u8, delimiter: Separator) -> Option<FieldByte>
+    ensures { MatchOption result (EndsField delimiter.byte place byte) (IsOfField delimiter.byte place byte) }
 {
     if byte == b'"' {
         return Some(quote_byte(place));
     }
     let next = match place {
         Place::Quoted => Place::Quoted,
-        _ if byte == b',' || ends_line(byte) => return None,
+        _ if byte == delimiter.byte || ends_line(byte) => return None,
         _ => Place::Plain,
     };
     Some(FieldByte {
@@ -74,16 +76,16 @@ pub(crate) fn field_byte(place: Place, byte: u8) -> Option<FieldByte>
     })
 }
 
-/// Returns the number of bytes of the field at the start of the bytes, up to its comma or line end, or
+/// Returns the number of bytes of the field at the start of the bytes, up to its delimiter or line end, or
 /// all, and whether it has a stray double quote.
-pub(crate) fn field_len(bytes: &[u8]) -> FieldLen
-    ensures { (text : List ℕ) × (field : IsField bytes.now text result.len)
-        × HasQuotes (take result.len bytes.now) field.place_now result.stray }
+pub(crate) fn field_len(bytes: &[u8], delimiter: Separator) -> FieldLen
+    ensures { (text : List ℕ) × (field : IsField delimiter.byte bytes.now text result.len)
+        × HasQuotes delimiter.byte (take result.len bytes.now) field.place_now result.stray }
 {
     let mut place_now = Place::Start;
     let mut stray = false;
     for (index, byte) in bytes.iter().enumerate() {
-        match field_byte(place_now, *byte) {
+        match field_byte(place_now, *byte, delimiter) {
             None => return FieldLen { len: index, stray },
             Some(read) => {
                 if read.is_past {
@@ -101,13 +103,13 @@ pub(crate) fn field_len(bytes: &[u8]) -> FieldLen
 }
 
 /// Returns the place after a byte of a record, or `None` where the byte ends the record.
-pub(crate) fn place_after(place: Place, byte: u8) -> Option<Place>
-    ensures { MatchOption result (EndsRecord (state_at place) byte)
-        (λ next. GoesOn (state_at place) byte (state_at next)) }
+pub(crate) fn place_after(place: Place, byte: u8, delimiter: Separator) -> Option<Place>
+    ensures { MatchOption result (EndsRecord delimiter.byte (state_at place) byte)
+        (λ next. GoesOn delimiter.byte (state_at place) byte (state_at next)) }
 {
-    match field_byte(place, byte) {
+    match field_byte(place, byte, delimiter) {
         Some(read) => Some(read.next),
-        None if byte == b',' => Some(Place::Start),
+        None if byte == delimiter.byte => Some(Place::Start),
         None => None,
     }
 }
@@ -117,13 +119,13 @@ pub(crate) fn place_after(place: Place, byte: u8) -> Option<Place>
 /// # Errors
 ///
 /// Returns the place after all bytes where none of them ends the record.
-pub(crate) fn record_end(place: Place, bytes: &[u8]) -> Result<usize, Place>
-    ensures { MatchResult result (IsEndOfRecord (state_at place) bytes.now)
-        (λ next. ReadsTo (state_at place) bytes.now (state_at next)) }
+pub(crate) fn record_end(place: Place, bytes: &[u8], delimiter: Separator) -> Result<usize, Place>
+    ensures { MatchResult result (IsEndOfRecord delimiter.byte (state_at place) bytes.now)
+        (λ next. ReadsTo delimiter.byte (state_at place) bytes.now (state_at next)) }
 {
     let mut place_now = place;
     for (index, byte) in bytes.iter().enumerate() {
-        match place_after(place_now, *byte) {
+        match place_after(place_now, *byte, delimiter) {
             Some(next) => place_now = next,
             None => return Ok(index + 1),
         }

@@ -3,6 +3,7 @@
 ghost use Rattle.std.specs.Prelude.{◌<◌, IfOk};
 ghost use Rattle.zic_columns.specs.code.Cutting.{IsCut};
 
+use crate::delimiter::Separator;
 use crate::first::{first_record, split_records};
 use crate::lines::lines_after;
 use std::alloc::{AllocError, Global};
@@ -34,19 +35,20 @@ pub(crate) fn cut_pieces(
     bytes: &[u8],
     size: usize,
     lines: Option<u64>,
+    delimiter: Separator,
 ) -> Result<Cut, AllocError>
     requires { 0 < size }
-    ensures { IfOk result (IsCut bytes.now size) }
+    ensures { IfOk result (IsCut delimiter.byte bytes.now size) }
 {
     let mut ranges = Vec::new(alloc);
     let mut rest = bytes;
     let mut lines_before = lines;
     for _ in 0..MAX_ROUND_PIECES {
-        if first_record(rest).is_none() {
+        if first_record(rest, delimiter).is_none() {
             let len = bytes.len();
             return Ok(Cut { ranges, len });
         }
-        let (piece, after) = split_records(rest, size);
+        let (piece, after) = split_records(rest, size, delimiter);
         let start = bytes.len() - rest.len();
         ranges.push(PieceRange {
             start,

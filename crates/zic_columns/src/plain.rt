@@ -7,6 +7,7 @@ ghost use Rattle.zic_columns.specs.code.Machine.{BeginsRecord};
 ghost use Rattle.zic_columns.specs.code.Plain.{IsLineEndAt, IsPlainFrom, AreIndicesOf, no_fields, record_of};
 ghost use Rattle.zic_columns.specs.code.Walk.{HasFields, HasWalked, IsRecordFrom};
 
+use crate::delimiter::Separator;
 use crate::ends::FieldEnds;
 use crate::fields::{Field, Record, Span, Wanted};
 use crate::walk::{PartRecord, quoted_text};
@@ -98,10 +99,10 @@ fn pick(index: usize, number: usize, field: Span, unchanged: Span) -> Span
 fn with_span(fields: PlainFields, span: Span, indices: FieldIndices) -> PlainFields
     requires { fields.count + 1 < 2 ^ 64 }
     ensures count { result.count ≡ fields.count + 1 }
-    ensures has { (piece : List ℕ) (start end : ℕ) (wanted : Wanted) (texts : List (List ℕ))
-        → AreIndicesOf wanted indices → HasFields piece wanted texts (record_of start end fields)
+    ensures has { (delimiter : ℕ) (piece : List ℕ) (start end : ℕ) (wanted : Wanted) (texts : List (List ℕ))
+        → AreIndicesOf wanted indices → HasFields delimiter piece wanted texts (record_of start end fields)
         → IsWithin piece span
-        → HasFields piece wanted (texts ++ bytes_at piece span ∷ []) (record_of start end result) }
+        → HasFields delimiter piece wanted (texts ++ bytes_at piece span ∷ []) (record_of start end result) }
 {
     PlainFields {
         count: fields.count + 1,
@@ -121,16 +122,17 @@ pub(crate) fn split_plain(
     piece: &[u8],
     start: usize,
     wanted: Wanted,
+    delimiter: Separator,
     ends: &mut FieldEnds,
 ) -> Result<Record, PartRecord>
     requires begins { BeginsRecord (drop start piece.now) }
-    requires shows { ShowsEnds piece.now start ends.old }
-    ensures { MatchResult result (IsPlainFrom piece.now start wanted ends.new)
-        (λ begun. HasWalked piece.now start wanted begun.given begun.at) }
+    requires shows { ShowsEnds delimiter.byte piece.now start ends.old }
+    ensures { MatchResult result (IsPlainFrom delimiter.byte piece.now start wanted ends.new)
+        (λ begun. HasWalked delimiter.byte piece.now start wanted begun.given begun.at) }
 {
-    match split_pair(piece, start, wanted, ends) {
+    match split_pair(piece, start, wanted, delimiter, ends) {
         Some(plain) => Ok(plain.record()),
-        None => split_fields(piece, start, wanted, ends),
+        None => split_fields(piece, start, wanted, delimiter, ends),
     }
 }
 
@@ -142,11 +144,12 @@ pub(crate) fn split_pair(
     piece: &[u8],
     start: usize,
     wanted: Wanted,
+    delimiter: Separator,
     ends: &mut FieldEnds,
 ) -> Option<PlainRecord>
     requires begins { BeginsRecord (drop start piece.now) }
-    requires shows { ShowsEnds piece.now start ends.old }
-    ensures some { IfSome result (λ plain. IsPlainFrom piece.now start wanted ends.new
+    requires shows { ShowsEnds delimiter.byte piece.now start ends.old }
+    ensures some { IfSome result (λ plain. IsPlainFrom delimiter.byte piece.now start wanted ends.new
         (record_of plain.start plain.end plain.fields)) }
     ensures none { result ≡ None → ends.new ≡ ends.old }
 {
@@ -154,19 +157,19 @@ pub(crate) fn split_pair(
         return None;
     };
     let mut next = *ends;
-    let comma = next.next_end(piece, start)?;
-    let end = next.next_end(piece, comma + 1)?;
-    if piece[comma] != b',' || piece[end] == b',' {
+    let stop = next.next_end(piece, start, delimiter)?;
+    let end = next.next_end(piece, stop + 1, delimiter)?;
+    if piece[stop] != delimiter.byte || piece[end] == delimiter.byte {
         return None;
     }
-    if piece[start] == b'"' || piece[comma + 1] == b'"' {
+    if piece[start] == b'"' || piece[stop + 1] == b'"' {
         return None;
     }
     *ends = next;
     let indices = indices_of(wanted);
-    let zone = with_span(no_fields(start), Span { start, end: comma }, indices);
+    let zone = with_span(no_fields(start), Span { start, end: stop }, indices);
     let time = Span {
-        start: comma + 1,
+        start: stop + 1,
         end,
     };
     Some(PlainRecord {
@@ -179,21 +182,26 @@ pub(crate) fn split_pair(
 /// Splits the record that begins at an index, where it is a zone and a time in this order, each of them
 /// between two double quotes, with a line end after it. `None` doesn't mean that there is no record.
 #[inline(always)]
-pub(crate) fn split_quoted_pair(piece: &[u8], start: usize, wanted: Wanted) -> Option<PlainRecord>
+pub(crate) fn split_quoted_pair(
+    piece: &[u8],
+    start: usize,
+    wanted: Wanted,
+    delimiter: Separator,
+) -> Option<PlainRecord>
     requires begins { BeginsRecord (drop start piece.now) }
-    ensures from { IfSome result (λ plain. IsRecordFrom piece.now start wanted
+    ensures from { IfSome result (λ plain. IsRecordFrom delimiter.byte piece.now start wanted
         (record_of plain.start plain.end plain.fields)) }
     ensures ended { IfSome result (λ plain. IsLineEndAt piece.now plain.end) }
 {
     let (Some(0), 1) = (wanted.zone, wanted.time) else {
         return None;
     };
-    let zone = quoted_text(piece, start)?;
-    if zone.stop == piece.len() || piece[zone.stop] != b',' {
+    let zone = quoted_text(piece, start, delimiter)?;
+    if zone.stop == piece.len() || piece[zone.stop] != delimiter.byte {
         return None;
     }
-    let time = quoted_text(piece, zone.stop + 1)?;
-    if time.stop == piece.len() || piece[time.stop] == b',' {
+    let time = quoted_text(piece, zone.stop + 1, delimiter)?;
+    if time.stop == piece.len() || piece[time.stop] == delimiter.byte {
         return None;
     }
     let indices = indices_of(wanted);
@@ -228,25 +236,26 @@ fn split_fields(
     piece: &[u8],
     start: usize,
     wanted: Wanted,
+    delimiter: Separator,
     ends: &mut FieldEnds,
 ) -> Result<Record, PartRecord>
     requires begins { BeginsRecord (drop start piece.now) }
-    requires shows { ShowsEnds piece.now start ends.old }
-    ensures { MatchResult result (IsPlainFrom piece.now start wanted ends.new)
-        (λ begun. HasWalked piece.now start wanted begun.given begun.at) }
+    requires shows { ShowsEnds delimiter.byte piece.now start ends.old }
+    ensures { MatchResult result (IsPlainFrom delimiter.byte piece.now start wanted ends.new)
+        (λ begun. HasWalked delimiter.byte piece.now start wanted begun.given begun.at) }
 {
     let mut fields = no_fields(start);
     let indices = indices_of(wanted);
     let mut at = start;
     loop {
-        let Some(end) = ends.next_end(piece, at) else {
+        let Some(end) = ends.next_end(piece, at, delimiter) else {
             return Err(begun_at(start, fields, at));
         };
         if piece[at] == b'"' {
             return Err(begun_at(start, fields, at));
         }
         fields = with_span(fields, Span { start: at, end }, indices);
-        if piece[end] != b',' {
+        if piece[end] != delimiter.byte {
             return Ok(record_of(start, end, fields));
         }
         at = end + 1;

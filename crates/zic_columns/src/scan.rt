@@ -1,9 +1,10 @@
 //! What was scanned of the buffered bytes, by where a record ends.
 
-ghost use Rattle.std.specs.Prelude.{◌≡◌, ◌≤◌, [], drop, length, take};
+ghost use Rattle.std.specs.Prelude.{◌≡◌, ◌≤◌, ℕ, [], drop, length, take};
 ghost use Rattle.zic_columns.specs.code.Buffered.{IsScannedBy, mode_of, open_of_scan, whole_of_scan};
 
 use crate::csv_scan::{CsvScan, scan_on, scan_rest};
+use crate::delimiter::Separator;
 use crate::line_scan::{LineScan, OpenLine, scan_lines_on, scan_lines_rest};
 use zic_plan::Records;
 
@@ -18,7 +19,7 @@ impl Scan {
     /// Returns the scan of no bytes.
     pub(crate) fn new(records: Records) -> Scan
         ensures mode { mode_of result ≡ records }
-        ensures scanned { IsScannedBy [] result }
+        ensures scanned { (delimiter : ℕ) → IsScannedBy delimiter [] result }
     {
         match records {
             Records::Csv => Scan::Csv(CsvScan {
@@ -63,28 +64,28 @@ impl Scan {
     }
 
     /// Scans on where more bytes came after the first `before`, which were scanned.
-    pub(crate) fn on(self, bytes: &[u8], before: usize) -> Scan
+    pub(crate) fn on(self, bytes: &[u8], before: usize, delimiter: Separator) -> Scan
         requires within { before ≤ length bytes.now }
-        requires scanned { IsScannedBy (take before bytes.now) self }
+        requires scanned { IsScannedBy delimiter.byte (take before bytes.now) self }
         ensures mode { mode_of result ≡ mode_of self }
-        ensures scanned { IsScannedBy bytes.now result }
+        ensures scanned { IsScannedBy delimiter.byte bytes.now result }
     {
         match self {
-            Scan::Csv(scan) => Scan::Csv(scan_on(bytes, before, scan)),
-            Scan::Lines(scan) => Scan::Lines(scan_lines_on(bytes, before, scan)),
+            Scan::Csv(scan) => Scan::Csv(scan_on(bytes, before, scan, delimiter)),
+            Scan::Lines(scan) => Scan::Lines(scan_lines_on(bytes, before, scan, delimiter)),
         }
     }
 
     /// Returns the scan of the bytes after the first `count`.
-    pub(crate) fn rest(self, bytes: &[u8], count: usize) -> Scan
+    pub(crate) fn rest(self, bytes: &[u8], count: usize, delimiter: Separator) -> Scan
         requires within { count ≤ length bytes.now }
-        requires scanned { IsScannedBy bytes.now self }
+        requires scanned { IsScannedBy delimiter.byte bytes.now self }
         ensures mode { mode_of result ≡ mode_of self }
-        ensures scanned { IsScannedBy (drop count bytes.now) result }
+        ensures scanned { IsScannedBy delimiter.byte (drop count bytes.now) result }
     {
         match self {
-            Scan::Csv(scan) => Scan::Csv(scan_rest(bytes, count, scan)),
-            Scan::Lines(scan) => Scan::Lines(scan_lines_rest(bytes, count, scan)),
+            Scan::Csv(scan) => Scan::Csv(scan_rest(bytes, count, scan, delimiter)),
+            Scan::Lines(scan) => Scan::Lines(scan_lines_rest(bytes, count, scan, delimiter)),
         }
     }
 }

@@ -4,12 +4,11 @@ use Rattle.std.specs.Option.{option_or}
 use Rattle.std.specs.Prelude.{All, IfSome, IsSome, ◌==◌, length, option_map, slice_get}
 use Rattle.csv.specs.Reading.{strip_bom}
 use Rattle.zic_base.specs.declared.run_stop.RunStop.TheVariants as stop
-use Rattle.zic_columns.specs.Exchange.{exchanged}
 use Rattle.zic_counted.specs.Counts.{Counts}
 use Rattle.zic_plan.specs.Layout.{records_before}
 use Rattle.zic_plan.specs.declared.layout.Header.{Header}
 use Rattle.zic_plan.specs.declared.layout.Header.TheVariants as headers
-use Rattle.zic_convert.specs.Column.{own_header}
+use Rattle.zic_convert.specs.Column.{header_read, own_header, records_read, texts_read}
 use Rattle.zic_convert.specs.Run.{EndsByZones, LogBegan}
 use Rattle.zic_convert.specs.code.Halt.{IsCauseOfHalt, stop_of}
 use Rattle.zic_convert.specs.declared.halt.Halt.{Halt}
@@ -20,17 +19,16 @@ use Rattle.std.proofs.lemmas.List.{append-nil}
 use Rattle.std.proofs.lemmas.List.Elements.{All-cons, All-head}
 use Rattle.zic_base.specs.declared.row_fault.RowKind.{RowKind}
 use Rattle.zic_base.specs.declared.row_fault.RowKind.TheVariants as kinds
-use Rattle.zic_columns.specs.Column.{HasNoLineEnd}
+use Rattle.zic_columns.specs.Column.{CanDelimit, HasNoLineEnd}
 use Rattle.zic_columns.specs.Laws.{FirstRecordIsAlone}
 use Rattle.zic_columns.proofs.ByMode.{owns_by}
-use Rattle.zic_columns.specs.Lines.{exchanged_record, line_records, open_record, records_by, texts_by}
+use Rattle.zic_columns.specs.Lines.{line_records, open_record, records_by, texts_by}
 use Rattle.zic_columns.specs.Own.{CsvRecord, csv_records, first_text}
 use Rattle.zic_columns.specs.Quotes.{is_open}
 use Rattle.zic_columns.specs.Round.{records_of}
 use Rattle.zic_columns.proofs.PieceRecords.{wholes_none}
 use Rattle.zic_columns.proofs.SomeRecords.{column_records-nil}
 use Rattle.zic_files.specs.File.{File}
-use Rattle.zic_plan.specs.Delimiter.{is_delimiter}
 use Rattle.zic_plan.specs.declared.layout.AtFault.{AtFault}
 use Rattle.zic_plan.specs.declared.layout.AtFault.TheVariants as at
 use Rattle.zic_plan.specs.declared.layout.Layout.{Layout}
@@ -40,10 +38,9 @@ use Rattle.zic_plan.specs.Noted.{RowNote}
 use Rattle.zic_zones.specs.Zones.{ReleasesAgree, zone_in}
 use Rattle.zic_zones.specs.declared.releases.Releases.{Releases}
 use Rattle.zic_layout_rows.specs.LayoutRows.{ending, ends_by, fault_by, if_rejected, noted}
-use Rattle.zic_layout_rows.specs.PieceRows.{AreRowsOf, RowsOf, csv_records_in}
-use Rattle.zic_convert.specs.Header.{header_fault, header_kind}
-use Rattle.zic_convert.specs.code.Progress.{AreOfOne, EndsNoLine, HaltsAtCheck, HaltsAtHead, IsOwnFault, rejects_header_in, header_fault_in, is_open_by, kept_of, passed_in}
-use Rattle.zic_convert.specs.code.Row.{records_in}
+use Rattle.zic_layout_rows.specs.PieceRows.{AreRowsOf, RowsOf}
+use Rattle.zic_convert.specs.Header.{fault_read, header_fault, header_kind}
+use Rattle.zic_convert.specs.code.Progress.{AreOfOne, EndsNoLine, HaltsAtCheck, HaltsAtHead, IsOwnFault, header_passed, is_open_by, kept_of, records_left}
 use Rattle.zic_convert.proofs.Staying.{IsKnownZone, fault_same, kept, round_known}
 
 -- a fault that ends a run is that of the row
@@ -112,60 +109,64 @@ module _ (layout : Layout) (releases : Releases) (given : CsvRecord) (rows : Row
   pub one_fault : AreRowsOf layout releases 0 0 (given ∷ []) rows → option_or rows.fault (first_noted rows.faults) ≡ fault_by layout releases.zones 0 0 given
   one_fault are = by_texts are.texts are refl
 
+none_by : (d : ℕ) (mode : Records) → records_by mode d [] ≡ []
+none_by d by.Csv = wholes_none d [] (column_records-nil d)
+none_by d by.Lines = refl
+
 -- ---- which record it is
 
-module _ (law : FirstRecordIsAlone) (mode : Records) (bytes : List ℕ) where
-  one_first : (all : List CsvRecord) → records_by mode bytes ≡ all → (first_text (texts_by mode bytes) ≡ []) ⊎ ((given : CsvRecord) × (records_by mode (first_text (texts_by mode bytes)) ≡ given ∷ []))
-  one_first [] is = inl (ap first_text (sym (owns_by mode bytes) ∙ ap (map (λ (w : CsvRecord). w.own)) is))
-  one_first (given ∷ others) is = inr (given, law.same mode bytes ∙ ap (take 1) is)
+module _ (law : FirstRecordIsAlone) (d : ℕ) (can : CanDelimit d) where
+  one_first : (mode : Records) (bytes : List ℕ) (all : List CsvRecord) → records_by mode d bytes ≡ all
+      → (first_text (texts_by mode d bytes) ≡ []) ⊎ ((given : CsvRecord) × (records_by mode d (first_text (texts_by mode d bytes)) ≡ given ∷ []))
+  one_first mode bytes [] is = inl (ap first_text (sym (owns_by d mode bytes) ∙ ap (map (λ (w : CsvRecord). w.own)) is))
+  one_first mode bytes (given ∷ others) is = inr (given, law.same mode d bytes can ∙ ap (take 1) is)
 
-  ended_first : (m : Records) → m ≡ mode → EndsNoLine m (first_text (texts_by m bytes))
-  ended_first by.Csv is = tt
-  ended_first by.Lines is = law.ended bytes
+  ended_first : (mode : Records) (bytes : List ℕ) → EndsNoLine mode (first_text (texts_by mode d bytes))
+  ended_first by.Csv bytes = tt
+  ended_first by.Lines bytes = law.ended bytes
 
-  of_first : AreOfOne mode (first_text (texts_by mode bytes))
-  of_first = record { one = one_first (records_by mode bytes) refl; ended = ended_first mode refl }
+  no_own : (mode : Records) → AreOfOne mode d []
+  no_own by.Csv = record { one = inl refl; ended = tt }
+  no_own by.Lines = record { one = inl refl; ended = law.ended [] }
 
-no_own : (mode : Records) → (law : FirstRecordIsAlone) → AreOfOne mode []
-no_own by.Csv law = record { one = inl refl; ended = tt }
-no_own by.Lines law = record { one = inl refl; ended = law.ended [] }
+  first_kept : (texts : List (List ℕ)) → first_text texts ≡ first_text (take 1 texts)
+  first_kept [] = refl
+  first_kept (text ∷ texts) = refl
 
--- own bytes that are those of the first record, or of none
-of_passed : (law : FirstRecordIsAlone) (mode : Records) (k : ℕ) (bytes : List ℕ) → (k ≡ 0) ⊎ (k ≡ 1) → AreOfOne mode (first_text (take k (texts_by mode bytes)))
-of_passed law mode k bytes (inl none) = subst (λ (n : ℕ). AreOfOne mode (first_text (take n (texts_by mode bytes)))) (sym none) (no_own mode law)
-of_passed law mode k bytes (inr one) =
-    subst (λ (n : ℕ). AreOfOne mode (first_text (take n (texts_by mode bytes)))) (sym one) (subst (AreOfOne mode) (first_same (texts_by mode bytes)) (of_first law mode bytes))
-  where
-    first_same : (texts : List (List ℕ)) → first_text texts ≡ first_text (take 1 texts)
-    first_same [] = refl
-    first_same (text ∷ texts) = refl
+  -- own bytes that are those of the first record, or of none
+  of_passed : (mode : Records) (k : ℕ) (bytes : List ℕ) → (k ≡ 0) ⊎ (k ≡ 1) → AreOfOne mode d (first_text (take k (texts_by mode d bytes)))
+  of_passed mode k bytes (inl none) = subst (λ (n : ℕ). AreOfOne mode d (first_text (take n (texts_by mode d bytes)))) (sym none) (no_own mode)
+  of_passed mode k bytes (inr one) =
+      subst (λ (n : ℕ). AreOfOne mode d (first_text (take n (texts_by mode d bytes)))) (sym one)
+      (subst (AreOfOne mode d) (first_kept (texts_by mode d bytes)) (record { one = one_first mode bytes (records_by mode d bytes) refl; ended = ended_first mode bytes }))
+
+  -- they have its record, or none
+  passed_records : (mode : Records) (k : ℕ) (bytes : List ℕ) → (k ≡ 0) ⊎ (k ≡ 1) → records_by mode d (first_text (take k (texts_by mode d bytes))) ≡ take k (records_by mode d bytes)
+  passed_records mode k bytes (inl none) = rw none (none_by d mode)
+  passed_records mode k bytes (inr one) = rw one (ap (records_by mode d) (sym (first_kept (texts_by mode d bytes))) ∙ law.same mode d bytes can)
 
 -- ---- the fault of a header with these own bytes
 
-module _ (law : FirstRecordIsAlone) (layout : Layout) (own : List ℕ) where
-  read_same : (mode : Records) → AreOfOne mode own → is_open_by mode own ≡ false → records_by mode own ≡ csv_records own
+module _ (law : FirstRecordIsAlone) (layout : Layout) (can : CanDelimit layout.delimiter) (own : List ℕ) where
+  read_same : (mode : Records) → AreOfOne mode layout.delimiter own → is_open_by mode layout.delimiter own ≡ false → records_by mode layout.delimiter own ≡ csv_records layout.delimiter own
   read_same by.Csv of closed = refl
-  read_same by.Lines of closed = law.closed own of.ended closed
+  read_same by.Lines of closed = law.closed layout.delimiter own can of.ended closed
 
   -- of a record that a CSV reader gives
-  pub read_by_mode : (files : List File) (mode : Records) → (own ≡ [] → ⊥) → AreOfOne mode own → is_open_by mode own ≡ false → (fault : Option RowKind)
-      → ((given : CsvRecord) → csv_records_in layout.delimiter own ≡ given ∷ [] → fault ≡ fault_by layout files 0 0 given)
-      → header_kind fault ≡ header_fault layout files (map (exchanged_record layout.delimiter) (records_by mode own))
+  pub read_by_mode : (files : List File) (mode : Records) → (own ≡ [] → ⊥) → AreOfOne mode layout.delimiter own → is_open_by mode layout.delimiter own ≡ false → (fault : Option RowKind)
+      → ((given : CsvRecord) → csv_records layout.delimiter own ≡ given ∷ [] → fault ≡ fault_by layout files 0 0 given)
+      → header_kind fault ≡ header_fault layout files (records_by mode layout.delimiter own)
   read_by_mode files mode some of closed fault is = ⊎_elim
       (λ (none : own ≡ []). absurd (some none))
-      (λ (one : (given : CsvRecord) × (records_by mode own ≡ given ∷ [])).
-      let d = layout.delimiter in
-      let here : csv_records_in d own ≡ exchanged_record d one.0 ∷ [] = ap (map (exchanged_record d)) (sym (read_same mode of closed) ∙ one.1) in
-      ap header_kind (is (exchanged_record d one.0) here) ∙ sym (ap (λ (l : List CsvRecord). header_fault layout files (map (exchanged_record d) l)) one.1))
+      (λ (one : (given : CsvRecord) × (records_by mode layout.delimiter own ≡ given ∷ [])).
+      ap header_kind (is one.0 (sym (read_same mode of closed) ∙ one.1)) ∙ sym (ap (header_fault layout files) one.1))
       of.one
 
   -- of an open line
-  pub open_by_mode : (files : List File) (mode : Records) → EndsNoLine mode own → is_open_by mode own ≡ true → (kind : RowKind)
-      → fault_by layout files 0 0 (exchanged_record layout.delimiter (open_record own)) ≡ Some kind
-      → header_kind (Some kind) ≡ header_fault layout files (map (exchanged_record layout.delimiter) (records_by mode own))
+  pub open_by_mode : (files : List File) (mode : Records) → EndsNoLine mode own → is_open_by mode layout.delimiter own ≡ true → (kind : RowKind)
+      → fault_by layout files 0 0 (open_record own) ≡ Some kind → header_kind (Some kind) ≡ header_fault layout files (records_by mode layout.delimiter own)
   open_by_mode files by.Csv ended opened kind is = absurd (cc opened)
-  open_by_mode files by.Lines ended opened kind is =
-      ap header_kind (sym is) ∙ sym (ap (λ (l : List CsvRecord). header_fault layout files (map (exchanged_record layout.delimiter) l)) (law.opened own ended opened))
+  open_by_mode files by.Lines ended opened kind is = ap header_kind (sym is) ∙ sym (ap (header_fault layout files) (law.opened layout.delimiter own can ended opened))
 
 pub empty_own : (own : List ℕ) → true ≡ (length own == 0) → own ≡ []
 empty_own [] is = refl
@@ -176,36 +177,29 @@ some_own [] is none = cc is
 some_own (byte ∷ own) is none = cc none
 
 -- no header has no fault
-none_by : (mode : Records) → records_by mode [] ≡ []
-none_by by.Csv = wholes_none [] column_records-nil
-none_by by.Lines = refl
-
-pub no_fault : (layout : Layout) (files : List File) (own : List ℕ) → own ≡ [] → header_fault layout files (records_in layout own) ≡ None
-no_fault layout files own none =
-    ap (λ (o : List ℕ). header_fault layout files (records_in layout o)) none ∙ ap (λ (l : List CsvRecord). header_fault layout files (map (exchanged_record layout.delimiter) l)) (none_by layout.records)
+pub no_fault : (layout : Layout) (files : List File) (own : List ℕ) → own ≡ [] → header_fault layout files (records_left layout own) ≡ None
+no_fault layout files own none = ap (λ (o : List ℕ). header_fault layout files (records_left layout o)) none ∙ ap (header_fault layout files) (none_by layout.delimiter layout.records)
 
 -- ---- by the files that are known, and by all files that may be
 
-module _ (law : FirstRecordIsAlone) (layout : Layout) (can : is_delimiter layout.delimiter ≡ true) (settled : List ℕ → Type 0) (known releases : Releases) (agree : ReleasesAgree settled known releases)
-    (own : List ℕ) (all : All settled (map (zone_in layout.zone) (records_of (own ∷ [])))) where
+module _ (law : FirstRecordIsAlone) (layout : Layout) (can : CanDelimit layout.delimiter) (settled : List ℕ → Type 0) (known releases : Releases) (agree : ReleasesAgree settled known releases)
+    (own : List ℕ) (all : All settled (map (zone_in layout.zone) (records_of layout.delimiter (own ∷ [])))) where
   abbrev IsKnown : CsvRecord → Type 0
   IsKnown = IsKnownZone layout.zone known.zones releases.zones
 
-  csv_known : All IsKnown (csv_records_in layout.delimiter own)
-  csv_known = subst (All IsKnown) (append-nil (csv_records_in layout.delimiter own)) (round_known layout.delimiter can settled known.zones releases.zones agree.zones layout.zone (own ∷ []) all)
+  csv_known : All IsKnown (csv_records layout.delimiter own)
+  csv_known = subst (All IsKnown) (append-nil (csv_records layout.delimiter own)) (round_known settled known.zones releases.zones agree.zones layout.zone layout.delimiter (own ∷ []) all)
 
-  lines_known : HasNoLineEnd own → All IsKnown (map (exchanged_record layout.delimiter) (line_records own))
+  lines_known : HasNoLineEnd own → All IsKnown (line_records layout.delimiter own)
   lines_known none = ⊎_elim
-      (λ (opened : is_open 44 own ≡ true).
-      subst (λ (l : List CsvRecord). All IsKnown (map (exchanged_record layout.delimiter) l)) (sym (law.opened own none opened))
-      (All-cons IsKnown (exchanged_record layout.delimiter (open_record own)) [] (λ no. absurd (cc no)) (λ k dflt lt. absurd (omega (arith, lt)))))
-      (λ (closed : is_open 44 own ≡ false).
-      subst (λ (l : List CsvRecord). All IsKnown (map (exchanged_record layout.delimiter) l)) (sym (law.closed own none closed)) csv_known)
-      (cases_Bool (is_open 44 own))
+      (λ (opened : is_open layout.delimiter own ≡ true).
+      subst (All IsKnown) (sym (law.opened layout.delimiter own can none opened)) (All-cons IsKnown (open_record own) [] (λ no. absurd (cc no)) (λ k dflt lt. absurd (omega (arith, lt)))))
+      (λ (closed : is_open layout.delimiter own ≡ false). subst (All IsKnown) (sym (law.closed layout.delimiter own can none closed)) csv_known)
+      (cases_Bool (is_open layout.delimiter own))
 
-  known_by : (mode : Records) → AreOfOne mode own → All IsKnown (map (exchanged_record layout.delimiter) (records_by mode own))
-  known_by by.Csv of = csv_known
-  known_by by.Lines of = lines_known of.ended
+  known_by : (mode : Records) → EndsNoLine mode own → All IsKnown (records_by mode layout.delimiter own)
+  known_by by.Csv ended = csv_known
+  known_by by.Lines ended = lines_known ended
 
   first_fault : (given : List CsvRecord) → All IsKnown given → header_fault layout known.zones given ≡ header_fault layout releases.zones given
   first_fault [] is = refl
@@ -213,8 +207,8 @@ module _ (law : FirstRecordIsAlone) (layout : Layout) (can : is_delimiter layout
       let keeps = (kept agree).zones in
       ap header_kind (fault_same known.zones releases.zones keeps.still keeps.differ layout 0 0 first (All-head IsKnown first others is))
 
-  pub own_same : AreOfOne layout.records own → header_fault layout known.zones (records_in layout own) ≡ header_fault layout releases.zones (records_in layout own)
-  own_same of = first_fault (records_in layout own) (known_by layout.records of)
+  pub own_same : AreOfOne layout.records layout.delimiter own → header_fault layout known.zones (records_left layout own) ≡ header_fault layout releases.zones (records_left layout own)
+  own_same of = first_fault (records_left layout own) (known_by layout.records of.ended)
 
 -- ---- the header of a column
 
@@ -223,20 +217,6 @@ before_is headers.Absent = inl refl
 before_is headers.First = inr refl
 before_is headers.Skipped = inr refl
 
-first_put : (d : ℕ) (given : List CsvRecord) → map (exchanged_record d) (take 1 given) ≡ take 1 (map (exchanged_record d) given)
-first_put d [] = refl
-first_put d (first ∷ others) = refl
-
-passed_records : FirstRecordIsAlone → (d : ℕ) (mode : Records) (k : ℕ) (bytes : List ℕ) → (k ≡ 0) ⊎ (k ≡ 1)
-    → map (exchanged_record d) (records_by mode (first_text (take k (texts_by mode bytes)))) ≡ take k (map (exchanged_record d) (records_by mode bytes))
-passed_records law d mode k bytes (inl none) = rw none (ap (map (exchanged_record d)) (none_by mode))
-passed_records law d mode k bytes (inr one) =
-    rw one (ap (λ (o : List ℕ). map (exchanged_record d) (records_by mode o)) (sym (first_kept (texts_by mode bytes))) ∙ ap (map (exchanged_record d)) (law.same mode bytes) ∙ first_put d (records_by mode bytes))
-  where
-    first_kept : (texts : List (List ℕ)) → first_text texts ≡ first_text (take 1 texts)
-    first_kept [] = refl
-    first_kept (text ∷ texts) = refl
-
 -- the own bytes that are written and logged
 pub kept_header : (header : Header) (texts : List (List ℕ)) → kept_of header (first_text (take (records_before header) texts)) ≡ own_header header texts
 kept_header headers.Absent texts = refl
@@ -244,27 +224,26 @@ kept_header headers.First [] = refl
 kept_header headers.First (text ∷ texts) = refl
 kept_header headers.Skipped texts = refl
 
-module _ (law : FirstRecordIsAlone) (layout : Layout) (known : Option (List ℕ)) (own : List ℕ) (is : IfSome known (λ column. own ≡ passed_in layout column)) where
-  pub kept_is : (kept : List ℕ) → kept ≡ kept_of layout.header own → IfSome known (λ column. kept ≡ own_header layout.header (texts_by layout.records (strip_bom column)))
-  kept_is kept same = if_some known _ (λ column e.
-      same ∙ ap (kept_of layout.header) (for_some known _ column is e) ∙ kept_header layout.header (texts_by layout.records (strip_bom column)))
+module _ (law : FirstRecordIsAlone) (layout : Layout) (can : CanDelimit layout.delimiter) (known : Option (List ℕ)) (own : List ℕ) (is : IfSome known (λ bytes. own ≡ header_passed layout bytes)) where
+  pub kept_is : (kept : List ℕ) → kept ≡ kept_of layout.header own → IfSome known (λ bytes. kept ≡ header_read layout bytes)
+  kept_is kept same = if_some known _ (λ bytes e. same ∙ ap (kept_of layout.header) (for_some known _ bytes is e) ∙ kept_header layout.header (texts_read layout bytes))
 
   -- the log began with them
-  pub began_head : (kept rejected : List ℕ) (began : Option (List ℕ)) → kept ≡ kept_of layout.header own → rejected ≡ if_rejected layout.at_fault (exchanged layout.delimiter kept)
-      → IfSome began (λ o. o ≡ rejected) → LogBegan (rejects_header_in layout) known began
-  began_head kept rejected began same put has = if_some known _ (λ column e.
-      if_some began _ (λ o there. for_some began _ o has there ∙ put ∙ ap (λ (k : List ℕ). if_rejected layout.at_fault (exchanged layout.delimiter k)) (for_some known _ column (kept_is kept same) e)))
+  pub began_head : (kept rejected : List ℕ) (began : Option (List ℕ)) → kept ≡ kept_of layout.header own → rejected ≡ if_rejected layout.at_fault kept
+      → IfSome began (λ o. o ≡ rejected) → LogBegan (λ bytes. if_rejected layout.at_fault (header_read layout bytes)) known began
+  began_head kept rejected began same put has = if_some known _ (λ bytes e.
+      if_some began _ (λ o there. for_some began _ o has there ∙ put ∙ ap (if_rejected layout.at_fault) (for_some known _ bytes (kept_is kept same) e)))
 
   -- the fault of the header is that of its own bytes
   module _ (files : List File) (fault : Option RowKind) (found : IsOwnFault layout files own fault) where
-    pub fault_in : IfSome known (λ column. header_fault_in layout files column ≡ fault)
-    fault_in = if_some known _ (λ column e.
-        let bytes = strip_bom column in
+    pub fault_in : IfSome known (λ bytes. fault_read layout files bytes ≡ fault)
+    fault_in = if_some known _ (λ bytes e.
+        let d = layout.delimiter in
         let k = records_before layout.header in
-        let passed = for_some known _ column is e in
-        let of : AreOfOne layout.records own = subst (AreOfOne layout.records) (sym passed) (of_passed law layout.records k bytes (before_is layout.header)) in
-        let same : records_in layout own ≡ take k (records_in layout bytes) =
-        ap (records_in layout) passed ∙ passed_records law layout.delimiter layout.records k bytes (before_is layout.header) in
+        let passed = for_some known _ bytes is e in
+        let before = before_is layout.header in
+        let of : AreOfOne layout.records d own = subst (AreOfOne layout.records d) (sym passed) (of_passed law d can layout.records k (strip_bom bytes) before) in
+        let same : records_left layout own ≡ take k (records_read layout bytes) = ap (records_left layout) passed ∙ passed_records law d can layout.records k (strip_bom bytes) before in
         sym (found of ∙ ap (header_fault layout files) same))
 
   -- the check of the header ended the run

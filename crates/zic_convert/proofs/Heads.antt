@@ -1,14 +1,12 @@
 -- The header before rows, and the rows of a column after it.
 use Rattle.std.proofs.Common.{◌≡◌, ◌∙◌, ◌⊎◌, ℕ, true, List, [], ◌∷◌, Option, Some, None, drop, map, take, inl, inr, refl, sym, ap, ap₂, subst}
-use Rattle.std.proofs.lemmas.List.{append-nil, drop-map, length-map}
+use Rattle.std.proofs.lemmas.List.{append-nil}
 use Rattle.std.specs.Io.{StartsWith}
 use Rattle.std.specs.Io.KnownBytes.{Appends}
 use Rattle.std.specs.Prelude.{IfErr, IfOk, IfSome, Result, Ok, Err, option_map}
 use Rattle.csv.specs.Reading.{strip_bom}
 use Rattle.csv.proofs.WriteFacts.{appends-none}
-use Rattle.zic_columns.specs.Exchange.{exchanged}
-use Rattle.zic_columns.specs.Laws.{RecordsByAreExchanged, TextsByAreExchanged}
-use Rattle.zic_columns.specs.Lines.{records_by, texts_by, exchanged_record}
+use Rattle.zic_columns.specs.Lines.{records_by}
 use Rattle.zic_columns.specs.Own.{CsvRecord}
 use Rattle.zic_columns.specs.Round.{BeginsTooLong}
 use Rattle.zic_counted.specs.Counts.{Counts}
@@ -16,7 +14,6 @@ use Rattle.zic_counted.specs.Written.{FailsWithin}
 use Rattle.zic_tzif.specs.Laws.{FilesAnswerOnce}
 use Rattle.zic_zones.specs.declared.releases.Releases.{Releases}
 use Rattle.zic_convert.specs.Laws.{AreSoundReleases}
-use Rattle.zic_plan.specs.Delimiter.{exchange, is_delimiter}
 use Rattle.zic_plan.specs.Layout.{records_before}
 use Rattle.zic_plan.specs.declared.layout.Layout.{Layout}
 use Rattle.zic_plan.specs.declared.layout.Records.{Records}
@@ -26,28 +23,22 @@ use Rattle.zic_base.specs.declared.row_fault.RowKind.TheVariants as kinds
 use Rattle.zic_files.specs.File.{File}
 use Rattle.zic_base.specs.declared.run_stop.RunStop.{RunStop}
 use Rattle.zic_base.specs.declared.run_stop.RunStop.TheVariants as stop
-use Rattle.zic_convert.specs.Column.{AreRowRecords, rejects_header, header_of, names_added, own_header, own_line, read_by}
+use Rattle.zic_layout_rows.specs.LayoutRows.{if_rejected}
+use Rattle.zic_convert.specs.Column.{AreRowRecords, header_of, header_read, names_added, own_line, read_by, records_read, rejects_header}
 use Rattle.zic_convert.specs.Run.{EndsAfterLines, EndsAtHeader, EndsIn, LogBegan, PassesHeader, WritesRows}
 use Rattle.zic_convert.specs.code.Halt.{IsCauseOfHalt, stop_of}
-use Rattle.zic_convert.specs.Header.{IsHeaderFault, header_fault}
-use Rattle.zic_convert.specs.code.Progress.{BeginsRows, ConvertsColumn, ConvertsRest, EndsInColumn, EndsInRest, HaltsAtBegin, HaltsAtHead, HaltsAtHeader, IsAtHeader, IsAtLongHeader, rejects_header_in, header_fault_in, output, own_line_in}
-use Rattle.zic_convert.specs.code.Row.{records_in}
+use Rattle.zic_convert.specs.Header.{IsHeaderFault, fault_read, header_fault}
+use Rattle.zic_convert.specs.code.Progress.{BeginsRows, ConvertsColumn, ConvertsRest, EndsInColumn, EndsInRest, HaltsAtBegin, HaltsAtHead, HaltsAtHeader, IsAtHeader, IsAtLongHeader, output, records_left}
 use Rattle.zic_convert.specs.code.Written.{EndsAtHead, Wrote}
 use Rattle.zic_convert.specs.declared.halt.Halt.{Halt}
 use Rattle.zic_convert.specs.declared.halt.Halt.TheVariants as halt
 use Rattle.zic_convert.proofs.Below.{ends_below, rows_below}
 use Rattle.zic_convert.proofs.Bytes.{fails_later, starts_later, wrote_both}
-use Rattle.zic_convert.proofs.Delimited.{rejects_delimited, header_put_back, own_line_delimited, records_alike}
 use Rattle.zic_convert.proofs.Logs.{notes_none}
 use Rattle.zic_convert.proofs.Options.{for_some, if_some}
 use Rattle.zic_convert.proofs.Sounds.{both_known}
 use Rattle.zic_convert.proofs.TooMany.{none_few}
 use Rattle.zic_convert.proofs.Totals.{all_come}
-
--- the first record is as long with the delimiter put back
-long_put : (d : ℕ) (most : Option ℕ) (given : List CsvRecord) → BeginsTooLong most given → BeginsTooLong most (map (exchanged_record d) given)
-long_put d most [] none = none
-long_put d most (first ∷ others) is = rw (length-map first.own (exchange d)) is
 
 -- a header that has too many bytes has that fault
 long_fault : (layout : Layout) (files : List File) (given : List CsvRecord) → BeginsTooLong layout.max_record given → header_fault layout files (take 1 given) ≡ Some kinds.RowTooLong
@@ -58,11 +49,8 @@ at_long : (layout : Layout) (files : List File) (known : Option (List ℕ)) (why
 at_long layout files known why at = record {
   kind = kinds.RowTooLong;
   is = at.is;
-  fault = if_some known _ (λ column e.
-      let records = records_by layout.records (strip_bom column) in
-      let long = for_some known _ column at.long e in
-      ap (λ (n : ℕ). header_fault layout files (take n (records_in layout (strip_bom column)))) at.header
-      ∙ long_fault layout files (records_in layout (strip_bom column)) (long_put layout.delimiter layout.max_record records long));
+  fault = if_some known _ (λ bytes e.
+      ap (λ (n : ℕ). header_fault layout files (take n (records_read layout bytes))) at.header ∙ long_fault layout files (records_read layout bytes) (for_some known _ bytes at.long e));
 }
 
 module _ {W : Type 0} (contents : W → Option (List ℕ)) where
@@ -80,13 +68,12 @@ module _ {W : Type 0} (contents : W → Option (List ℕ)) where
 
   module _ (old new : Counts W) (layout : Layout) (files : List File) (known : Option (List ℕ)) where
     -- a header was not written whole
-    pub halts_before : (own : List ℕ) → IfSome known (λ column. own ≡ own_header layout.header (texts_by layout.records (strip_bom column)))
-        → IfSome known (λ column. header_fault_in layout files column ≡ None) → (why : RunStop)
-        → EndsAtHead contents old new (header_of layout.start (names_added layout) layout.delimiter (exchanged layout.delimiter own)) why → HaltsAtHead contents old new layout files known (halt.Stop why)
+    pub halts_before : (own : List ℕ) → IfSome known (λ bytes. own ≡ header_read layout bytes) → IfSome known (λ bytes. fault_read layout files bytes ≡ None) → (why : RunStop)
+        → EndsAtHead contents old new (header_of layout.start (names_added layout) layout.delimiter own) why → HaltsAtHead contents old new layout files known (halt.Stop why)
     halts_before own is none stop.WriteFailed fails = (
       fails.failed,
       if_some known _ (λ column e. (
-        subst (λ (l : List ℕ). FailsWithin contents old new (header_of layout.start (names_added layout) layout.delimiter (exchanged layout.delimiter l))) (for_some known _ column is e) fails,
+        subst (λ (l : List ℕ). FailsWithin contents old new (header_of layout.start (names_added layout) layout.delimiter l)) (for_some known _ column is e) fails,
         for_some known _ column none e,
       )),
     )
@@ -123,22 +110,22 @@ module _ {W : Type 0} (contents : W → Option (List ℕ)) where
     cause_at_head (halt.Stop stop.LogFailed) ends = absurd ends
 
 -- a column was not begun, whose header could not be passed over
-pub header_halts : (layout : Layout) (known left : Option (List ℕ)) (mode : Records) → mode ≡ layout.records → IfSome known (λ bytes. left ≡ Some (strip_bom bytes)) → records_before layout.header ≡ 1 → (why : Halt)
-    → HaltsAtHeader layout.max_record mode left why → HaltsAtBegin layout known why
-header_halts layout known left mode by bytes header halt.Unread is = tt
-header_halts layout known left mode by bytes header (halt.Stop (stop.Row row kind)) is = record {
+pub header_halts : (layout : Layout) (known left : Option (List ℕ)) (mode : Records) (d : ℕ) → mode ≡ layout.records → d ≡ layout.delimiter → IfSome known (λ bytes. left ≡ Some (strip_bom bytes))
+    → records_before layout.header ≡ 1 → (why : Halt) → HaltsAtHeader layout.max_record mode d left why → HaltsAtBegin layout known why
+header_halts layout known left mode d by delimiter bytes header halt.Unread is = tt
+header_halts layout known left mode d by delimiter bytes header (halt.Stop (stop.Row row kind)) is = record {
   is = ap₂ (λ (n : ℕ) (k : RowKind). stop.Row n k) is.0 is.1;
   header = header;
   long = if_some known _ (λ column e.
-      subst (λ (m : Records). BeginsTooLong layout.max_record (records_by m (strip_bom column))) by (for_some left _ (strip_bom column) is.2 (for_some known _ column bytes e)));
+      rw (by, delimiter) at (for_some left _ (strip_bom column) is.2 (for_some known _ column bytes e)));
 }
-header_halts layout known left mode by bytes header (halt.Stop (stop.Source fault)) is = absurd is
-header_halts layout known left mode by bytes header (halt.Stop stop.ReadFailed) is = absurd is
-header_halts layout known left mode by bytes header (halt.Stop stop.WriteFailed) is = absurd is
-header_halts layout known left mode by bytes header (halt.Stop stop.ColumnTooLong) is = absurd is
-header_halts layout known left mode by bytes header (halt.Stop stop.Memory) is = absurd is
-header_halts layout known left mode by bytes header (halt.Stop stop.NoThread) is = absurd is
-header_halts layout known left mode by bytes header (halt.Stop stop.LogFailed) is = absurd is
+header_halts layout known left mode d by delimiter bytes header (halt.Stop (stop.Source fault)) is = absurd is
+header_halts layout known left mode d by delimiter bytes header (halt.Stop stop.ReadFailed) is = absurd is
+header_halts layout known left mode d by delimiter bytes header (halt.Stop stop.WriteFailed) is = absurd is
+header_halts layout known left mode d by delimiter bytes header (halt.Stop stop.ColumnTooLong) is = absurd is
+header_halts layout known left mode d by delimiter bytes header (halt.Stop stop.Memory) is = absurd is
+header_halts layout known left mode d by delimiter bytes header (halt.Stop stop.NoThread) is = absurd is
+header_halts layout known left mode d by delimiter bytes header (halt.Stop stop.LogFailed) is = absurd is
 
 -- not even a header was written whole
 no_line : FilesAnswerOnce → (layout : Layout) (releases : Releases) (most : ℕ) (limit : Option ℕ) → AreSoundReleases releases → (head : List ℕ) (row_records : List CsvRecord) (why : RunStop) (old new : Option (List ℕ)) (log : Option (List RowNote))
@@ -161,14 +148,13 @@ no_line once layout releases most limit sound head row_records why old new log p
       may = none_few limit;
     }
 
--- a column was converted in which the delimiter and commas are exchanged
-module _ (layout : Layout) (most : ℕ) (limit : Option ℕ) (law : RecordsByAreExchanged) (own_law : TextsByAreExchanged) (can : is_delimiter layout.delimiter ≡ true) (known inside : Option (List ℕ))
-    (is : inside ≡ option_map (exchanged layout.delimiter) (option_map (read_by layout) known)) where
-  within : (column : List ℕ) → known ≡ Some column → inside ≡ Some (exchanged layout.delimiter (read_by layout column))
-  within column e = is ∙ ap (λ (o : Option (List ℕ)). option_map (exchanged layout.delimiter) (option_map (read_by layout) o)) e
+-- a column was converted, of which these bytes are read
+module _ (layout : Layout) (most : ℕ) (limit : Option ℕ) (known inside : Option (List ℕ)) (is : inside ≡ option_map (read_by layout) known) where
+  within : (column : List ℕ) → known ≡ Some column → inside ≡ Some (read_by layout column)
+  within column e = is ∙ ap (option_map (read_by layout)) e
 
-  abbrev row_wholes : List ℕ → List CsvRecord
-  row_wholes column = drop (records_before layout.header) (records_in layout (strip_bom (exchanged layout.delimiter (read_by layout column))))
+  abbrev rows_read : List ℕ → List CsvRecord
+  rows_read column = drop (records_before layout.header) (records_read layout (read_by layout column))
 
   -- the rows of a column did not begin
   module _ {W : Type 0} (contents : W → Option (List ℕ)) (once : FilesAnswerOnce) (old new : Counts W) (log : Option (List RowNote)) (releases : Releases) (sound : AreSoundReleases releases) where
@@ -178,9 +164,9 @@ module _ (layout : Layout) (most : ℕ) (limit : Option ℕ) (law : RecordsByAre
         × EndsAfterLines layout releases most limit (own_line layout column) row_records why (output (contents old.inner) (contents old.inner) log log)))
     none_written why at_no_row = if_some known _ (λ column e. inr (
       inr (record { at_no_row = at_no_row; wrote = appends-none (contents old.inner); noted = notes_none log }),
-      row_wholes column,
-      records_alike layout law can column,
-      no_line once layout releases most limit sound (own_line layout column) (row_wholes column) why (contents old.inner) (contents old.inner) log [] refl (appends-none (contents old.inner)) (inl refl),
+      rows_read column,
+      refl,
+      no_line once layout releases most limit sound (own_line layout column) (rows_read column) why (contents old.inner) (contents old.inner) log [] refl (appends-none (contents old.inner)) (inl refl),
     ))
 
     -- the header has a fault
@@ -189,7 +175,7 @@ module _ (layout : Layout) (most : ℕ) (limit : Option ℕ) (law : RecordsByAre
         inl (record {
           kind = at.kind;
           is = at.is;
-          fault = header_put_back layout law can column releases.zones (Some at.kind) (sym (for_some inside _ (exchanged layout.delimiter (read_by layout column)) at.fault (within column e)));
+          fault = sym (for_some inside _ (read_by layout column) at.fault (within column e));
           wrote = appends-none (contents old.inner);
           noted = notes_none log;
         }))
@@ -198,14 +184,12 @@ module _ (layout : Layout) (most : ℕ) (limit : Option ℕ) (law : RecordsByAre
     ends_at_head halt.Unread same = rw same (none_written stop.ReadFailed (λ row kind e. cc e))
     ends_at_head (halt.Stop stop.Memory) same = rw same (none_written stop.Memory (λ row kind e. cc e))
     ends_at_head (halt.Stop stop.WriteFailed) failed = if_some known _ (λ column e.
-        let (fails, none) = for_some inside _ (exchanged layout.delimiter (read_by layout column)) failed.1 (within column e) in
-        let same = own_line_delimited layout own_law can column in
+        let (fails, none) = for_some inside _ (read_by layout column) failed.1 (within column e) in
         inr (
-          inl (header_put_back layout law can column releases.zones None (sym none)),
-          row_wholes column,
-          records_alike layout law can column,
-          no_line once layout releases most limit sound (own_line layout column) (row_wholes column) stop.WriteFailed (contents old.inner) (contents new.inner) log fails.part
-              (subst (λ (l : List ℕ). StartsWith l fails.part) same fails.starts) fails.wrote (inr refl),
+          inl (sym none),
+          rows_read column,
+          refl,
+          no_line once layout releases most limit sound (own_line layout column) (rows_read column) stop.WriteFailed (contents old.inner) (contents new.inner) log fails.part fails.starts fails.wrote (inr refl),
         ))
     ends_at_head (halt.Stop (stop.Row row kind)) ends = rw ends.0 (header_faulty (stop.Row row kind) ends.1)
     ends_at_head (halt.Stop (stop.Source fault)) ends = absurd ends
@@ -215,33 +199,25 @@ module _ (layout : Layout) (most : ℕ) (limit : Option ℕ) (law : RecordsByAre
     ends_at_head (halt.Stop stop.LogFailed) ends = absurd ends
 
   -- the log began with the own bytes of its header
-  pub began_as : (began : Option (List ℕ)) → LogBegan (rejects_header_in layout) inside began → LogBegan (rejects_header layout) known began
-  began_as began is = if_some known _ (λ column e.
-      subst (λ (l : List ℕ). IfSome began (λ own. own ≡ l)) (rejects_delimited layout own_law can column) (for_some inside _ (exchanged layout.delimiter (read_by layout column)) is (within column e)))
+  pub began_as : (began : Option (List ℕ)) → LogBegan (λ bytes. if_rejected layout.at_fault (header_read layout bytes)) inside began → LogBegan (rejects_header layout) known began
+  began_as began is = if_some known _ (λ column e. for_some inside _ (read_by layout column) is (within column e))
 
   -- the rest of a column was converted, once its header was written
   module _ (releases : Releases) (left : Option (List ℕ)) (old mid new : Option (List ℕ)) (log last : Option (List RowNote))
-      (begins : IfSome inside (λ bytes. BeginsRows layout bytes left)) (head : IfSome inside (λ bytes. Appends old mid (own_line_in layout bytes))) where
+      (begins : IfSome inside (λ bytes. BeginsRows layout bytes left)) (head : IfSome inside (λ bytes. Appends old mid (header_of layout.start (names_added layout) layout.delimiter (header_read layout bytes)))) where
     begun_as : (P : List CsvRecord → Type 0) (Q : List ℕ → List CsvRecord → Type 0)
         → ((column : List ℕ) (row_records : List CsvRecord) → Appends old mid (own_line layout column) → P row_records → Q column row_records)
-        → IfSome left (λ bytes. P (records_in layout bytes)) → IfSome known (λ column. (row_records : List CsvRecord) × AreRowRecords layout column row_records × Q column row_records)
+        → IfSome left (λ bytes. P (records_left layout bytes)) → IfSome known (λ column. (row_records : List CsvRecord) × AreRowRecords layout column row_records × Q column row_records)
     begun_as P Q below p = if_some known _ (λ column e.
-        let d = layout.delimiter in
-        let k = records_before layout.header in
-        let text = exchanged d (read_by layout column) in
+        let text = read_by layout column in
         let (rest, at, same) = for_some inside _ text begins (within column e) in
-        let all : records_in layout rest ≡ drop k (records_in layout (strip_bom text)) = ap (map (exchanged_record d)) same ∙ sym (drop-map (exchanged_record d) k (records_by layout.records (strip_bom text))) in
-        let line = subst (λ (l : List ℕ). Appends old mid l) (own_line_delimited layout own_law can column) (for_some inside _ text head (within column e)) in (
-          drop k (records_in layout (strip_bom text)),
-          records_alike layout law can column,
-          below column (drop k (records_in layout (strip_bom text))) line (subst P all (for_some left _ rest p at)),
-        ))
+        (rows_read column, refl, below column (rows_read column) (for_some inside _ text head (within column e)) (subst P same (for_some left _ rest p at))))
 
     -- the header has no fault
-    sound_header : IfSome inside (λ bytes. header_fault_in layout releases.zones bytes ≡ None) → (column : List ℕ) → known ≡ Some column → IsHeaderFault layout releases.zones column None
-    sound_header none column e = header_put_back layout law can column releases.zones None (sym (for_some inside _ (exchanged layout.delimiter (read_by layout column)) none (within column e)))
+    sound_header : IfSome inside (λ bytes. fault_read layout releases.zones bytes ≡ None) → (column : List ℕ) → known ≡ Some column → IsHeaderFault layout releases.zones column None
+    sound_header none column e = sym (for_some inside _ (read_by layout column) none (within column e))
 
-    pub converts_column : (n : ℕ) → IfSome inside (λ bytes. header_fault_in layout releases.zones bytes ≡ None) → ConvertsRest layout most limit left n (output mid new log last) releases
+    pub converts_column : (n : ℕ) → IfSome inside (λ bytes. fault_read layout releases.zones bytes ≡ None) → ConvertsRest layout most limit left n (output mid new log last) releases
         → ConvertsColumn layout most limit known n (output old new log last) releases
     converts_column n none rest = if_some known _ (λ column e.
         let fault = sound_header none column e in
@@ -251,7 +227,7 @@ module _ (layout : Layout) (most : ℕ) (limit : Option ℕ) (law : RecordsByAre
         let (row_records, are, w) = for_some known _ column rows e in
         (fault, row_records, are, w))
 
-    pub ends_column : (why : RunStop) → IfSome inside (λ bytes. header_fault_in layout releases.zones bytes ≡ None) → EndsInRest layout most limit left why (output mid new log last) releases
+    pub ends_column : (why : RunStop) → IfSome inside (λ bytes. fault_read layout releases.zones bytes ≡ None) → EndsInRest layout most limit left why (output mid new log last) releases
         → EndsInColumn layout most limit known why (output old new log last) releases
     ends_column why none ends = if_some known _ (λ column e.
         let rows = begun_as (λ row_records. EndsIn layout releases most limit [] row_records why (output mid new log last))

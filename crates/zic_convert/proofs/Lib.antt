@@ -10,7 +10,6 @@ pub mod Heads
 pub mod InMemory
 pub mod Joining
 pub mod Logs
-pub mod Adding
 pub mod Once
 pub mod Options
 pub mod Plain
@@ -24,5 +23,5 @@ pub mod Staying
 pub mod Stops
 pub mod TooMany
 pub mod Totals
-pub mod PieceRecords
+pub mod InOrder
 pub mod Writings

@@ -1,14 +1,13 @@
 -- That a column converts to one list of texts, and one fault or none.
-use Rattle.std.proofs.Common.{inl, inr, ◌≡◌, ◌≢◌, ◌+◌, ℕ, ℤ, List, [], ◌∷◌, ◌++◌, drop, Option, Some, None, Result, Ok, refl, sym, ap, ap₂, subst, ◌∙◌}
+use Rattle.std.proofs.Common.{inl, inr, ◌≡◌, ◌≢◌, ◌+◌, ℕ, ℤ, List, [], ◌∷◌, ◌++◌, Option, Some, None, Result, Ok, refl, sym, ap, ap₂, subst, ◌∙◌}
 use Rattle.std.specs.Prelude.{Contains, IsSome, bytes_eq}
 use Rattle.std.specs.Cmp.Lexicographic.{bytes_decides}
 use Rattle.std.proofs.lemmas.Bool.{cases_Bool}
 use Rattle.std.proofs.lemmas.List.Elements.{All-contains}
 use Rattle.std.proofs.lemmas.Option.{same_Some}
-use Rattle.csv.specs.Reading.{strip_bom}
 use Rattle.zic_columns.specs.Exchange.{exchanged}
 use Rattle.zic_columns.specs.Own.{CsvRecord}
-use Rattle.zic_columns.specs.Laws.{RecordsAreOne, RecordsByAreOne}
+use Rattle.zic_columns.specs.Laws.{RecordsAreOne}
 use Rattle.zic_tzif.specs.Answer.{Answers}
 use Rattle.zic_tzif.specs.Laws.{FilesAnswerOnce}
 use Rattle.zic_rows.specs.Count.{second_of}
@@ -17,13 +16,11 @@ use Rattle.zic_base.proofs.Elements.{get_contained}
 use Rattle.zic_base.proofs.OrderedLists.{one_by_key}
 use Rattle.zic_files.specs.File.{File}
 use Rattle.zic_files.specs.Sound.{AreSoundFiles, IsSoundFile}
-use Rattle.zic_plan.specs.Layout.{records_before}
 use Rattle.zic_plan.specs.declared.layout.Layout.{Layout}
 use Rattle.zic_plan.specs.declared.layout.Written.{Written}
 use Rattle.zic_plan.specs.declared.layout.Written.TheVariants as written
 use Rattle.zic_zones.specs.declared.releases.Releases.{Releases}
 use Rattle.zic_base.specs.declared.row_fault.RowKind.{RowKind}
-use Rattle.zic_convert.specs.Column.{read_by}
 use Rattle.zic_convert.specs.Laws.{AreSoundReleases, ColumnsConvertOnce}
 use Rattle.zic_layout_rows.specs.LayoutRows.{RecordsConvertBy, IsAnswerAt, IsAnswerBy, IsMovedRow, IsRowAt, IsTextBy, IsWrittenAt, old_files, with_answer, ends_by, fault_by, instant_by, rest_by, start_text}
 use Rattle.zic_layout_rows.specs.Rows.{RecordsConvertTo, IsTextOf, fault_of}
@@ -145,13 +142,12 @@ module _ (answers : FilesAnswerOnce) (releases : Releases) (sound : AreSoundRele
       (ap (λ (l : List ℕ). l ∷ ts) first ∙ ap (λ (l : List (List ℕ)). u ∷ l) rest.0, rest.1)
 
 -- and so does a column
-pub columns_once : RecordsAreOne → RecordsByAreOne → FilesAnswerOnce → ColumnsConvertOnce
-columns_once one by_mode answers = record {
+pub columns_once : RecordsAreOne → FilesAnswerOnce → ColumnsConvertOnce
+columns_once one answers = record {
   all = λ files most column a b fault other sound come then.
-      (let same = one _ come.records then.records come.are then.are in
+      (let same = one 44 _ come.records then.records come.are then.are in
       once answers files sound most 1 come.records a b fault other come.rows (rw same then.rows));
   by = λ releases layout most column a b fault other sound come then.
-      (let same = by_mode layout.records layout.delimiter (strip_bom (read_by layout column)) come.are.all then.are.all come.are.are then.are.are in
-      let row_records : come.row_records ≡ then.row_records = come.are.is ∙ ap (drop (records_before layout.header)) same ∙ sym then.are.is in
+      (let row_records : come.row_records ≡ then.row_records = come.are ∙ sym then.are in
       once_by answers releases sound most layout 1 come.row_records a b fault other come.rows (rw row_records then.rows));
 }

@@ -15,14 +15,13 @@ use Rattle.zic_columns.proofs.Exchanges.{comma_exchanged}
 use Rattle.zic_columns.proofs.PieceRecords.{wholes_fields}
 use Rattle.zic_columns.specs.Column.{AreColumnRecords, column_records}
 use Rattle.zic_columns.specs.Exchange.{exchanged}
-use Rattle.zic_columns.specs.Laws.{ColumnRecordsAreRead, DelimitedRecordsAreOne}
-use Rattle.zic_columns.specs.Lines.{AreRecordsBy}
-use Rattle.zic_columns.specs.Own.{CsvRecord, paired, csv_records, own_texts}
+use Rattle.zic_columns.specs.Laws.{ColumnRecordsAreRead, RecordsAreOne}
+use Rattle.zic_columns.specs.Lines.{records_by}
+use Rattle.zic_columns.specs.Own.{CsvRecord, csv_records}
 use Rattle.zic_files.specs.File.{File}
 use Rattle.zic_plan.specs.Layout.{HasPlainRows, records_before}
 use Rattle.zic_plan.specs.declared.layout.Header.TheVariants as header
 use Rattle.zic_plan.specs.declared.layout.Layout.{Layout}
-use Rattle.zic_plan.specs.declared.layout.Records.{Records}
 use Rattle.zic_plan.specs.declared.layout.Records.TheVariants as by
 use Rattle.zic_plan.specs.declared.layout.RowStart.TheVariants as starts
 use Rattle.zic_plan.specs.declared.layout.Style.TheVariants as styles
@@ -35,12 +34,11 @@ use Rattle.zic_rows.specs.Instant.{instant_of}
 use Rattle.zic_rows.specs.Row.{row_text}
 use Rattle.zic_tzif.specs.Answer.{Answers}
 use Rattle.zic_zones.specs.Zones.{alone, is_named, zone_in}
-use Rattle.zic_convert.specs.Column.{AreRowRecords, ConvertsBodyTo, ConvertsBy, ConvertsTo, read_by}
+use Rattle.zic_convert.specs.Column.{AreRowRecords, ConvertsBodyTo, ConvertsBy, ConvertsTo, read_by, records_read}
 use Rattle.zic_convert.specs.Laws.{PlainColumnsConvertAlike}
 use Rattle.zic_layout_rows.specs.Rows.{RecordsConvertTo, IsTextOf, fault_of, instant_in, is_closed, is_row_instant, name_in}
 use Rattle.zic_layout_rows.specs.LayoutRows.{RecordsConvertBy, IsRowAt, IsTextBy, IsWrittenAt, count_in, ends_by, fault_by, file_named, rest_by, start_text, time_by, ok_count, err_fault}
 use Rattle.zic_convert.specs.code.Row.{fields_of_all}
-use Rattle.zic_layout_rows.specs.code.Row.{field_start}
 
 same_seconds : (o : Option ℤ) → option_map (second_of unit.Second) o ≡ o
 same_seconds None = refl
@@ -64,7 +62,7 @@ two_fields (a ∷ b ∷ []) e = (a, b, refl)
 two_fields (a ∷ b ∷ c ∷ rest) e = absurd (omega (arith, e))
 
 -- the text of a row, in the two parts in which it is written
-pub row_in_parts : (u : Unit) (name : List ℕ) (count : ℤ) (state : Shown) → field_start starts.Fields [] name (signed_decimal count) ++ counted_rest_text styles.Fields u count state ≡ counted_row_text u name count state
+pub row_in_parts : (u : Unit) (name : List ℕ) (count : ℤ) (state : Shown) → (name ++ 44 ∷ signed_decimal count) ++ counted_rest_text styles.Fields u count state ≡ counted_row_text u name count state
 unfolding counted_row_text
 row_in_parts u name count state = append_assoc name (44 ∷ signed_decimal count) (counted_rest_text styles.Fields u count state)
 
@@ -185,50 +183,36 @@ fields_after : (row_records : List CsvRecord) → fields_of_all (drop 1 row_reco
 fields_after [] = refl
 fields_after (row_record ∷ row_records) = refl
 
-module _ (read : ColumnRecordsAreRead) (one : DelimitedRecordsAreOne) (files : List File) (layout : Layout) (most : ℕ) (column : List ℕ) (texts : List (List ℕ)) (fault : Option RowKind)
+module _ (read : ColumnRecordsAreRead) (one : RecordsAreOne) (files : List File) (layout : Layout) (most : ℕ) (column : List ℕ) (texts : List (List ℕ)) (fault : Option RowKind)
     (plain : HasPlainRows layout) where
-  -- the column is read whole
-  whole : read_by layout column ≡ column
-  whole = rw plain.at_fault refl
+  -- the records of CSV with commas, of the whole column
+  plainly_read : records_read layout (read_by layout column) ≡ csv_records 44 (strip_bom column)
+  plainly_read = rw (plain.at_fault, plain.records, plain.delimiter) refl
+
+  rows_are : (row_records : List CsvRecord) → AreRowRecords layout column row_records → row_records ≡ drop (records_before layout.header) (csv_records 44 (strip_bom column))
+  rows_are row_records are = are ∙ ap (drop (records_before layout.header)) plainly_read
 
   -- a column's records, by a reader
-  records_are : (records : List (List (List ℕ))) → AreColumnRecords (strip_bom column) records → records ≡ column_records (strip_bom column)
-  records_are records are = one 44 (strip_bom column) records (column_records (strip_bom column)) are (read (strip_bom column))
-
-  -- those that make rows, with their own bytes
-  rows_are : (row_records : List CsvRecord) → AreRowRecords layout column row_records → row_records ≡ drop (records_before layout.header) (csv_records (strip_bom column))
-  rows_are row_records are =
-      let of : AreRecordsBy by.Csv 44 (strip_bom column) are.all = subst (λ (d : ℕ). AreRecordsBy by.Csv d (strip_bom column) are.all) plain.delimiter
-      (subst (λ (mode : Records). AreRecordsBy mode layout.delimiter (strip_bom column) are.all) plain.records
-      (subst (λ (bytes : List ℕ). AreRecordsBy layout.records layout.delimiter (strip_bom bytes) are.all) whole are.are)) in
-      let same = records_are of.0 of.1 in
-      are.is ∙ ap (drop (records_before layout.header)) (of.2 ∙ ap (paired (own_texts (strip_bom column))) same)
-
-  all_rows : AreRowRecords layout column (drop (records_before layout.header) (csv_records (strip_bom column)))
-  all_rows = record {
-    all = csv_records (strip_bom column);
-    are = subst (λ (bytes : List ℕ). AreRecordsBy layout.records layout.delimiter (strip_bom bytes) (csv_records (strip_bom column))) (sym whole)
-        (rw (plain.delimiter, plain.records) (column_records (strip_bom column), read (strip_bom column), refl));
-    is = refl;
-  }
+  records_are : (records : List (List (List ℕ))) → AreColumnRecords 44 (strip_bom column) records → records ≡ column_records 44 (strip_bom column)
+  records_are records are = one 44 (strip_bom column) records (column_records 44 (strip_bom column)) are (read 44 (strip_bom column))
 
   -- the rows of a column are those of its records after the header, if it has one, without a layout
-  plainly : ConvertsBy (alone files) layout most column texts fault → RecordsConvertTo files most 1 (fields_of_all (drop (records_before layout.header) (csv_records (strip_bom column)))) texts fault
+  plainly : ConvertsBy (alone files) layout most column texts fault → RecordsConvertTo files most 1 (fields_of_all (drop (records_before layout.header) (csv_records 44 (strip_bom column)))) texts fault
   plainly come =
       subst (λ (l : List CsvRecord). RecordsConvertTo files most 1 (fields_of_all l) texts fault) (rows_are come.row_records come.are) (come_plainly layout plain files most 1 come.row_records texts fault come.rows)
 
-  by_layout : RecordsConvertTo files most 1 (fields_of_all (drop (records_before layout.header) (csv_records (strip_bom column)))) texts fault → ConvertsBy (alone files) layout most column texts fault
+  by_layout : RecordsConvertTo files most 1 (fields_of_all (drop (records_before layout.header) (csv_records 44 (strip_bom column)))) texts fault → ConvertsBy (alone files) layout most column texts fault
   by_layout come =
-      let row_records = drop (records_before layout.header) (csv_records (strip_bom column)) in
-      record { row_records = row_records; are = all_rows; rows = come_by layout plain files most 1 row_records texts fault come }
+      let row_records = drop (records_before layout.header) (csv_records 44 (strip_bom column)) in
+      record { row_records = row_records; are = ap (drop (records_before layout.header)) (sym plainly_read); rows = come_by layout plain files most 1 row_records texts fault come }
 
   without_header : layout.header ≡ header.Absent → ConvertsBy (alone files) layout most column texts fault ↔ ConvertsTo files most column texts fault
   without_header none =
       let bytes = strip_bom column in
-      let same : fields_of_all (drop (records_before layout.header) (csv_records bytes)) ≡ column_records bytes = rw none (wholes_fields bytes) in (
+      let same : fields_of_all (drop (records_before layout.header) (csv_records 44 bytes)) ≡ column_records 44 bytes = rw none (wholes_fields 44 bytes) in (
         λ by. record {
-          records = column_records bytes;
-          are = read bytes;
+          records = column_records 44 bytes;
+          are = read 44 bytes;
           rows = subst (λ (l : List (List (List ℕ))). RecordsConvertTo files most 1 l texts fault) same (plainly by);
         },
         λ to.
@@ -239,11 +223,11 @@ module _ (read : ColumnRecordsAreRead) (one : DelimitedRecordsAreOne) (files : L
   with_header : records_before layout.header ≡ 1 → ConvertsBy (alone files) layout most column texts fault ↔ ConvertsBodyTo files most column texts fault
   with_header one_before =
       let bytes = strip_bom column in
-      let same : fields_of_all (drop (records_before layout.header) (csv_records bytes)) ≡ drop 1 (column_records bytes) =
-      rw one_before (fields_after (csv_records bytes) ∙ ap (λ (l : List (List (List ℕ))). drop 1 l) (wholes_fields bytes)) in (
+      let same : fields_of_all (drop (records_before layout.header) (csv_records 44 bytes)) ≡ drop 1 (column_records 44 bytes) =
+      rw one_before (fields_after (csv_records 44 bytes) ∙ ap (λ (l : List (List (List ℕ))). drop 1 l) (wholes_fields 44 bytes)) in (
         λ by. record {
-          records = column_records bytes;
-          are = read bytes;
+          records = column_records 44 bytes;
+          are = read 44 bytes;
           rows = subst (λ (l : List (List (List ℕ))). RecordsConvertTo files most 1 l texts fault) same (plainly by);
         },
         λ to.
@@ -252,5 +236,5 @@ module _ (read : ColumnRecordsAreRead) (one : DelimitedRecordsAreOne) (files : L
       )
 
 -- A column of plain rows converts as it does without a layout.
-pub plain_columns : ColumnRecordsAreRead → DelimitedRecordsAreOne → PlainColumnsConvertAlike
+pub plain_columns : ColumnRecordsAreRead → RecordsAreOne → PlainColumnsConvertAlike
 plain_columns read one = record { all = without_header read one; body = with_header read one }

@@ -4,29 +4,22 @@ use Rattle.std.specs.List.{concat}
 use Rattle.std.specs.Io.{StartsWith}
 use Rattle.std.specs.Io.KnownBytes.{Appends}
 use Rattle.std.proofs.Math.Seq.{take-append_seam}
-use Rattle.std.proofs.lemmas.List.{append-nil, length-append, length-map, map-append}
+use Rattle.std.proofs.lemmas.List.{append-nil, length-append}
 use Rattle.std.proofs.lemmas.List.Folds.{concat-append}
 use Rattle.csv.proofs.WriteFacts.{appends-more, appends-none}
-use Rattle.zic_columns.specs.Lines.{records_by, exchanged_record}
 use Rattle.zic_columns.specs.Own.{CsvRecord}
-use Rattle.zic_columns.specs.Round as Columns
-use Rattle.zic_columns.specs.Round.{BeginsTooLong, HasNoRecord, IsNextTooLong, may_have, taken_records}
-use Rattle.zic_columns.specs.declared.columns.Taken.{Taken}
-use Rattle.zic_columns.specs.declared.columns.Taken.TheVariants as taken
+use Rattle.zic_columns.specs.Round.{BeginsTooLong, HasNoRecord, IsNextTooLong, Takes, may_have}
 use Rattle.zic_tzif.specs.Laws.{FilesAnswerOnce}
 use Rattle.zic_zones.specs.declared.releases.Releases.{Releases}
 use Rattle.zic_convert.specs.Laws.{AreSoundReleases}
-use Rattle.zic_plan.specs.Delimiter.{exchange}
 use Rattle.zic_plan.specs.declared.layout.Layout.{Layout}
-use Rattle.zic_plan.specs.declared.layout.Records.{Records}
 use Rattle.zic_plan.specs.Noted.{RowNote}
 use Rattle.zic_base.specs.declared.row_fault.RowKind.{RowKind}
 use Rattle.zic_base.specs.declared.run_stop.RunStop.{RunStop}
 use Rattle.zic_base.specs.declared.run_stop.RunStop.TheVariants as stop
 use Rattle.zic_layout_rows.specs.LayoutRows.{RecordsConvertBy, faults_by}
 use Rattle.zic_convert.specs.Run.{AreFew, EndsAfterLines, EndsAtFaults, EndsAtRow, IsOneTooMany, Notes, WritesRows}
-use Rattle.zic_convert.specs.code.Progress.{ComeNext, IsSoFar, Takes, longest_of, output}
-use Rattle.zic_convert.specs.code.Row.{records_in, taken_rows}
+use Rattle.zic_convert.specs.code.Progress.{ComeNext, IsSoFar, longest_of, output, records_left}
 use Rattle.zic_layout_rows.specs.PieceRows.{AreRowsOf, RowsOf, empty_rows}
 use Rattle.zic_convert.specs.code.Written.{IsLeft}
 use Rattle.zic_convert.proofs.Bytes.{starts_later}
@@ -37,44 +30,23 @@ use Rattle.zic_convert.proofs.Options.{for_some, if_some}
 use Rattle.zic_convert.proofs.Sounds.{both_known}
 use Rattle.zic_convert.proofs.TooMany.{all_left, faults_begin, left_few, left_then, more_few, none_few, too_many_of_more, too_many_then}
 use Rattle.zic_convert.proofs.Totals.{more_than}
-use Rattle.zic_convert.proofs.PieceRecords.{all_put}
-
--- what was taken, with the delimiter put back
-rows_put : (d : ℕ) (next : Taken) (pieces : List (List ℕ)) → map (exchanged_record d) (taken_records next pieces) ≡ taken_rows d next pieces
-rows_put d taken.Round pieces = sym (all_put d pieces)
-rows_put d (taken.OpenLine line) pieces = refl
-rows_put d taken.TooLong pieces = refl
-rows_put d taken.End pieces = refl
-
--- what is taken takes its records
-pub rows_taken : (layout : Layout) (mode : Records) → mode ≡ layout.records → (old new : Option (List ℕ)) (next : Taken) (pieces : List (List ℕ))
-    → Columns.Takes mode old new (taken_records next pieces) → Takes layout old new (taken_rows layout.delimiter next pieces)
-rows_taken layout mode is old new next pieces takes = if_some old _ (λ bytes e.
-    let d = layout.delimiter in
-    let here : Columns.Takes layout.records old new (taken_records next pieces) = subst (λ (m : Records). Columns.Takes m old new (taken_records next pieces)) is takes in
-    let (rest, at, same) = for_some old _ bytes here e in (
-      rest,
-      at,
-      ap (map (exchanged_record d)) same ∙ map-append (exchanged_record d) (taken_records next pieces) (records_by layout.records rest)
-          ∙ ap (λ (l : List CsvRecord). l ++ records_in layout rest) (rows_put d next pieces),
-    ))
 
 -- a record that has too many bytes comes next
-pub long_comes_next : (layout : Layout) (left : Option (List ℕ)) → IsNextTooLong (longest_of layout) layout.records left → (bytes : List ℕ) → left ≡ Some bytes
-    → (given : CsvRecord) × (may_have (longest_of layout) (length given.own) ≡ false) × (others : List CsvRecord) × (records_in layout bytes ≡ given ∷ others)
-long_comes_next layout left long bytes e = by_records (records_by layout.records bytes) (for_some left _ bytes long e) where
+pub long_comes_next : (layout : Layout) (left : Option (List ℕ)) → IsNextTooLong (longest_of layout) layout.records layout.delimiter left → (bytes : List ℕ) → left ≡ Some bytes
+    → (given : CsvRecord) × (may_have (longest_of layout) (length given.own) ≡ false) × (others : List CsvRecord) × (records_left layout bytes ≡ given ∷ others)
+long_comes_next layout left long bytes e = by_records (records_left layout bytes) (for_some left _ bytes long e) where
   by_records : (all : List CsvRecord) → BeginsTooLong (longest_of layout) all
-      → (given : CsvRecord) × (may_have (longest_of layout) (length given.own) ≡ false) × (others : List CsvRecord) × (map (exchanged_record layout.delimiter) all ≡ given ∷ others)
+      → (given : CsvRecord) × (may_have (longest_of layout) (length given.own) ≡ false) × (others : List CsvRecord) × (all ≡ given ∷ others)
   by_records [] none = absurd none
-  by_records (first ∷ others) is = (exchanged_record layout.delimiter first, rw (length-map first.own (exchange layout.delimiter)) is, map (exchanged_record layout.delimiter) others, refl)
+  by_records (first ∷ others) is = (first, is, others, refl)
 
 -- records that are taken come next
-pub taken_come_next : (layout : Layout) (old new : Option (List ℕ)) (rs : List CsvRecord) → Takes layout old new rs → ComeNext layout old rs
-taken_come_next layout old new rs takes = if_some old _ (λ bytes e. (let t = for_some old _ bytes takes e in (records_in layout t.0, t.2)))
+pub taken_come_next : (layout : Layout) (old new : Option (List ℕ)) (rs : List CsvRecord) → Takes layout.records layout.delimiter old new rs → ComeNext layout old rs
+taken_come_next layout old new rs takes = if_some old _ (λ bytes e. (let t = for_some old _ bytes takes e in (records_left layout t.0, t.2)))
 
 module _ (layout : Layout) (releases : Releases) (most : ℕ) (limit : Option ℕ) (all : List CsvRecord) where
   -- nothing yet
-  pub at_start : (known held : Option (List ℕ)) (log : Option (List RowNote)) (bytes : List ℕ) → known ≡ Some bytes → all ≡ records_in layout bytes
+  pub at_start : (known held : Option (List ℕ)) (log : Option (List RowNote)) (bytes : List ℕ) → known ≡ Some bytes → all ≡ records_left layout bytes
       → IsSoFar layout releases most limit all known 0 limit (output held held log log)
   at_start known held log bytes is same = record {
     row_records = [];
@@ -90,7 +62,7 @@ module _ (layout : Layout) (releases : Releases) (most : ℕ) (limit : Option �
   }
 
   -- what is left changes, where no record was taken
-  pub none_taken : (left next : Option (List ℕ)) (n : ℕ) (more : Option ℕ) (old new : Option (List ℕ)) (log now : Option (List RowNote)) → Takes layout left next []
+  pub none_taken : (left next : Option (List ℕ)) (n : ℕ) (more : Option ℕ) (old new : Option (List ℕ)) (log now : Option (List RowNote)) → Takes layout.records layout.delimiter left next []
       → IsSoFar layout releases most limit all left n more (output old new log now) → IsSoFar layout releases most limit all next n more (output old new log now)
   none_taken left next n more old new log now takes far =
       let t = for_some left _ far.rest takes far.bytes in
@@ -109,10 +81,9 @@ module _ (layout : Layout) (releases : Releases) (most : ℕ) (limit : Option �
 
   -- no record is left, and what the writer held back is passed on
   pub all_written : (left : Option (List ℕ)) (n : ℕ) (more : Option ℕ) (old mid new : Option (List ℕ)) (log now : Option (List RowNote)) → IsSoFar layout releases most limit all left n more (output old mid log now)
-      → HasNoRecord layout.records left → Appends mid new [] → WritesRows layout releases most limit [] all n (output old new log now)
+      → HasNoRecord layout.records layout.delimiter left → Appends mid new [] → WritesRows layout releases most limit [] all n (output old new log now)
   all_written left n more old mid new log now far none flushed =
-      let last : records_in layout far.rest ≡ [] = ap (map (exchanged_record layout.delimiter)) (for_some left _ far.rest none far.bytes) in
-      let same = far.goes_on ∙ ap (λ (r : List CsvRecord). far.row_records ++ r) last ∙ append-nil far.row_records in (
+      let same = far.goes_on ∙ ap (λ (r : List CsvRecord). far.row_records ++ r) (for_some left _ far.rest none far.bytes) ∙ append-nil far.row_records in (
         record {
           texts = far.texts;
           converts = subst (λ (r : List CsvRecord). RecordsConvertBy layout releases most 1 r far.texts None) (sym same) far.come;
@@ -156,7 +127,7 @@ module _ (layout : Layout) (releases : Releases) (most : ℕ) (limit : Option �
           (left_then limit more more' (faults_by layout releases.zones most 1 far.row_records) rows.faults far.few is)
 
       -- more rows
-      pub later : (next : Option (List ℕ)) (more' : Option ℕ) → rows.fault ≡ None → Takes layout left next rs → Appends mid new rows.text → Notes now last rows.faults → IsLeft more rows.faults more'
+      pub later : (next : Option (List ℕ)) (more' : Option ℕ) → rows.fault ≡ None → Takes layout.records layout.delimiter left next rs → Appends mid new rows.text → Notes now last rows.faults → IsLeft more rows.faults more'
           → IsSoFar layout releases most limit all next (n + rows.count) more' (output old new log last)
       later next more' none takes wrote noted is =
           let t = for_some left _ far.rest takes far.bytes in
@@ -165,7 +136,7 @@ module _ (layout : Layout) (releases : Releases) (most : ℕ) (limit : Option �
             texts = far.texts ++ are.texts;
             rest = t.0;
             bytes = t.1;
-            goes_on = far.goes_on ∙ ap (λ (r : List CsvRecord). far.row_records ++ r) t.2 ∙ sym (append_assoc far.row_records rs (records_in layout t.0));
+            goes_on = far.goes_on ∙ ap (λ (r : List CsvRecord). far.row_records ++ r) t.2 ∙ sym (append_assoc far.row_records rs (records_left layout t.0));
             come = come_on rs are.texts None (rw none at are.come);
             counted = omega (arith, far.counted, are.count, length-append far.texts are.texts);
             wrote = wrote_on are.texts rows.text are.text wrote;
@@ -290,7 +261,7 @@ module _ (layout : Layout) (releases : Releases) (most : ℕ) (limit : Option �
       → IsSoFar layout releases most limit all left n more (output old mid log now) → (why : RunStop) (part : List ℕ) → StartsWith [] part → (part ≡ []) ⊎ (why ≡ stop.WriteFailed) → Appends mid new part
       → EndsAfterLines layout releases most limit [] all why (output old new log now)
   ends_here once sound left n more old mid new log now far why part starts exact wrote =
-      let come : ComeNext layout left [] = if_some left _ (λ bytes e. (records_in layout bytes, refl)) in
+      let come : ComeNext layout left [] = if_some left _ (λ bytes e. (records_left layout bytes, refl)) in
       let none = no_rows layout releases most (n + 1) in
       ends_after left n more old mid new log now now far [] empty_rows none come once sound [] [] refl empty_rows none [] [] refl empty_rows none part starts refl why exact wrote (notes_none now) (none_few more)
       (none_few more)

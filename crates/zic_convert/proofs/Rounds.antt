@@ -3,7 +3,7 @@ use Rattle.std.proofs.Common.{◌≡◌, ◌+◌, ◌++◌, ℕ, false, List, []
 use Rattle.std.specs.Prelude.{All}
 use Rattle.std.proofs.lemmas.List.{get_or_append_left}
 use Rattle.zic_columns.specs.Own.{CsvRecord}
-use Rattle.zic_columns.specs.Round.{HasNoRecord, IsNextTooLong, may_have}
+use Rattle.zic_columns.specs.Round.{HasNoRecord, IsNextTooLong, Takes, may_have, taken_records}
 use Rattle.zic_columns.specs.declared.columns.Taken.{Taken}
 use Rattle.zic_columns.specs.declared.columns.Taken.TheVariants as takens
 use Rattle.zic_counted.specs.Counts.{Counts}
@@ -19,8 +19,7 @@ use Rattle.zic_base.specs.declared.run_stop.RunStop.TheVariants as stop
 use Rattle.zic_zones.specs.Zones.{ReleasesAgree}
 use Rattle.zic_convert.specs.Run.{EndsByZones, EndsIn}
 use Rattle.zic_convert.specs.code.Halt.{stop_of}
-use Rattle.zic_convert.specs.code.Progress.{ComeNext, ConvertsRest, EndsAtTaking, EndsInRest, EndsInTaken, IsSoFar, Takes, longest_of, output}
-use Rattle.zic_convert.specs.code.Row.{records_in, taken_rows}
+use Rattle.zic_convert.specs.code.Progress.{ComeNext, ConvertsRest, EndsAtTaking, EndsInRest, EndsInTaken, IsSoFar, longest_of, output, records_left}
 use Rattle.zic_layout_rows.specs.PieceRows.{RowsOf}
 use Rattle.zic_convert.specs.code.Written.{EndsInRecords, EndsInRows, WritesRecords, Wrote}
 use Rattle.zic_convert.specs.declared.tally.Tally.{Tally}
@@ -35,30 +34,30 @@ use Rattle.zic_convert.proofs.Staying.{AreKnownZones, KeepsBoth, come_same, kept
 -- how far a conversion of bytes, where they are known, has come by these releases
 abbrev pub IsFarBy : Layout → ℕ → Option ℕ → Option (List ℕ) → Option (List ℕ) → ℕ → Option ℕ → Option (List ℕ) → Option (List ℕ) → Option (List RowNote) → Option (List RowNote) → Releases → Type 0
 IsFarBy layout most limit known left n more held now log noted releases =
-    (bytes : List ℕ) → known ≡ Some bytes → IsSoFar layout releases most limit (records_in layout bytes) left n more (output held now log noted)
+    (bytes : List ℕ) → known ≡ Some bytes → IsSoFar layout releases most limit (records_left layout bytes) left n more (output held now log noted)
 
 pub far_at_start : (layout : Layout) (most : ℕ) (limit : Option ℕ) (known held : Option (List ℕ)) (log : Option (List RowNote)) (releases : Releases) → IsFarBy layout most limit known known 0 limit held held log log releases
-far_at_start layout most limit known held log releases bytes e = at_start layout releases most limit (records_in layout bytes) known held log bytes e refl
+far_at_start layout most limit known held log releases bytes e = at_start layout releases most limit (records_left layout bytes) known held log bytes e refl
 
 module _ {W : Type 0} (contents : W → Option (List ℕ)) (once : FilesAnswerOnce) (layout : Layout) (plan : Limits) (limit : Option ℕ) (known left : Option (List ℕ)) (n : ℕ) (more : Option ℕ) (held : Option (List ℕ)) (mid : Counts W)
     (log now : Option (List RowNote)) (releases : Releases) (sound : AreSoundReleases releases) (far : IsFarBy layout plan.max_rows limit known left n more held (contents mid.inner) log now releases) where
   -- the column can't be read on
   unread_ends : EndsInRest layout plan.max_rows limit known stop.ReadFailed (output held (contents mid.inner) log now) releases
   unread_ends = if_some known _ (λ bytes e.
-      ends_still once layout releases plan.max_rows limit sound (records_in layout bytes) left n more held (contents mid.inner) log now (far bytes e) stop.ReadFailed)
+      ends_still once layout releases plan.max_rows limit sound (records_left layout bytes) left n more held (contents mid.inner) log now (far bytes e) stop.ReadFailed)
 
   -- memory was refused
   memory_ends : EndsInRest layout plan.max_rows limit known stop.Memory (output held (contents mid.inner) log now) releases
   memory_ends = if_some known _ (λ bytes e.
-      ends_still once layout releases plan.max_rows limit sound (records_in layout bytes) left n more held (contents mid.inner) log now (far bytes e) stop.Memory)
+      ends_still once layout releases plan.max_rows limit sound (records_left layout bytes) left n more held (contents mid.inner) log now (far bytes e) stop.Memory)
 
   -- some records were taken
-  module _ (rs : List CsvRecord) (next : Option (List ℕ)) (taken : Takes layout left next rs) (new : Counts W) (last : Option (List RowNote)) where
+  module _ (rs : List CsvRecord) (next : Option (List ℕ)) (taken : Takes layout.records layout.delimiter left next rs) (new : Counts W) (last : Option (List RowNote)) where
     -- their rows were written
     far_after_round : (tally : Tally) → WritesRecords layout releases plan.max_rows more (n + 1) rs contents mid new now last tally
         → IsFarBy layout plan.max_rows limit known next (n + tally.rows) tally.left held (contents new.inner) log last releases
     far_after_round tally (rows, are, wrote, left_is) bytes e =
-        rw wrote.1 (later layout releases plan.max_rows limit (records_in layout bytes) left n more held (contents mid.inner) (contents new.inner) log now last (far bytes e)
+        rw wrote.1 (later layout releases plan.max_rows limit (records_left layout bytes) left n more held (contents mid.inner) (contents new.inner) log now last (far bytes e)
         rs rows are next tally.left wrote.0 taken wrote.2.0 wrote.3 left_is)
 
     -- or the conversion ended in them
@@ -66,15 +65,15 @@ module _ {W : Type 0} (contents : W → Option (List ℕ)) (once : FilesAnswerOn
         → EndsInRest layout plan.max_rows limit known why (output held (contents new.inner) log last) releases
     ends_in_round why (inl memory) = rw (memory.0, memory.1, memory.2) memory_ends
     ends_in_round why (inr (rows, are, ends)) = if_some known _ (λ bytes e.
-        ends_in_rows contents once layout releases plan.max_rows limit sound (records_in layout bytes) left n more held mid new log now last (far bytes e)
+        ends_in_rows contents once layout releases plan.max_rows limit sound (records_left layout bytes) left n more held mid new log now last (far bytes e)
         rs (taken_come_next layout left next rs taken) rows are why ends)
 
   -- the next record has too many bytes
-  ends_at_record : (next : Option (List ℕ)) → Takes layout left next [] → IsNextTooLong (longest_of layout) layout.records next → (new : Counts W) (why : RunStop)
+  ends_at_record : (next : Option (List ℕ)) → Takes layout.records layout.delimiter left next [] → IsNextTooLong (longest_of layout) layout.records layout.delimiter next → (new : Counts W) (why : RunStop)
       → ((given : CsvRecord) → may_have (longest_of layout) (length given.own) ≡ false → EndsInRecords layout releases plan.max_rows more (n + 1) (given ∷ []) contents mid new now now why)
       → EndsInRest layout plan.max_rows limit known why (output held (contents new.inner) log now) releases
   ends_at_record next none long new why ends = if_some known _ (λ bytes e.
-      let all = records_in layout bytes in
+      let all = records_left layout bytes in
       let far_next = none_taken layout releases plan.max_rows limit all left next n more held (contents mid.inner) log now none (far bytes e) in
       let (given, over, others, same) = long_comes_next layout next long far_next.rest far_next.bytes in
       let come : ComeNext layout next (given ∷ []) = subst (λ (o : Option (List ℕ)). ComeNext layout o (given ∷ [])) (sym far_next.bytes) (others, same) in
@@ -89,13 +88,13 @@ module _ {W : Type 0} (contents : W → Option (List ℕ)) (once : FilesAnswerOn
   -- the writer failed in the end
   flush_ends : (new : Counts W) → FailsWithin contents mid new [] → EndsInRest layout plan.max_rows limit known stop.WriteFailed (output held (contents new.inner) log now) releases
   flush_ends new fails = if_some known _ (λ bytes e.
-      ends_at_flush contents once layout releases plan.max_rows limit sound (records_in layout bytes) left n more held mid new log now (far bytes e) fails)
+      ends_at_flush contents once layout releases plan.max_rows limit sound (records_left layout bytes) left n more held mid new log now (far bytes e) fails)
 
   -- no record is left, and all rows are written and flushed
-  all_done : (next : Option (List ℕ)) → Takes layout left next [] → HasNoRecord layout.records next → (new : Counts W) → Wrote contents mid new []
+  all_done : (next : Option (List ℕ)) → Takes layout.records layout.delimiter left next [] → HasNoRecord layout.records layout.delimiter next → (new : Counts W) → Wrote contents mid new []
       → ConvertsRest layout plan.max_rows limit known n (output held (contents new.inner) log now) releases
   all_done next none end new flushed = if_some known _ (λ bytes e.
-      let all = records_in layout bytes in
+      let all = records_left layout bytes in
       let end_far = none_taken layout releases plan.max_rows limit all left next n more held (contents mid.inner) log now none (far bytes e) in
       all_written layout releases plan.max_rows limit all next n more held (contents mid.inner) (contents new.inner) log now end_far end flushed.0)
 
@@ -183,7 +182,7 @@ module _ {Z : Type 0} (known_of : Z → Releases) (settled : Z → List ℕ → 
   no_round new (halt.Stop stop.LogFailed) is = absurd is
 
   -- some records were taken, and their zones made ready
-  module _ (then : Z) (grows : grown zones then) (rs : List CsvRecord) (next : Option (List ℕ)) (takes : Takes layout left next rs) where
+  module _ (then : Z) (grows : grown zones then) (rs : List CsvRecord) (next : Option (List ℕ)) (takes : Takes layout.records layout.delimiter left next rs) where
     -- the writer failed in the end
     pub flush_fails : (new : Counts W) → FailsWithin contents mid new []
         → EndsByZones grown broken may_be begun then stop.WriteFailed (EndsInRest layout plan.max_rows limit known stop.WriteFailed (output held (contents new.inner) log now))
@@ -195,7 +194,7 @@ module _ {Z : Type 0} (known_of : Z → Releases) (settled : Z → List ℕ → 
     }
 
     -- the next record has too many bytes
-    pub long_ends : Takes layout left next [] → IsNextTooLong (longest_of layout) layout.records next → (new : Counts W) (why : RunStop)
+    pub long_ends : Takes layout.records layout.delimiter left next [] → IsNextTooLong (longest_of layout) layout.records layout.delimiter next → (new : Counts W) (why : RunStop)
         → ((releases : Releases) (given : CsvRecord) → may_have (longest_of layout) (length given.own) ≡ false → EndsInRecords layout releases plan.max_rows more (n + 1) (given ∷ []) contents mid new now now why)
         → EndsByZones grown broken may_be begun then why (EndsInRest layout plan.max_rows limit known why (output held (contents new.inner) log now))
     long_ends none long new why ends = record {
@@ -206,7 +205,7 @@ module _ {Z : Type 0} (known_of : Z → Releases) (settled : Z → List ℕ → 
     }
 
     -- no record was left
-    pub rounds_done : Takes layout left next [] → HasNoRecord layout.records next → (new : Counts W) → Wrote contents mid new [] → (releases : Releases) → may_be then releases
+    pub rounds_done : Takes layout.records layout.delimiter left next [] → HasNoRecord layout.records layout.delimiter next → (new : Counts W) → Wrote contents mid new [] → (releases : Releases) → may_be then releases
         → ConvertsRest layout plan.max_rows limit known n (output held (contents new.inner) log now) releases
     rounds_done none end new flushed releases may =
         all_done contents once layout plan limit known left n more held mid log now releases (agree_sound (agrees then releases may)) (far releases (narrows zones then releases grows may)) next none end new flushed
@@ -232,16 +231,16 @@ module _ {Z : Type 0} (known_of : Z → Releases) (settled : Z → List ℕ → 
       }
 
   -- what was taken ends the run
-  pub taken_ends : (then : Z) → grown zones then → (taking : Taken) (pieces : List (List ℕ)) (next : Option (List ℕ)) → Takes layout left next (taken_rows layout.delimiter taking pieces)
-      → (taking ≡ takens.TooLong → IsNextTooLong (longest_of layout) layout.records next)
-      → ((releases : Releases) → may_be then releases → All (AreKnownZones layout.zone (known_of then) releases) (taken_rows layout.delimiter taking pieces))
+  pub taken_ends : (then : Z) → grown zones then → (taking : Taken) (pieces : List (List ℕ)) (next : Option (List ℕ)) → Takes layout.records layout.delimiter left next (taken_records layout.delimiter taking pieces)
+      → (taking ≡ takens.TooLong → IsNextTooLong (longest_of layout) layout.records layout.delimiter next)
+      → ((releases : Releases) → may_be then releases → All (AreKnownZones layout.zone (known_of then) releases) (taken_records layout.delimiter taking pieces))
       → (new : Counts W) (last : Option (List RowNote)) (why : RunStop) → EndsInTaken layout (known_of then) plan.max_rows more (n + 1) taking pieces contents mid new now last why
       → EndsByZones grown broken may_be begun then why (EndsInRest layout plan.max_rows limit known why (output held (contents new.inner) log last))
   taken_ends then grows takens.End pieces next takes long only new last why ends = absurd ends
   taken_ends then grows takens.TooLong pieces next takes long only new last why ends = rw ends.1 (long_ends then grows [] next takes takes (long refl) new why ends.0)
-  taken_ends then grows takens.Round pieces next takes long only new last why ends = round_ends then grows (taken_rows layout.delimiter takens.Round pieces) next takes only new last why ends
+  taken_ends then grows takens.Round pieces next takes long only new last why ends = round_ends then grows (taken_records layout.delimiter takens.Round pieces) next takes only new last why ends
   taken_ends then grows (takens.OpenLine line) pieces next takes long only new last why ends =
-      round_ends then grows (taken_rows layout.delimiter (takens.OpenLine line) pieces) next takes only new last why ends
+      round_ends then grows (taken_records layout.delimiter (takens.OpenLine line) pieces) next takes only new last why ends
 
 -- what follows where a conversion ends by zones
 pub ends_map : {Z : Type 0} (grown broken : Z → Z → Type 0) (may_be : Z → Releases → Type 0) (old new : Z) (a b : RunStop) (P Q : Releases → Type 0) → (a ≡ stop.Memory → b ≡ stop.Memory)

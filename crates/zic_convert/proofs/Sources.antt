@@ -14,22 +14,22 @@ use Rattle.zic_base.specs.declared.run_stop.RunStop.{RunStop}
 use Rattle.zic_base.specs.declared.run_stop.RunStop.TheVariants as stop
 use Rattle.zic_columns.specs.Column.{column_records}
 use Rattle.zic_columns.specs.Laws.{ColumnRecordsAreRead}
-use Rattle.zic_columns.specs.Own.{CsvRecord}
+use Rattle.zic_columns.specs.Own.{CsvRecord, csv_records}
+use Rattle.zic_columns.proofs.PieceRecords.{wholes_fields}
 use Rattle.zic_tzif.specs.Laws.{FilesAnswerOnce}
 use Rattle.zic_files.specs.File.{File}
 use Rattle.zic_files.specs.Sound.{AreSoundFiles}
 use Rattle.zic_plan.specs.Layout.{HasPlainRows, records_before}
 use Rattle.zic_plan.specs.declared.layout.Header.TheVariants as header
 use Rattle.zic_plan.specs.declared.layout.Layout.{Layout}
-use Rattle.zic_convert.specs.Column.{AreRowRecords, ConvertsTo, header_text, names_line}
+use Rattle.zic_convert.specs.Column.{AreRowRecords, ConvertsTo, header_text, names_line, read_by, records_read}
 use Rattle.zic_convert.specs.Convert.{WritesAll, WritesAt, WritesPartOf}
 use Rattle.zic_convert.specs.Laws.{PlainColumnsConvertAlike}
 use Rattle.zic_layout_rows.specs.LayoutRows.{RecordsConvertBy}
 use Rattle.zic_layout_rows.specs.Rows.{RecordsConvertTo}
-use Rattle.zic_convert.specs.Header.{IsHeaderFault, header_fault}
+use Rattle.zic_convert.specs.Header.{IsHeaderFault, fault_read, header_fault}
 use Rattle.zic_convert.specs.Run.{EndsAfterLines, EndsAtNames, EndsBy, EndsByZones, EndsIn, Run, WritesRows}
 use Rattle.zic_convert.specs.code.Progress.{output}
-use Rattle.zic_layout_rows.specs.PieceRows.{csv_records_in}
 use Rattle.zic_convert.proofs.Bytes.{starts_later}
 use Rattle.zic_convert.proofs.Options.{for_some, if_some}
 use Rattle.zic_convert.proofs.Plain.{come_plainly}
@@ -38,14 +38,17 @@ use Rattle.zic_zones.specs.declared.releases.Releases.{Releases}
 use Rattle.zic_convert.proofs.Sounds.{alone_sound, both_known}
 use Rattle.zic_convert.proofs.TooMany.{none_too_many}
 use Rattle.zic_convert.proofs.Totals.{all_come}
-use Rattle.zic_convert.proofs.PieceRecords.{comma_fields_in}
 
 module _ (alike : PlainColumnsConvertAlike) (layout : Layout) (plain : HasPlainRows layout) (none : layout.header ≡ header.Absent) (files : List File) (most : ℕ) where
-  no_header : (column : List ℕ) → header_text layout column ≡ []
+  pub no_header : (column : List ℕ) → header_text layout column ≡ []
   no_header column = rw (plain.start, none) refl
 
   no_names : names_line layout ≡ []
   no_names = rw (plain.start, none) refl
+
+  -- a column without a header has no fault there
+  pub headless : (column : List ℕ) → fault_read layout files (read_by layout column) ≡ None
+  headless column = ap (λ (n : ℕ). header_fault layout files (take n (records_read layout (read_by layout column)))) (ap records_before none)
 
   module _ (column : List ℕ) (row_records : List CsvRecord) (are : AreRowRecords layout column row_records) where
     converts : (texts : List (List ℕ)) (fault : Option RowKind) → RecordsConvertBy layout (alone files) most 1 row_records texts fault → ConvertsTo files most column texts fault
@@ -108,15 +111,15 @@ module _ (alike : PlainColumnsConvertAlike) (layout : Layout) (plain : HasPlainR
     pub no_part : (column : List ℕ) (held held' : Option (List ℕ)) (part : List ℕ) → StartsWith [] part → Appends held held' part → WritesPartOf [] (ConvertsTo files most column) held held'
     no_part column held held' part starts wrote =
         let bytes = strip_bom column in
-        let row_records = csv_records_in layout.delimiter bytes in
+        let row_records = csv_records 44 bytes in
         let (texts, fault, come) = all_come layout (alone files) most (both_known (alone files) (alone_sound files sound) once) 1 row_records in
         record {
           texts = texts;
           fault = fault;
           converts = record {
-            records = column_records bytes;
-            are = read bytes;
-            rows = subst (λ (l : List (List (List ℕ))). RecordsConvertTo files most 1 l texts fault) (comma_fields_in layout.delimiter plain.delimiter bytes) (come_plainly layout plain files most 1 row_records texts fault come);
+            records = column_records 44 bytes;
+            are = read 44 bytes;
+            rows = subst (λ (l : List (List (List ℕ))). RecordsConvertTo files most 1 l texts fault) (wholes_fields 44 bytes) (come_plainly layout plain files most 1 row_records texts fault come);
           };
           part = part;
           starts = starts_later [] [] part (concat texts) starts;
@@ -139,7 +142,7 @@ module _ (alike : PlainColumnsConvertAlike) (layout : Layout) (plain : HasPlainR
         let by = ends.by (alone files) (ap alone (sym same), subst AreSoundFiles (sym same) sound) in
         if_some run.column _ (λ column e.
         elim (for_some run.column _ column by e) [
-          | inl header ↦ absurd (let no : Some header.kind ≡ None = header.fault.is ∙ ap (λ (n : ℕ). header_fault layout files (take n header.fault.all)) (ap records_before none) in cc no)
+          | inl header ↦ absurd (let no : Some header.kind ≡ None = header.fault ∙ headless column in cc no)
           | inr rows ↦ ends_in run column rows.1 rows.2 why rows.3
         ])
 

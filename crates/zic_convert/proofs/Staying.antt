@@ -7,23 +7,18 @@ use Rattle.std.proofs.lemmas.Slice.Eq.{bytes_eq-Decides}
 use Rattle.zic_base.proofs.Elements.{contained_passes, get_contained, one_that_passes}
 use Rattle.zic_base.proofs.OrderedLists.{one_by_key}
 use Rattle.zic_base.specs.Check.{check, first_failed}
-use Rattle.zic_columns.specs.Exchange.{exchanged}
-use Rattle.zic_columns.specs.Lines.{open_record, exchanged_record}
+use Rattle.zic_columns.specs.Lines.{open_record}
 use Rattle.zic_columns.specs.Own.{CsvRecord}
 use Rattle.zic_columns.specs.Quotes.{has_stray}
 use Rattle.zic_columns.specs.Round.{may_have}
 use Rattle.zic_columns.specs.declared.columns.Taken.{Taken}
 use Rattle.zic_columns.specs.declared.columns.Taken.TheVariants as taken
-use Rattle.zic_columns.specs.Round.{records_of, records_of_pieces}
-use Rattle.zic_columns.proofs.Exchanges.{twice}
+use Rattle.zic_columns.specs.Round.{records_of, records_of_pieces, taken_records}
 use Rattle.zic_columns.proofs.PieceRecords.{pieces_fields}
 use Rattle.zic_files.specs.File.{File}
-use Rattle.zic_files.specs.Sound.{IsSoundFile}
 use Rattle.zic_plan.specs.Layout.{has_count}
-use Rattle.zic_plan.specs.Delimiter.{is_delimiter}
 use Rattle.zic_plan.specs.declared.layout.Layout.{Layout}
 use Rattle.zic_plan.specs.declared.layout.ZoneFrom.{ZoneFrom}
-use Rattle.zic_plan.specs.declared.layout.ZoneFrom.TheVariants as zone
 use Rattle.zic_plan.specs.Noted.{RowNote}
 use Rattle.zic_base.specs.declared.row_fault.RowKind.{RowKind}
 use Rattle.zic_base.specs.declared.row_fault.RowKind.TheVariants as kind
@@ -35,12 +30,10 @@ use Rattle.zic_convert.proofs.Sounds.{old_agree}
 use Rattle.zic_zones.specs.Zones.{Agree, ReleasesAgree, field_at, is_named, number_of, zone_in}
 use Rattle.zic_layout_rows.specs.Rows.{is_closed, is_row_instant}
 use Rattle.zic_layout_rows.specs.LayoutRows.{RecordsConvertBy, IsAnswer, IsAnswerAt, IsAnswerBy, IsRowAt, IsRowBy, IsTextBy, IsWrittenAt, admits_stray, old_files, count_in, ending, ends_by, fault_by, faults_by, file_at, file_named, noted, time_by, ok_count, err_fault}
-use Rattle.zic_convert.specs.code.Row.{fields_of_all, taken_rows, records_of_all}
+use Rattle.zic_convert.specs.code.Row.{fields_of_all}
 use Rattle.zic_layout_rows.specs.PieceRows.{AreRowsOf, RowsOf}
-use Rattle.zic_convert.proofs.Delimited.{field_same, name_as_put, outside}
 use Rattle.zic_layout_rows.proofs.PutBack.{among}
 use Rattle.zic_layout_rows.proofs.RowFaults.{found, named, unnamed}
-use Rattle.zic_convert.proofs.PieceRecords.{all_put}
 
 both_or_none : (a b : Bool) → (a ≡ true → b ≡ true) → (b ≡ true → a ≡ true) → a ≡ b
 both_or_none true b to from = sym (to refl)
@@ -240,47 +233,34 @@ module _ (known releases : Releases) (keeps : KeepsBoth known releases) (layout 
 
 -- ---- a round whose zones were made ready
 
--- the zones of records are known where those with commas are settled
-module _ (d : ℕ) (can : is_delimiter d ≡ true) (settled : List ℕ → Type 0) (known files : List File) (agree : Agree settled known files) (from : ZoneFrom) where
-  name_known : (name : List ℕ) → settled name → IsKnownName known files name
-  name_known name is file has same = agree.only file has (subst settled (sym same) is)
-
-  put_known : (name : List ℕ) → settled name → IsKnownName known files (exchanged d name)
-  put_known name is file has same =
-      let sound = All-contains IsSoundFile files file agree.sound.each has in
-      let back : file.name ≡ name = sym (name_as_put d (outside d can) file.name sound.named) ∙ ap (exchanged d) same ∙ twice d name in
-      agree.only file has (subst settled (sym back) is)
-
-  zone_known : (from : ZoneFrom) (fields : List (List ℕ)) → settled (zone_in from fields) → IsKnownName known files (zone_in from (map (exchanged d) fields))
-  zone_known (zone.Field index) fields is = rw (field_same d (outside d can) fields index) (put_known (field_at fields index) is)
-  zone_known (zone.Name name) fields is = name_known _ is
-
-  wholes_known : (row_records : List CsvRecord) → All settled (map (zone_in from) (fields_of_all row_records)) → All (IsKnownZone from known files) (map (exchanged_record d) row_records)
-  wholes_known [] all = λ k dflt lt. absurd (omega (arith, lt))
-  wholes_known (w ∷ row_records) all =
-      All-cons (IsKnownZone from known files) (exchanged_record d w) (map (exchanged_record d) row_records)
-      (λ _. zone_known from w.fields (All-head settled (zone_in from w.fields) (map (zone_in from) (fields_of_all row_records)) all))
-      (wholes_known row_records (All-tail settled (zone_in from w.fields) (map (zone_in from) (fields_of_all row_records)) all))
+-- the zones of records are known where they are settled
+module _ (settled : List ℕ → Type 0) (known files : List File) (agree : Agree settled known files) (from : ZoneFrom) where
+  records_known : (row_records : List CsvRecord) → All settled (map (zone_in from) (fields_of_all row_records)) → All (IsKnownZone from known files) row_records
+  records_known [] all = λ k dflt lt. absurd (omega (arith, lt))
+  records_known (w ∷ row_records) all =
+      let zones = map (zone_in from) (fields_of_all row_records) in
+      All-cons (IsKnownZone from known files) w row_records
+      (λ _ file has same. agree.only file has (subst settled (sym same) (All-head settled (zone_in from w.fields) zones all)))
+      (records_known row_records (All-tail settled (zone_in from w.fields) zones all))
 
   -- those of a round
-  pub round_known : (pieces : List (List ℕ)) → All settled (map (zone_in from) (records_of pieces)) → All (IsKnownZone from known files) (records_of_all d pieces)
-  round_known pieces all =
-      subst (All (IsKnownZone from known files)) (sym (all_put d pieces))
-      (wholes_known (records_of_pieces pieces) (subst (λ (records : List (List (List ℕ))). All settled (map (zone_in from) records)) (sym (pieces_fields pieces)) all))
+  pub round_known : (d : ℕ) (pieces : List (List ℕ)) → All settled (map (zone_in from) (records_of d pieces)) → All (IsKnownZone from known files) (records_of_pieces d pieces)
+  round_known d pieces all =
+      records_known (records_of_pieces d pieces) (subst (λ (records : List (List (List ℕ))). All settled (map (zone_in from) records)) (sym (pieces_fields d pieces)) all)
 
   -- an open line names none
-  pub taken_known : (taken : Taken) (pieces : List (List ℕ)) → All settled (map (zone_in from) (records_of pieces)) → All (IsKnownZone from known files) (taken_rows d taken pieces)
-  taken_known taken.Round pieces all = round_known pieces all
-  taken_known (taken.OpenLine line) pieces all =
-      All-cons (IsKnownZone from known files) (exchanged_record d (open_record line.own.items)) [] (λ no. absurd (cc no)) (λ k dflt lt. absurd (omega (arith, lt)))
-  taken_known taken.TooLong pieces all = λ k dflt lt. absurd (omega (arith, lt))
-  taken_known taken.End pieces all = λ k dflt lt. absurd (omega (arith, lt))
+  pub taken_known : (d : ℕ) (taken : Taken) (pieces : List (List ℕ)) → All settled (map (zone_in from) (records_of d pieces)) → All (IsKnownZone from known files) (taken_records d taken pieces)
+  taken_known d taken.Round pieces all = round_known d pieces all
+  taken_known d (taken.OpenLine line) pieces all =
+      All-cons (IsKnownZone from known files) (open_record line.own.items) [] (λ no. absurd (cc no)) (λ k dflt lt. absurd (omega (arith, lt)))
+  taken_known d taken.TooLong pieces all = λ k dflt lt. absurd (omega (arith, lt))
+  taken_known d taken.End pieces all = λ k dflt lt. absurd (omega (arith, lt))
 
 -- those of a round, and of a release that it is compared with
-pub takens_known : (d : ℕ) → is_delimiter d ≡ true → (settled : List ℕ → Type 0) (known releases : Releases) → ReleasesAgree settled known releases → (from : ZoneFrom) (taken : Taken) (pieces : List (List ℕ))
-    → All settled (map (zone_in from) (records_of pieces)) → All (AreKnownZones from known releases) (taken_rows d taken pieces)
-takens_known d can settled known releases agree from taken pieces all =
+pub takens_known : (settled : List ℕ → Type 0) (known releases : Releases) → ReleasesAgree settled known releases → (from : ZoneFrom) (d : ℕ) (taken : Taken) (pieces : List (List ℕ))
+    → All settled (map (zone_in from) (records_of d pieces)) → All (AreKnownZones from known releases) (taken_records d taken pieces)
+takens_known settled known releases agree from d taken pieces all =
     let old = old_agree settled known.old releases.old agree.old in
-    let first = taken_known d can settled known.zones releases.zones agree.zones from taken pieces all in
-    let second = taken_known d can settled (old_files known.old) (old_files releases.old) old from taken pieces all in
+    let first = taken_known settled known.zones releases.zones agree.zones from d taken pieces all in
+    let second = taken_known settled (old_files known.old) (old_files releases.old) old from d taken pieces all in
     λ k dflt lt. (first k dflt lt, second k dflt lt)

@@ -4,7 +4,7 @@ use Rattle.std.specs.List.{concat}
 use Rattle.csv.specs.Reading.{strip_bom}
 use Rattle.zic_columns.specs.Column.{AreColumnRecords}
 use Rattle.zic_columns.specs.Exchange.{exchanged}
-use Rattle.zic_columns.specs.Lines.{AreRecordsBy, delimited_texts_by}
+use Rattle.zic_columns.specs.Lines.{records_by, texts_by}
 use Rattle.zic_columns.specs.Own.{CsvRecord, first_text}
 use Rattle.zic_columns.specs.Truncated.{truncated}
 use Rattle.zic_files.specs.File.{File}
@@ -35,13 +35,13 @@ use Rattle.zic_layout_rows.specs.LayoutRows.{RecordsConvertBy, if_rejected}
 -- of the column, and a line without a byte makes no record.
 pub record ConvertsTo (files : List File) (most : ℕ) (column : List ℕ) (texts : List (List ℕ)) (fault : Option RowKind) : Type 0 where
   pub records : List (List (List ℕ))
-  pub are : AreColumnRecords (strip_bom column) records
+  pub are : AreColumnRecords 44 (strip_bom column) records
   pub rows : RecordsConvertTo files most 1 records texts fault
 
 -- The same of a column whose first record is a header: own choice. A header makes no row, and isn't counted.
 pub record ConvertsBodyTo (files : List File) (most : ℕ) (column : List ℕ) (texts : List (List ℕ)) (fault : Option RowKind) : Type 0 where
   pub records : List (List (List ℕ))
-  pub are : AreColumnRecords (strip_bom column) records
+  pub are : AreColumnRecords 44 (strip_bom column) records
   pub rows : RecordsConvertTo files most 1 (drop 1 records) texts fault
 
 -- How many bytes of each line of a column are read, where a line that is too long is a row with a fault: four more than a line may have. So a
@@ -57,13 +57,19 @@ read_of_lines at.Reject by.Lines most = option_map (λ most. min most MAX_BYTES 
 abbrev pub read_by : Layout → List ℕ → List ℕ
 read_by layout column = truncated (read_of_lines layout.at_fault layout.records layout.max_record) column
 
--- The records of a column that make rows by a layout, each with its own bytes: those of CSV with the layout's delimiter and double quotes,
--- or of each line, as the layout says, but for the header, if there is one. A byte order mark at the start is none of the column, and a
--- line without a byte makes no record. Where lines that have too many bytes are rows with a fault, each line is truncated.
-pub record AreRowRecords (layout : Layout) (column : List ℕ) (row_records : List CsvRecord) : Type 0 where
-  pub all : List CsvRecord
-  pub are : AreRecordsBy layout.records layout.delimiter (strip_bom (read_by layout column)) all
-  pub is : row_records ≡ drop (records_before layout.header) all
+-- The records of the bytes that are read of a column, each with its own bytes: those of CSV with the layout's delimiter and double quotes, or
+-- of each line, as the layout says. A byte order mark at the start is none of the column, and a line without a byte makes no record.
+abbrev pub records_read : Layout → List ℕ → List CsvRecord
+records_read layout bytes = records_by layout.records layout.delimiter (strip_bom bytes)
+
+-- and their own bytes alone
+abbrev pub texts_read : Layout → List ℕ → List (List ℕ)
+texts_read layout bytes = texts_by layout.records layout.delimiter (strip_bom bytes)
+
+-- The records of a column that make rows by a layout: all but the header, if there is one. Where lines that have too many bytes are rows with
+-- a fault, each line is truncated.
+abbrev pub AreRowRecords : Layout → List ℕ → List CsvRecord → Type 0
+AreRowRecords layout column row_records = row_records ≡ drop (records_before layout.header) (records_read layout (read_by layout column))
 
 -- The texts of a column's rows by a layout, up to the first that ends the run, and its fault, or none. Rows count from 1, and there may be
 -- at most this number.
@@ -119,6 +125,10 @@ own_header header.Absent texts = []
 own_header header.First texts = first_text texts
 own_header header.Skipped texts = []
 
+-- and by the bytes that are read of a column
+abbrev pub header_read : Layout → List ℕ → List ℕ
+header_read layout bytes = own_header layout.header (texts_read layout bytes)
+
 -- a column's header with those names, where rows begin with their records; a record has a byte or more
 abbrev pub header_of : RowStart → List ℕ → ℕ → List ℕ → List ℕ
 header_of start.Record names delimiter (byte ∷ own) = (byte ∷ own) ++ (exchanged delimiter names ++ 10 ∷ [])
@@ -134,11 +144,11 @@ names_line layout = names_with layout (names_after layout.written layout.style l
 
 -- and once its header was read
 abbrev pub own_line : Layout → List ℕ → List ℕ
-own_line layout column = header_of layout.start (names_added layout) layout.delimiter (own_header layout.header (delimited_texts_by layout.records layout.delimiter (strip_bom (read_by layout column))))
+own_line layout column = header_of layout.start (names_added layout) layout.delimiter (header_read layout (read_by layout column))
 
 -- the own bytes of the column's header, where there is one that is written and records are rejected, for the log of these
 abbrev pub rejects_header : Layout → List ℕ → List ℕ
-rejects_header layout column = if_rejected layout.at_fault (own_header layout.header (delimited_texts_by layout.records layout.delimiter (strip_bom (read_by layout column))))
+rejects_header layout column = if_rejected layout.at_fault (header_read layout (read_by layout column))
 
 -- The header that is written before the rows of a column: own choice. It is the line of names where rows begin with names,
 -- and else the column's own header, with the names of the fields that rows add. It is nothing where the column has none, or it is skipped.

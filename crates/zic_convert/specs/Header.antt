@@ -1,14 +1,12 @@
 -- The fault of a column's header: own choice. Rows count from 1, and row 0 is the header.
 use Rattle.std.specs.Prelude.{◌≡◌, ℕ, List, [], ◌∷◌, take, Option, Some, None}
-use Rattle.csv.specs.Reading.{strip_bom}
 use Rattle.zic_base.specs.declared.row_fault.RowKind.{RowKind}
 use Rattle.zic_base.specs.declared.row_fault.RowKind.TheVariants as kind
-use Rattle.zic_columns.specs.Lines.{AreRecordsBy}
 use Rattle.zic_columns.specs.Own.{CsvRecord}
 use Rattle.zic_files.specs.File.{File}
 use Rattle.zic_plan.specs.Layout.{records_before}
 use Rattle.zic_plan.specs.declared.layout.Layout.{Layout}
-use Rattle.zic_convert.specs.Column.{read_by}
+use Rattle.zic_convert.specs.Column.{read_by, records_read}
 use Rattle.zic_layout_rows.specs.LayoutRows.{fault_by}
 
 -- Why a record is no header, if it is none, by the fault that it would have as a row. Without a fault it is a row, since it names a zone and
@@ -28,8 +26,10 @@ abbrev pub header_fault : Layout → List File → List CsvRecord → Option Row
 header_fault layout files [] = None
 header_fault layout files (first ∷ others) = header_kind (fault_by layout files 0 0 first)
 
--- the fault of a column's header, or none, as where it has no header
-pub record IsHeaderFault (layout : Layout) (files : List File) (column : List ℕ) (fault : Option RowKind) : Type 0 where
-  pub all : List CsvRecord
-  pub are : AreRecordsBy layout.records layout.delimiter (strip_bom (read_by layout column)) all
-  pub is : fault ≡ header_fault layout files (take (records_before layout.header) all)
+-- the fault of the header of a column, by the bytes that are read of it, or none, as where it has no header
+abbrev pub fault_read : Layout → List File → List ℕ → Option RowKind
+fault_read layout files bytes = header_fault layout files (take (records_before layout.header) (records_read layout bytes))
+
+-- and of a column
+abbrev pub IsHeaderFault : Layout → List File → List ℕ → Option RowKind → Type 0
+IsHeaderFault layout files column fault = fault ≡ fault_read layout files (read_by layout column)

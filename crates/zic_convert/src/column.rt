@@ -1,18 +1,16 @@
-//! Converts columns in memory.
+//! Converts plain columns in memory.
 
-ghost use Rattle.std.specs.Prelude.{◌≡◌, ◌+◌, ◌≤◌, IfOk, length};
+ghost use Rattle.std.specs.Prelude.{◌≡◌, ◌+◌, ◌≤◌, IfOk, length, option_map};
+ghost use Rattle.zic_base.specs.declared.row_fault.RowFault.{RowFault};
 ghost use Rattle.zic_convert.specs.Column.{AreRowsOfColumn};
 
-use crate::pieces::room_for;
+use crate::laws::plain_columns_convert_alike;
+use crate::memory::rows_by_layout;
 use std::alloc::{AllocError, Global};
-use zic_base::RowKind;
-use zic_columns::laws::column_records_are_read;
-use zic_columns::without_mark;
+use zic_base::{RowFault, RowKind};
+use zic_columns::laws::{column_records_are_read, records_are_one};
 use zic_files::Files;
-use zic_layout_rows::{Piece, rows_of_piece};
-use zic_plan::{Header, Layout};
-use zic_rows::RowText;
-use zic_zones::{Releases, SourceZones, Zones};
+use zic_plan::{Header, Layout, MAX_BYTES, MAX_OF_PIECE, Plan};
 
 /// The rows of a column up to the first that has a fault: their text, their number, and that fault.
 #[derive(Drop)]
@@ -22,21 +20,14 @@ pub struct ColumnRows {
     pub fault: Option<RowKind>,
 }
 
-/// The least length of a column, in bytes, that is taken to have many rows.
-const MANY_ROWS: usize = 65_536;
-
-/// Makes the zones of files ready for a column of this length in bytes.
-pub(crate) fn zones_for(
-    alloc: Global,
-    files: &Files,
-    len: usize,
-) -> Result<SourceZones<'_>, AllocError>
-    ensures { IfOk result (λ zones. zones ≡ files.now) }
+/// Returns the kind of a fault.
+fn kind_of(fault: Option<RowFault>) -> Option<RowKind>
+    ensures { result ≡ option_map (λ (fault : RowFault). fault.kind) fault }
 {
-    if len < MANY_ROWS {
-        return SourceZones::new(alloc, files);
+    match fault {
+        Some(fault) => Some(fault.kind),
+        None => None,
     }
-    SourceZones::for_many_rows(alloc, files)
 }
 
 /// Converts a column in memory on the calling thread, to the rows of [`crate::convert`]. Returns
@@ -44,7 +35,8 @@ pub(crate) fn zones_for(
 ///
 /// # Errors
 ///
-/// Fails where memory is refused.
+/// Fails where memory is refused, or where the column has more bytes, or may have more rows, than those
+/// of any plan.
 pub fn rows_of_column(
     alloc: Global,
     files: &Files,
@@ -55,42 +47,17 @@ pub fn rows_of_column(
         AreRowsOfColumn files.now max_rows column.now rows.text.items rows.count rows.fault) }
     ensures few { IfOk result (λ rows. rows.count ≤ length column.now + 1) }
 {
-    let zones = zones_for(alloc, files, column.len())?;
-    let answer = rows_by(alloc, &zones, max_rows, column);
-    drop(zones);
-    answer
-}
-
-/// Converts a column in memory by these zones.
-fn rows_by(
-    alloc: Global,
-    zones: &SourceZones<'_>,
-    max_rows: u64,
-    column: &[u8],
-) -> Result<ColumnRows, AllocError>
-    ensures rows { IfOk result (λ rows.
-        AreRowsOfColumn zones.now max_rows column.now rows.text.items rows.count rows.fault) }
-    ensures few { IfOk result (λ rows. rows.count ≤ length column.now + 1) }
-{
     column_records_are_read();
-    let Releases {
-        zones: row_zones,
-        old,
-    } = zones.ready();
+    records_are_one();
+    plain_columns_convert_alike();
     let layout = Layout::plain(Header::Absent);
-    let piece = Piece {
-        bytes: without_mark(column),
-        zones: &row_zones,
-        layout: &layout,
-        first: 1,
-        most: max_rows,
-        lines_before: None,
+    let Some(plan) = Plan::new(1, 1, MAX_OF_PIECE, max_rows, MAX_BYTES) else {
+        return Err(AllocError);
     };
-    let text = RowText::with_capacity(alloc, room_for(column.len()))?;
-    let rows = rows_of_piece(alloc, &piece, &old, text)?;
+    let rows = rows_by_layout(alloc, files, &plan, &layout, column)?;
     Ok(ColumnRows {
-        text: rows.text.into_bytes(),
+        text: rows.text,
         count: rows.count,
-        fault: rows.fault,
+        fault: kind_of(rows.fault),
     })
 }

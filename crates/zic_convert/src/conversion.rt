@@ -5,23 +5,26 @@ ghost use Rattle.std.specs.Io.KnownBytes.{Appends};
 ghost use Rattle.csv.specs.Reading.{strip_bom};
 ghost use Rattle.zic_columns.specs.Lines.{texts_by};
 ghost use Rattle.zic_columns.specs.Own.{first_text};
-ghost use Rattle.zic_columns.specs.Round.{ArePiecesOf, PassesRecord, records_of, unread};
+ghost use Rattle.zic_columns.specs.Round.{ArePiecesOf, PassesRecord, records_of, taken_records, unread};
 ghost use Rattle.zic_columns.specs.declared.pieces.TheConstants.{MAX_ROUND_PIECES};
 ghost use Rattle.zic_counted.specs.Counts.{HasFailedSince};
 ghost use Rattle.zic_plan.specs.declared.plan.TheConstants.{MAX_ROWS};
 ghost use Rattle.zic_zones.specs.Zones.{zone_in};
 ghost use Rattle.zic_zones.specs.declared.releases.Releases.{Releases};
-ghost use Rattle.zic_convert.specs.Column.{rejects_header, own_header};
+ghost use Rattle.zic_layout_rows.specs.LayoutRows.{if_rejected};
+ghost use Rattle.zic_convert.specs.Column.{header_of, header_read, names_added, rejects_header};
+ghost use Rattle.zic_convert.specs.Header.{fault_read};
 ghost use Rattle.zic_convert.specs.Convert.{IsCauseOf, IsCauseWithLog, WritesAll, WritesAt};
 ghost use Rattle.zic_convert.specs.Run.{ConvertsAllBy, EndsAtNames, EndsBy, EndsByZones, LogBegan};
 ghost use Rattle.zic_convert.specs.Run.{output_of, run_of};
 ghost use Rattle.zic_convert.specs.code.Halt.{IsCauseOfHalt, IsCauseWith, IsEnd, IsReadingStop, stop_of};
 ghost use Rattle.zic_convert.specs.code.Progress.{BeginsRows, ConvertsColumn, ConvertsRest};
 ghost use Rattle.zic_convert.specs.code.Progress.{EndsInColumn, EndsInRest, HaltsAtBegin, HaltsAtHead, HaltsAtHeader};
-ghost use Rattle.zic_convert.specs.code.Progress.{EndsAtTaking, EndsInTaken, TakesNext, WritesTaken, rejects_header_in, header_fault_in, longest_of, own_line_in, passed_in};
-ghost use Rattle.zic_convert.specs.code.Row.{taken_rows};
+ghost use Rattle.zic_convert.specs.code.Progress.{EndsAtTaking, EndsInTaken, TakesNext, WritesTaken, header_passed, longest_of};
+ghost use Rattle.zic_convert.specs.code.Pieces.{AreConverted, IsCrew};
 ghost use Rattle.zic_convert.specs.code.Written.{EndsInRecords, WritesRecords};
 
+use crate::crew::{Converting, PieceRows};
 use crate::halt::Halt;
 use crate::header::{ReadBy, check_header, kept_of};
 use crate::laws::plain_columns_convert_alike;
@@ -30,22 +33,19 @@ use crate::opened::write_open_line;
 use crate::output::{flush, write_header, write_names};
 use crate::pieces::RowPieces;
 use crate::round::convert_round;
-use crate::spare::SpareTexts;
 use crate::tally::Tally;
+use crate::texts::{SpareTexts, TextPool};
 use std::alloc::Global;
 use std::io::{Read, Write};
 use std::sync::Wait;
 use std::thread::Threads;
 use zic_base::{RowKind, RunStop};
-use zic_columns::laws::{
-    column_records_are_read, first_record_is_alone, records_by_are_exchanged, records_by_are_one,
-    texts_by_are_exchanged,
-};
-use zic_columns::{Column, Exchanged, PassStop, Round, Taken, Truncated};
+use zic_columns::laws::{column_records_are_read, first_record_is_alone};
+use zic_columns::{Column, PassStop, Round, Taken, Truncated};
 use zic_counted::Counted;
 use zic_files::Files;
 use zic_layout_rows::rejected_bytes;
-use zic_pieces::Gate;
+use zic_pieces::{Gate, run_task};
 use zic_plan::{Header, Layout, Plan, RowLog, Unnoted};
 use zic_tzif::laws::files_answer_once;
 use zic_zones::{SourceZones, Zones};
@@ -97,35 +97,39 @@ fn round_len(plan: &Plan) -> usize {
 /// # Errors
 ///
 /// `Unread` where the column can't be read on, before any zone is requested, or `Memory`.
-fn next_round<T, G, Z: Zones, R: Read>(
-    conversion: &Conversion<'_, T, G>,
+fn next_round<Z: Zones, R: Read>(
+    by: &ReadBy<'_>,
     zones: &mut Z,
     column: &mut Column<R>,
 ) -> Result<Taken, Halt>
     ensures takes { IfOk result
-        (TakesNext R.remaining conversion.now.plan.now.row_piece
-        (longest_of conversion.now.layout.now) column.old column.new) }
+        (TakesNext R.remaining by.now.plan.now.row_piece
+        (longest_of by.now.layout.now) column.old column.new) }
     ensures grown { IfOk result (λ _. Z.grown zones.old zones.new) }
     ensures settled { IfOk result (λ _. All (Z.settled zones.new)
-        (map (zone_in conversion.now.layout.now.zone) (records_of column.new.round))) }
+        (map (zone_in by.now.layout.now.zone)
+        (records_of by.now.layout.now.delimiter column.new.round))) }
     ensures halt { IfErr result (λ halt. EndsAtTaking Z.broken zones.old zones.new halt) }
 {
-    let plan = conversion.plan;
-    let size = plan.row_piece() as usize;
-    let longest = longest_of(conversion.layout);
-    let taken = column.next_round(conversion.alloc, round_len(plan), size, longest)?;
-    zones.prepare(conversion.alloc, &conversion.layout.zone, &column.round())?;
+    let size = by.plan.row_piece() as usize;
+    let longest = longest_of(by.layout);
+    let taken = column.next_round(by.alloc, round_len(by.plan), size, longest)?;
+    zones.prepare(
+        by.alloc,
+        &by.layout.zone,
+        &by.layout.delimiter,
+        &column.round(),
+    )?;
     Ok(taken)
 }
 
-/// What the next rows are of: what was taken, the number of the first row, how many more rows with a fault
-/// may come, where that is limited, and texts to write them into.
+/// What the next rows are of: what was taken, the number of the first row, and how many more rows with a
+/// fault may come, where that is limited.
 #[derive(Clone, Copy, Drop)]
 struct NextRows<'a> {
     taken: &'a Taken,
     first: u64,
     left: Option<u64>,
-    spare: &'a SpareTexts,
 }
 
 /// Converts what was taken, a round by the zones that are ready or an open line, writes its rows, and
@@ -134,42 +138,50 @@ struct NextRows<'a> {
 /// # Errors
 ///
 /// `Memory`, or what ends a round.
-fn convert_ready<T: Threads + Wait + Sync, G: Gate + Sync, Z: Zones, W: Write, L: RowLog>(
-    conversion: &Conversion<'_, T, G>,
+fn convert_ready<
+    F: Fn(&RowPieces<'_, '_, P>) -> PieceRows,
+    P: TextPool,
+    Z: Zones,
+    W: Write,
+    L: RowLog,
+>(
+    conversion: &Converting<'_, F, P>,
     zones: &Z,
     round: Round<'_>,
     next: &NextRows<'_>,
     writer: &mut Counted<W>,
     log: &mut L,
 ) -> Result<Tally, RunStop>
+    requires crew { IsCrew (F.pre conversion.now.crew.now) (F.post conversion.now.crew.now) }
     requires least { 1 ≤ next.now.first }
     requires first { next.now.first ≤ MAX_ROWS + 1 }
     requires some { next.now.taken.now ≡ Taken.End → ⊥ }
     requires short { next.now.taken.now ≡ Taken.TooLong → ⊥ }
     requires few { length round ≤ MAX_ROUND_PIECES }
-    requires cut { ArePiecesOf conversion.now.plan.now.row_piece round }
-    ensures ok { IfOk result (WritesRecords conversion.now.layout.now (Z.known zones.now)
-        conversion.now.plan.now.max_rows next.now.left next.now.first
-        (taken_rows conversion.now.layout.now.delimiter next.now.taken.now round.entry)
+    requires cut { ArePiecesOf conversion.now.by.layout.now.delimiter
+        conversion.now.by.plan.now.row_piece round }
+    ensures ok { IfOk result (WritesRecords conversion.now.by.layout.now (Z.known zones.now)
+        conversion.now.by.plan.now.max_rows next.now.left next.now.first
+        (taken_records conversion.now.by.layout.now.delimiter next.now.taken.now round.entry)
         W.contents writer.old writer.new (L.noted log.old) (L.noted log.new)) }
-    ensures stop { IfErr result (EndsInRecords conversion.now.layout.now (Z.known zones.now)
-        conversion.now.plan.now.max_rows next.now.left next.now.first
-        (taken_rows conversion.now.layout.now.delimiter next.now.taken.now round.entry)
+    ensures stop { IfErr result (EndsInRecords conversion.now.by.layout.now (Z.known zones.now)
+        conversion.now.by.plan.now.max_rows next.now.left next.now.first
+        (taken_records conversion.now.by.layout.now.delimiter next.now.taken.now round.entry)
         W.contents writer.old writer.new (L.noted log.old) (L.noted log.new)) }
     ensures began { L.began log.new ≡ L.began log.old }
     ensures log { IsErrOf result RunStop.LogFailed → L.failed log.new }
 {
     if let Taken::OpenLine(line) = next.taken {
-        return write_open_line(conversion, line, next.first, next.left, writer, log);
+        return write_open_line(&conversion.by, line, next.first, next.left, writer, log);
     }
     let ready = zones.ready();
     let pieces = RowPieces::new(
-        conversion.layout,
+        conversion.by.layout,
         &ready,
         round,
         next.first,
-        conversion.plan,
-        next.spare,
+        conversion.by.plan,
+        conversion.texts,
     );
     convert_round(conversion, &pieces, next.left, writer, log)
 }
@@ -179,23 +191,31 @@ fn convert_ready<T: Threads + Wait + Sync, G: Gate + Sync, Z: Zones, W: Write, L
 /// # Errors
 ///
 /// As [`convert_ready`], or `Row` at a record that has more bytes than the layout allows.
-fn convert_taken<T: Threads + Wait + Sync, G: Gate + Sync, Z: Zones, W: Write, L: RowLog>(
-    conversion: &Conversion<'_, T, G>,
+fn convert_taken<
+    F: Fn(&RowPieces<'_, '_, P>) -> PieceRows,
+    P: TextPool,
+    Z: Zones,
+    W: Write,
+    L: RowLog,
+>(
+    conversion: &Converting<'_, F, P>,
     zones: &Z,
     round: Round<'_>,
     next: &NextRows<'_>,
     writer: &mut Counted<W>,
     log: &mut L,
 ) -> Result<Option<Tally>, RunStop>
+    requires crew { IsCrew (F.pre conversion.now.crew.now) (F.post conversion.now.crew.now) }
     requires least { 1 ≤ next.now.first }
     requires first { next.now.first ≤ MAX_ROWS + 1 }
     requires few { length round ≤ MAX_ROUND_PIECES }
-    requires cut { ArePiecesOf conversion.now.plan.now.row_piece round }
-    ensures ok { IfOk result (WritesTaken conversion.now.layout.now (Z.known zones.now)
-        conversion.now.plan.now.max_rows next.now.left next.now.first next.now.taken.now round.entry
+    requires cut { ArePiecesOf conversion.now.by.layout.now.delimiter
+        conversion.now.by.plan.now.row_piece round }
+    ensures ok { IfOk result (WritesTaken conversion.now.by.layout.now (Z.known zones.now)
+        conversion.now.by.plan.now.max_rows next.now.left next.now.first next.now.taken.now round.entry
         W.contents writer.old writer.new (L.noted log.old) (L.noted log.new)) }
-    ensures stop { IfErr result (EndsInTaken conversion.now.layout.now (Z.known zones.now)
-        conversion.now.plan.now.max_rows next.now.left next.now.first next.now.taken.now round.entry
+    ensures stop { IfErr result (EndsInTaken conversion.now.by.layout.now (Z.known zones.now)
+        conversion.now.by.plan.now.max_rows next.now.left next.now.first next.now.taken.now round.entry
         W.contents writer.old writer.new (L.noted log.old) (L.noted log.new)) }
     ensures began { L.began log.new ≡ L.began log.old }
     ensures cause { IfErr result (λ stop.
@@ -204,7 +224,7 @@ fn convert_taken<T: Threads + Wait + Sync, G: Gate + Sync, Z: Zones, W: Write, L
     match next.taken {
         Taken::End => Ok(None),
         Taken::TooLong => {
-            let most = conversion.plan.max_rows();
+            let most = conversion.by.plan.max_rows();
             Err(end_at_long(writer, most, next.first))
         }
         Taken::Round | Taken::OpenLine(_) => {
@@ -223,22 +243,31 @@ fn convert_taken<T: Threads + Wait + Sync, G: Gate + Sync, Z: Zones, W: Write, L
 ///
 /// `Unread` where the column can't be read on, `Memory`, or what ends a round. A record that is longer
 /// than the layout allows and ends the run does so even where it isn't read to its end.
-fn convert_rounds<T: Threads + Wait + Sync, G: Gate + Sync, Z: Zones, R: Read, W: Write, L: RowLog>(
-    conversion: &Conversion<'_, T, G>,
+fn convert_rounds<
+    F: Fn(&RowPieces<'_, '_, P>) -> PieceRows,
+    P: TextPool,
+    Z: Zones,
+    R: Read,
+    W: Write,
+    L: RowLog,
+>(
+    conversion: &Converting<'_, F, P>,
     zones: &mut Z,
     column: &mut Column<R>,
     writer: &mut Counted<W>,
     log: &mut L,
 ) -> Result<u64, Halt>
-    requires { column.old.by ≡ conversion.now.layout.now.records }
+    requires crew { IsCrew (F.pre conversion.now.crew.now) (F.post conversion.now.crew.now) }
+    requires by { column.old.by ≡ conversion.now.by.layout.now.records }
+    requires delimiter { column.old.delimiter ≡ conversion.now.by.layout.now.delimiter }
     ensures grown { IfOk result (λ _. Z.grown zones.old zones.new) }
     ensures all { (releases : Releases) → Z.may_be zones.new releases → IfOk result (λ n. ConvertsRest
-        conversion.now.layout.now conversion.now.plan.now.max_rows conversion.now.max_faults
+        conversion.now.by.layout.now conversion.now.by.plan.now.max_rows conversion.now.max_faults
         (unread R.remaining column.old) n (output_of W.contents L.noted writer.old writer.new
         log.old log.new) releases) }
     ensures flushed { IfOk result (λ _. writer.new.failures ≡ writer.old.failures) }
     ensures halt { IfErr result (λ halt. EndsByZones Z.grown Z.broken Z.may_be zones.old zones.new
-        (stop_of halt) (EndsInRest conversion.now.layout.now conversion.now.plan.now.max_rows
+        (stop_of halt) (EndsInRest conversion.now.by.layout.now conversion.now.by.plan.now.max_rows
         conversion.now.max_faults (unread R.remaining column.old) (stop_of halt)
         (output_of W.contents L.noted writer.old writer.new log.old log.new))) }
     ensures began { L.began log.new ≡ L.began log.old }
@@ -246,20 +275,16 @@ fn convert_rounds<T: Threads + Wait + Sync, G: Gate + Sync, Z: Zones, R: Read, W
 {
     // The rest of a column that can't be read on has rows too: each file answers every instant.
     files_answer_once();
-    // Names of zones have no byte that can stand between fields.
-    prove!(conversion.layout.delimiter.byte() <= u8::MAX);
     // The plan limits the number of rows.
-    prove!(conversion.plan.max_rows() <= u64::MAX);
-    let spare = SpareTexts::new(conversion.alloc);
+    prove!(conversion.by.plan.max_rows() <= u64::MAX);
     let mut count = 0;
     let mut left = conversion.max_faults;
     'rounds: loop {
-        let taken = next_round(conversion, zones, column)?;
+        let taken = next_round(&conversion.by, zones, column)?;
         let next = NextRows {
             taken: &taken,
             first: count + 1,
             left,
-            spare: &spare,
         };
         let converted = convert_taken(conversion, zones, column.round(), &next, writer, log);
         drop(taken);
@@ -288,11 +313,12 @@ struct BegunColumn<R: Read> {
 /// layout allows: rows count from 1.
 fn pass_header<R: Read>(by: &ReadBy<'_>, column: &mut Column<R>) -> Result<Vec<u8>, Halt>
     ensures by { column.new.by ≡ column.old.by }
+    ensures delimiter { column.new.delimiter ≡ column.old.delimiter }
     ensures passes { IfOk result (λ _. PassesRecord R.remaining column.old column.new) }
     ensures own { IfOk result (λ own. IfSome (unread R.remaining column.old)
-        (λ bytes. own.items ≡ first_text (texts_by column.old.by bytes))) }
+        (λ bytes. own.items ≡ first_text (texts_by column.old.by column.old.delimiter bytes))) }
     ensures halt { IfErr result (HaltsAtHeader by.now.layout.now.max_record column.old.by
-        (unread R.remaining column.old)) }
+        column.old.delimiter (unread R.remaining column.old)) }
 {
     match column.pass_record(by.alloc, round_len(by.plan), by.layout.max_record) {
         Ok(own) => Ok(own),
@@ -311,15 +337,24 @@ fn pass_header<R: Read>(by: &ReadBy<'_>, column: &mut Column<R>) -> Result<Vec<u
 /// As [`pass_header`].
 fn begin_column<R: Read + Drop>(by: &ReadBy<'_>, reader: R) -> Result<BegunColumn<R>, Halt>
     ensures by { IfOk result (λ begun. begun.column.by ≡ by.now.layout.now.records) }
+    ensures delimiter { IfOk result
+        (λ begun. begun.column.delimiter ≡ by.now.layout.now.delimiter) }
     ensures begins { IfOk result (λ begun. IfSome (R.remaining reader)
         (λ bytes. BeginsRows by.now.layout.now bytes (unread R.remaining begun.column))) }
     ensures header { IfOk result (λ begun. IfSome (R.remaining reader)
-        (λ bytes. begun.header.items ≡ passed_in by.now.layout.now bytes)) }
+        (λ bytes. begun.header.items ≡ header_passed by.now.layout.now bytes)) }
     ensures halt { IfErr result (HaltsAtBegin by.now.layout.now (R.remaining reader)) }
 {
     let layout = by.layout;
     let most = by.plan.max_bytes();
-    let mut column = Column::new(by.alloc, reader, most, layout.records, layout.notes)?;
+    let mut column = Column::new(
+        by.alloc,
+        reader,
+        most,
+        layout.records,
+        &layout.delimiter,
+        layout.notes,
+    )?;
     match layout.header {
         Header::Absent => {
             let header = Vec::new(by.alloc);
@@ -338,7 +373,7 @@ fn begin_column<R: Read + Drop>(by: &ReadBy<'_>, reader: R) -> Result<BegunColum
 /// # Errors
 ///
 /// As [`pass_header`] and [`check_header`], or `WriteFailed`.
-pub(crate) fn begin_rows<Z: Zones, R: Read + Drop, W: Write, L: RowLog>(
+fn begin_rows<Z: Zones, R: Read + Drop, W: Write, L: RowLog>(
     by: &ReadBy<'_>,
     zones: &mut Z,
     reader: R,
@@ -346,24 +381,30 @@ pub(crate) fn begin_rows<Z: Zones, R: Read + Drop, W: Write, L: RowLog>(
     log: &mut L,
 ) -> Result<Column<R>, Halt>
     ensures noted { L.noted log.new ≡ L.noted log.old }
-    ensures began { LogBegan (rejects_header_in by.now.layout.now) (R.remaining reader) (L.began log.new)
+    ensures began { LogBegan
+        (λ bytes. if_rejected by.now.layout.now.at_fault (header_read by.now.layout.now bytes))
+        (R.remaining reader) (L.began log.new)
         ⊎ (IsErr result × (L.began log.new ≡ L.began log.old)) }
     ensures by { IfOk result (λ column. column.by ≡ by.now.layout.now.records) }
+    ensures delimiter { IfOk result (λ column. column.delimiter ≡ by.now.layout.now.delimiter) }
     ensures begins { IfOk result (λ column. IfSome (R.remaining reader)
         (λ bytes. BeginsRows by.now.layout.now bytes (unread R.remaining column))) }
     ensures head { IfOk result (λ _. IfSome (R.remaining reader) (λ bytes.
         Appends (W.contents writer.old.inner) (W.contents writer.new.inner)
-        (own_line_in by.now.layout.now bytes))) }
+        (header_of by.now.layout.now.start (names_added by.now.layout.now)
+        by.now.layout.now.delimiter (header_read by.now.layout.now bytes)))) }
     ensures grown { IfOk result (λ _. Z.grown zones.old zones.new) }
     ensures none { IfOk result (λ _. (releases : Releases) → Z.may_be zones.new releases
         → IfSome (R.remaining reader)
-        (λ bytes. header_fault_in by.now.layout.now releases.zones bytes ≡ None)) }
+        (λ bytes. fault_read by.now.layout.now releases.zones bytes ≡ None)) }
     ensures flushed { IfOk result (λ _. writer.new.failures ≡ writer.old.failures) }
     ensures halt { IfErr result (λ halt. EndsByZones Z.grown Z.broken Z.may_be zones.old zones.new
         (stop_of halt) (λ releases. HaltsAtHead W.contents writer.old writer.new
         by.now.layout.now releases.zones (R.remaining reader) halt)) }
     ensures cause { IfErr result (IsCauseOfHalt writer.old writer.new) }
 {
+    // The delimiter is no double quote and ends no line.
+    prove!(by.layout.delimiter.byte() <= u8::MAX);
     first_record_is_alone();
     let BegunColumn { column, header } = begin_column(by, reader)?;
     check_header(by, zones, &header)?;
@@ -379,49 +420,42 @@ pub(crate) fn begin_rows<Z: Zones, R: Read + Drop, W: Write, L: RowLog>(
 /// # Errors
 ///
 /// As [`convert_rounds`].
-fn convert_rows<
-    T: Threads + Wait + Sync,
-    G: Gate + Sync,
+pub(crate) fn convert_rows<
+    F: Fn(&RowPieces<'_, '_, P>) -> PieceRows,
+    P: TextPool,
     Z: Zones,
     R: Read + Drop,
     W: Write,
     L: RowLog,
 >(
-    conversion: &Conversion<'_, T, G>,
+    conversion: &Converting<'_, F, P>,
     zones: &mut Z,
     reader: R,
     writer: &mut Counted<W>,
     log: &mut L,
 ) -> Result<u64, Halt>
+    requires crew { IsCrew (F.pre conversion.now.crew.now) (F.post conversion.now.crew.now) }
     ensures grown { IfOk result (λ _. Z.grown zones.old zones.new) }
     ensures all { (releases : Releases) → Z.may_be zones.new releases → IfOk result (λ n. ConvertsColumn
-        conversion.now.layout.now conversion.now.plan.now.max_rows conversion.now.max_faults
+        conversion.now.by.layout.now conversion.now.by.plan.now.max_rows conversion.now.max_faults
         (R.remaining reader) n (output_of W.contents L.noted writer.old writer.new log.old log.new)
         releases) }
     ensures flushed { IfOk result (λ _. writer.new.failures ≡ writer.old.failures) }
     ensures halt { IfErr result (λ halt. EndsByZones Z.grown Z.broken Z.may_be zones.old zones.new
-        (stop_of halt) (EndsInColumn conversion.now.layout.now conversion.now.plan.now.max_rows
+        (stop_of halt) (EndsInColumn conversion.now.by.layout.now conversion.now.by.plan.now.max_rows
         conversion.now.max_faults (R.remaining reader) (stop_of halt)
         (output_of W.contents L.noted writer.old writer.new log.old log.new))) }
-    ensures began { LogBegan (rejects_header conversion.now.layout.now) (R.remaining reader)
+    ensures began { LogBegan (rejects_header conversion.now.by.layout.now) (R.remaining reader)
         (L.began log.new)
         ⊎ (IsErr result × (L.began log.new ≡ L.began log.old) × (L.noted log.new ≡ L.noted log.old)) }
     ensures cause { IfErr result (IsCauseWith (L.failed log.new) writer.old writer.new) }
 {
     // Also a column that can't be read has rows: each file answers every instant.
     files_answer_once();
-    records_by_are_exchanged();
-    texts_by_are_exchanged();
-    let layout = conversion.layout;
-    let most = conversion.plan.max_bytes();
+    let layout = conversion.by.layout;
+    let most = conversion.by.plan.max_bytes();
     let short = Truncated::new(reader, read_of_lines(layout), most);
-    let exchanged = Exchanged::new(short, layout.delimiter.byte());
-    let by = ReadBy {
-        alloc: conversion.alloc,
-        plan: conversion.plan,
-        layout,
-    };
-    let mut column = begin_rows(&by, zones, exchanged, writer, log)?;
+    let mut column = begin_rows(&conversion.by, zones, short, writer, log)?;
     convert_rounds(conversion, zones, &mut column, writer, log)
 }
 
@@ -575,7 +609,31 @@ pub fn convert_column<
     let failures = reader.failures();
     let taken = reader.taken();
     write_names(writer, conversion.layout)?;
-    let outcome = convert_rows(conversion, zones, &mut *reader, writer, log);
+    let crew = |pieces: &RowPieces<'_, '_, SpareTexts>| -> PieceRows
+        requires { length pieces.now.pieces ≤ MAX_ROUND_PIECES }
+        ensures { AreConverted pieces.entry.now result }
+    {
+        let workers = conversion.plan.workers();
+        run_task(
+            conversion.rt,
+            conversion.alloc,
+            pieces,
+            workers,
+            conversion.gate,
+        )
+    };
+    let texts = SpareTexts::new(conversion.alloc);
+    let converting = Converting {
+        crew: &crew,
+        texts: &texts,
+        by: ReadBy {
+            alloc: conversion.alloc,
+            plan: conversion.plan,
+            layout: conversion.layout,
+        },
+        max_faults: conversion.max_faults,
+    };
+    let outcome = convert_rows(&converting, zones, &mut *reader, writer, log);
     ended(
         outcome,
         reader,

@@ -1,9 +1,8 @@
 //! The fault of a column's header.
 
 ghost use Rattle.std.specs.Prelude.{◌≡◌, ◌∷◌, [], None, IfErr, IfOk, OnOk};
-ghost use Rattle.zic_columns.specs.Own.{CsvRecord};
+ghost use Rattle.zic_columns.specs.Own.{CsvRecord, csv_records};
 ghost use Rattle.zic_layout_rows.specs.LayoutRows.{fault_by};
-ghost use Rattle.zic_layout_rows.specs.PieceRows.{csv_records_in};
 ghost use Rattle.zic_zones.specs.declared.releases.Releases.{Releases};
 ghost use Rattle.zic_convert.specs.Header.{header_kind};
 ghost use Rattle.zic_convert.specs.code.Progress.{EndsNoLine, HaltsAtCheck, IsOwnFault, is_open_by, kept_of};
@@ -49,7 +48,7 @@ fn record_fault(
     own: &[u8],
 ) -> Result<Option<RowKind>, AllocError>
     ensures { IfOk result (λ fault. (given : CsvRecord)
-        → csv_records_in layout.now.delimiter own.now ≡ given ∷ []
+        → csv_records layout.now.delimiter own.now ≡ given ∷ []
         → fault ≡ fault_by layout.now releases.now.zones 0 0 given) }
 {
     let piece = Piece {
@@ -71,17 +70,17 @@ fn record_fault(
 }
 
 /// Returns whether own bytes are those of an open line.
-fn is_open(records: Records, own: &[u8]) -> bool
-    ensures { EndsNoLine records own.now → result ≡ is_open_by records own.now }
+fn is_open(layout: &Layout, own: &[u8]) -> bool
+    ensures { EndsNoLine layout.now.records own.now
+        → result ≡ is_open_by layout.now.records layout.now.delimiter own.now }
 {
-    match records {
+    match layout.records {
         Records::Csv => false,
-        Records::Lines => is_open_line(own),
+        Records::Lines => is_open_line(own, &layout.delimiter),
     }
 }
 
-/// Returns the fault of a header with these own bytes, or none. The delimiter and the comma stand in each
-/// other's place.
+/// Returns the fault of a header with these own bytes, or none.
 pub(crate) fn header_fault(
     alloc: Global,
     layout: &Layout,
@@ -90,11 +89,13 @@ pub(crate) fn header_fault(
 ) -> Result<Option<RowKind>, AllocError>
     ensures { IfOk result (IsOwnFault layout.now releases.now.zones own.now) }
 {
-    first_record_is_alone();
     if own.is_empty() {
         return Ok(None);
     }
-    let fault = if is_open(layout.records, own) {
+    // The delimiter is no double quote and ends no line.
+    prove!(layout.delimiter.byte() <= u8::MAX);
+    first_record_is_alone();
+    let fault = if is_open(layout, own) {
         Some(open_kind(layout, 0, 0, own))
     } else {
         record_fault(alloc, layout, releases, own)?
@@ -103,7 +104,7 @@ pub(crate) fn header_fault(
 }
 
 /// Makes the zone ready that a header names, and checks that the header has no fault. The own bytes of the
-/// header are none where there is none, and have the delimiter and the comma in each other's place.
+/// header are none where there is none.
 ///
 /// # Errors
 ///
@@ -119,11 +120,16 @@ pub(crate) fn check_header<Z: Zones>(by: &ReadBy<'_>, zones: &mut Z, own: &[u8])
         // The zones would take it for a round.
         return Ok(());
     }
-    // Names of zones have no byte that can stand between fields.
+    // The delimiter is no double quote and ends no line.
     prove!(by.layout.delimiter.byte() <= u8::MAX);
     first_record_is_alone();
     let one = OnePiece::new(own);
-    zones.prepare(by.alloc, &by.layout.zone, &one.round())?;
+    zones.prepare(
+        by.alloc,
+        &by.layout.zone,
+        &by.layout.delimiter,
+        &one.round(),
+    )?;
     let releases = zones.ready();
     match header_fault(by.alloc, by.layout, &releases, own)? {
         None => Ok(()),

@@ -2,9 +2,7 @@
 
 ghost use Rattle.zic_convert.specs.Laws.{ColumnsConvertOnce, PlainColumnsConvertAlike};
 
-use zic_columns::laws::{
-    column_records_are_read, delimited_records_are_one, records_are_one, records_by_are_one,
-};
+use zic_columns::laws::{column_records_are_read, records_are_one};
 use zic_tzif::laws::files_answer_once;
 
 /// States that by the files of a source a column converts to at most one list of texts, and one fault
@@ -13,7 +11,6 @@ pub fn columns_convert_once()
     ensures { ColumnsConvertOnce }
 {
     records_are_one();
-    records_by_are_one();
     files_answer_once();
 }
 
@@ -23,5 +20,5 @@ pub fn plain_columns_convert_alike()
     ensures { PlainColumnsConvertAlike }
 {
     column_records_are_read();
-    delimited_records_are_one();
+    records_are_one();
 }

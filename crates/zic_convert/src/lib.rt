@@ -3,18 +3,20 @@
 
 mod column;
 mod conversion;
+mod crew;
 mod halt;
 mod header;
 pub mod laws;
 mod log;
 mod long;
 mod memory;
+mod notes;
 mod opened;
 mod output;
 mod pieces;
 mod round;
-mod spare;
 mod tally;
+mod texts;
 
 pub use column::{ColumnRows, rows_of_column};
 pub use conversion::{Conversion, convert, convert_column};

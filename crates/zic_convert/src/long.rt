@@ -49,7 +49,7 @@ pub(crate) fn read_of_lines(layout: &Layout) -> Option<u64>
 
 /// Returns the fault that ends the run at such a record as the row of a number, where there is a
 /// greatest number of rows.
-pub(crate) fn long_kind(most: u64, number: u64) -> RowKind
+fn long_kind(most: u64, number: u64) -> RowKind
     ensures { (layout : Layout) (files : List File) (given : CsvRecord)
         → may_have (longest_of layout) (length given.own) ≡ false
         → ends_by layout files most number given ≡ Some result }

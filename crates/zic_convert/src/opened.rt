@@ -1,8 +1,7 @@
 //! The rows of open lines.
 
 ghost use Rattle.std.specs.Prelude.{◌≡◌, ◌+◌, ◌≤◌, ◌∷◌, ◌++◌, [], List, IfOk, IfErr, IsErrOf, Some};
-ghost use Rattle.zic_columns.specs.Exchange.{exchanged};
-ghost use Rattle.zic_columns.specs.Lines.{exchanged_record, open_record};
+ghost use Rattle.zic_columns.specs.Lines.{open_record};
 ghost use Rattle.zic_files.specs.File.{File};
 ghost use Rattle.zic_plan.specs.declared.plan.TheConstants.{MAX_ROWS};
 ghost use Rattle.zic_zones.specs.declared.releases.Releases.{Releases};
@@ -11,7 +10,7 @@ ghost use Rattle.zic_layout_rows.specs.LayoutRows.{fault_by, if_rejected, unless
 ghost use Rattle.zic_layout_rows.specs.PieceRows.{AreRowsOf};
 ghost use Rattle.zic_convert.specs.code.Written.{EndsInRecords, WritesRecords};
 
-use crate::conversion::Conversion;
+use crate::header::ReadBy;
 use crate::output::{stop_at, write_rows};
 use crate::tally::{Tally, left_after};
 use std::alloc::{AllocError, Global};
@@ -24,11 +23,10 @@ use zic_plan::{AtFault, FaultDetail, FaultyRow, Layout, RowLog, Written};
 use zic_rows::RowText;
 
 /// Returns the fault of an open line, the row of this number: `TooManyRows` if that is above `most`, else
-/// `RowTooLong` if the line is too long, else `RowQuote`. The line has the delimiter and the comma in each
-/// other's place.
+/// `RowTooLong` if the line is too long, else `RowQuote`.
 pub(crate) fn open_kind(layout: &Layout, most: u64, number: u64, line: &[u8]) -> RowKind
-    ensures { (files : List File) → fault_by layout.now files most number
-        (exchanged_record layout.now.delimiter (open_record line.now)) ≡ Some result }
+    ensures { (files : List File)
+        → fault_by layout.now files most number (open_record line.now) ≡ Some result }
 {
     if most < number {
         return RowKind::TooManyRows;
@@ -40,25 +38,21 @@ pub(crate) fn open_kind(layout: &Layout, most: u64, number: u64, line: &[u8]) ->
 }
 
 /// Returns what an open line adds to the text of rows: its own bytes, unless it is rejected, or only
-/// rows are written that another release answers differently. The line has the delimiter and the comma
-/// in each other's place.
+/// rows are written that another release answers differently.
 fn open_text(alloc: Global, layout: &Layout, line: &[u8]) -> Result<Vec<u8>, AllocError>
     ensures { IfOk result (λ text. text.items ≡ unless_compared layout.now.written
-        (unless_rejected layout.now.at_fault (exchanged layout.now.delimiter line.now ++ 10 ∷ []))) }
+        (unless_rejected layout.now.at_fault (line.now ++ 10 ∷ []))) }
 {
     let mut text = Vec::new(alloc);
     match (layout.at_fault, layout.written) {
         (AtFault::Reject, _) | (_, Written::Moved) => {}
-        (AtFault::End | AtFault::GoOn, Written::All) => {
-            push_own(&mut text, line, b"", layout.delimiter.byte())?
-        }
+        (AtFault::End | AtFault::GoOn, Written::All) => push_own(&mut text, line, b"")?,
     }
     Ok(text)
 }
 
 /// Returns what is noted of an open line: its own bytes where it is rejected, how it ends, and its number
-/// among lines where details are noted. The fault isn't of one field. The line has the delimiter and the
-/// comma in each other's place.
+/// among lines where details are noted. The fault isn't of one field.
 fn open_note(
     alloc: Global,
     layout: &Layout,
@@ -67,7 +61,7 @@ fn open_note(
 ) -> Result<FaultyRow, AllocError>
     ensures { IfOk result (λ row. row ≡ record {
       fault = fault;
-      own = if_rejected layout.now.at_fault (exchanged layout.now.delimiter line.now.own.items);
+      own = if_rejected layout.now.at_fault line.now.own.items;
     }) }
 {
     let own = rejected_bytes(alloc, layout, &line.own)?;
@@ -87,8 +81,8 @@ fn open_note(
 }
 
 /// Returns the row of an open line, which has a fault, or the fault that ends the run there. The line is
-/// the row of this number, and has the delimiter and the comma in each other's place.
-pub(crate) fn open_row(
+/// the row of this number.
+fn open_row(
     alloc: Global,
     layout: &Layout,
     most: u64,
@@ -96,7 +90,7 @@ pub(crate) fn open_row(
     line: &TakenLine,
 ) -> Result<Rows, AllocError>
     ensures { IfOk result (λ rows. (releases : Releases) → AreRowsOf layout.now releases most number
-        (exchanged_record layout.now.delimiter (open_record line.now.own.items) ∷ []) rows) }
+        (open_record line.now.own.items ∷ []) rows) }
 {
     let mut rows = Rows::new(alloc, RowText::new(alloc));
     let own: &[u8] = &line.own;
@@ -115,15 +109,14 @@ pub(crate) fn open_row(
 }
 
 /// Writes the row of an open line, which is the row of this number, and notes its fault, where any is
-/// left. Returns the number of rows, and how many faults are left then. The line has the delimiter and
-/// the comma in each other's place.
+/// left. Returns the number of rows, and how many faults are left then.
 ///
 /// # Errors
 ///
 /// `Row` where the fault ends the run or is one too many, `Memory`, `WriteFailed`, or `LogFailed` once
 /// the row is written.
-pub(crate) fn write_open_line<T, G, W: Write, L: RowLog>(
-    conversion: &Conversion<'_, T, G>,
+pub(crate) fn write_open_line<W: Write, L: RowLog>(
+    by: &ReadBy<'_>,
     line: &TakenLine,
     number: u64,
     left: Option<u64>,
@@ -132,20 +125,18 @@ pub(crate) fn write_open_line<T, G, W: Write, L: RowLog>(
 ) -> Result<Tally, RunStop>
     requires { number ≤ MAX_ROWS + 1 }
     ensures ok { IfOk result (λ tally. (releases : Releases) → WritesRecords
-        conversion.now.layout.now releases conversion.now.plan.now.max_rows left number
-        (exchanged_record conversion.now.layout.now.delimiter (open_record line.now.own.items)
-        ∷ [])
+        by.now.layout.now releases by.now.plan.now.max_rows left number
+        (open_record line.now.own.items ∷ [])
         W.contents writer.old writer.new (L.noted log.old) (L.noted log.new) tally) }
     ensures stop { IfErr result (λ why. (releases : Releases) → EndsInRecords
-        conversion.now.layout.now releases conversion.now.plan.now.max_rows left number
-        (exchanged_record conversion.now.layout.now.delimiter (open_record line.now.own.items)
-        ∷ [])
+        by.now.layout.now releases by.now.plan.now.max_rows left number
+        (open_record line.now.own.items ∷ [])
         W.contents writer.old writer.new (L.noted log.old) (L.noted log.new) why) }
     ensures began { L.began log.new ≡ L.began log.old }
     ensures log { IsErrOf result RunStop.LogFailed → L.failed log.new }
 {
-    let most = conversion.plan.max_rows();
-    let Ok(row) = open_row(conversion.alloc, conversion.layout, most, number, line) else {
+    let most = by.plan.max_rows();
+    let Ok(row) = open_row(by.alloc, by.layout, most, number, line) else {
         return Err(RunStop::Memory);
     };
     let rows = [row];

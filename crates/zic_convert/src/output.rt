@@ -60,33 +60,32 @@ fn names_after(written: Written, style: Style, from: TimeFrom) -> &'static [u8]
     }
 }
 
-/// Adds the names of the fields that a row adds to its record, and a newline, to the own bytes of a
-/// header, in which the delimiter and the comma stand in each other's place. Does nothing where
-/// there is no header.
+/// Adds the names of the fields that a row adds to its record, with the layout's delimiter, and a newline,
+/// to the own bytes of a header. Does nothing where there is no header.
 fn add_names(line: &mut Vec<u8>, layout: &Layout) -> Result<(), AllocError>
     ensures { OnOk result (line.new.items ≡ header_of start.Record (names_added layout.now)
-        layout.now.delimiter (exchanged layout.now.delimiter line.old.items)) }
+        layout.now.delimiter line.old.items) }
 {
     if line.is_empty() {
         return Ok(());
     }
+    let own_len = line.len();
     line.extend_from_slice(added_names(layout.style, layout.from))?;
     line.extend_from_slice(names_after(layout.written, layout.style, layout.from))?;
-    put_back(line, 0, layout.delimiter.byte());
+    put_back(line, own_len, layout.delimiter.byte());
     line.push(b'\n')?;
     Ok(())
 }
 
-/// Returns the header before rows, by the own bytes of the column's header, in which the delimiter
-/// and the comma stand in each other's place. Returns no bytes where rows don't begin with their
-/// records, or the column has no header.
+/// Returns the header before rows, by the own bytes of the column's header. Returns no bytes where rows
+/// don't begin with their records, or the column has no header.
 ///
 /// # Errors
 ///
 /// Fails where memory is refused.
 fn header_line(layout: &Layout, own: Vec<u8>) -> Result<Vec<u8>, AllocError>
     ensures { IfOk result (λ line. line.items ≡ header_of layout.now.start
-        (names_added layout.now) layout.now.delimiter (exchanged layout.now.delimiter own.items)) }
+        (names_added layout.now) layout.now.delimiter own.items) }
 {
     let mut line = own;
     match layout.start {
@@ -262,11 +261,9 @@ pub(crate) fn write_header<W: Write>(
     own: Vec<u8>,
 ) -> Result<(), RunStop>
     ensures ok { OnOk result (Wrote W.contents writer.old writer.new (header_of layout.now.start
-        (names_added layout.now) layout.now.delimiter
-        (exchanged layout.now.delimiter own.items))) }
+        (names_added layout.now) layout.now.delimiter own.items)) }
     ensures err { IfErr result (EndsAtHead W.contents writer.old writer.new (header_of
-        layout.now.start (names_added layout.now) layout.now.delimiter
-        (exchanged layout.now.delimiter own.items))) }
+        layout.now.start (names_added layout.now) layout.now.delimiter own.items)) }
 {
     let Ok(line) = header_line(layout, own) else {
         return Err(RunStop::Memory);

@@ -6,7 +6,7 @@ ghost use Rattle.zic_columns.specs.declared.pieces.TheConstants.{MAX_ROUND_PIECE
 ghost use Rattle.zic_plan.specs.declared.plan.TheConstants.{MAX_ROWS};
 ghost use Rattle.zic_convert.specs.code.Pieces.{ArePieces, AreRowsOfPiece};
 
-use crate::spare::SpareTexts;
+use crate::texts::TextPool;
 use std::alloc::{AllocError, Global};
 use std::marker::Model;
 use zic_columns::Round;
@@ -24,7 +24,7 @@ const GREATEST_ROOM: usize = 4_194_304;
 /// The records of a round, in pieces that are each a range of its bytes, with the number of the
 /// first row. Clauses see the bytes of each piece.
 #[derive(Drop)]
-pub(crate) struct RowPieces<'a, 's> {
+pub(crate) struct RowPieces<'a, 's, P> {
     layout: &'a Layout,
     releases: &'a Releases<'s>,
     round: Round<'a>,
@@ -36,11 +36,11 @@ pub(crate) struct RowPieces<'a, 's> {
     /// Whether a row that ends the run stops the task. If not, the value of its piece is the rows before
     /// it.
     stops: bool,
-    /// Texts to write rows into.
-    spare: &'a SpareTexts,
+    /// Where the texts come from that rows are written into.
+    texts: &'a P,
 }
 
-impl<'a, 's> Model for RowPieces<'a, 's> {
+impl<'a, 's, P> Model for RowPieces<'a, 's, P> {
     ghost use Rattle.zic_convert.specs.code.Pieces.{Pieces, ArePieces};
 
     ghost Value = { Pieces };
@@ -66,21 +66,21 @@ impl<'a, 's> Model for RowPieces<'a, 's> {
     }) };
 }
 
-impl<'a, 's> RowPieces<'a, 's> {
+impl<'a, 's, P: TextPool> RowPieces<'a, 's, P> {
     /// Returns the pieces of a round, cut as the plan says, as a task that stops at a row that ends
-    /// the run. The first record is the row of this number. Rows are written into spare texts.
+    /// the run. The first record is the row of this number. Rows are written into texts of the pool.
     pub(crate) fn new(
         layout: &'a Layout,
         releases: &'a Releases<'s>,
         round: Round<'a>,
         first: u64,
         plan: &Plan,
-        spare: &'a SpareTexts,
-    ) -> RowPieces<'a, 's>
+        texts: &'a P,
+    ) -> RowPieces<'a, 's, P>
         requires least { 1 ≤ first }
         requires first { first ≤ MAX_ROWS + 1 }
         requires few { length round ≤ MAX_ROUND_PIECES }
-        requires cut { ArePiecesOf plan.now.row_piece round }
+        requires cut { ArePiecesOf layout.now.delimiter plan.now.row_piece round }
         ensures pieces { result ≡ record {
           layout = layout.now;
           releases = releases.now;
@@ -100,7 +100,7 @@ impl<'a, 's> RowPieces<'a, 's> {
             most: plan.max_rows(),
             size: plan.row_piece(),
             stops: true,
-            spare,
+            texts,
         }
     }
 
@@ -113,7 +113,7 @@ impl<'a, 's> RowPieces<'a, 's> {
     }
 
     /// Returns the pieces up to one with a row that ends the run, as a task that doesn't stop there.
-    pub(crate) fn up_to(&self, i: u64) -> RowPieces<'_, 's>
+    pub(crate) fn up_to(&self, i: u64) -> RowPieces<'_, 's, P>
         requires { i < length self.now.pieces }
         ensures { result ≡ record self.now {
           pieces = take (i + 1) self.now.pieces;
@@ -128,13 +128,13 @@ impl<'a, 's> RowPieces<'a, 's> {
             most: self.most,
             size: self.size,
             stops: false,
-            spare: self.spare,
+            texts: self.texts,
         }
     }
 
     /// Returns the same pieces, as a task in which the row of this number ends the run, whatever it has,
     /// and that doesn't stop there.
-    pub(crate) fn before(&self, row: u64) -> RowPieces<'_, 's>
+    pub(crate) fn before(&self, row: u64) -> RowPieces<'_, 's, P>
         requires { 1 ≤ row }
         ensures { result ≡ record self.now {
           most = row - 1;
@@ -149,13 +149,8 @@ impl<'a, 's> RowPieces<'a, 's> {
             most: row - 1,
             size: self.size,
             stops: false,
-            spare: self.spare,
+            texts: self.texts,
         }
-    }
-
-    /// Keeps the texts of rows that were written, for rows to come.
-    pub(crate) fn keep_texts(&self, written: Vec<Rows>) {
-        self.spare.keep(written);
     }
 
     /// Returns the rows of the piece with this index, up to the first that ends the run.
@@ -171,12 +166,12 @@ impl<'a, 's> RowPieces<'a, 's> {
             most: self.most,
             lines_before: self.round.lines_before(i as usize),
         };
-        let text = self.spare.take(alloc, room_for(piece.bytes.len()))?;
+        let text = self.texts.take(alloc, room_for(piece.bytes.len()))?;
         rows_of_piece(alloc, &piece, &self.releases.old, text)
     }
 }
 
-impl<'a, 's> Task for RowPieces<'a, 's> {
+impl<'a, 's, P: TextPool> Task for RowPieces<'a, 's, P> {
     type Out = Rows;
 
     type Fault = ();
@@ -205,7 +200,7 @@ impl<'a, 's> Task for RowPieces<'a, 's> {
 
 /// Returns the number of bytes to reserve for the rows of a piece of `len` bytes. Rows mostly have
 /// less than three bytes for each of their records.
-pub(crate) fn room_for(len: usize) -> usize {
+fn room_for(len: usize) -> usize {
     len.min(GREATEST_ROOM)
         .saturating_mul(3)
         .clamp(LEAST_ROOM, GREATEST_ROOM)

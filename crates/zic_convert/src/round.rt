@@ -2,21 +2,20 @@
 
 ghost use Rattle.std.specs.Prelude.{◌≡◌, ◌≤◌, IfOk, IfErr, IsErrOf, Option, ℕ, false, length};
 ghost use Rattle.zic_pieces.specs.Task.{AreValues};
-ghost use Rattle.zic_convert.specs.code.Pieces.{ArePieces, IsOutcomeOf};
+ghost use Rattle.zic_convert.specs.code.Pieces.{ArePieces, IsCrew, IsOutcomeOf};
 ghost use Rattle.zic_columns.specs.declared.pieces.TheConstants.{MAX_ROUND_PIECES};
 ghost use Rattle.zic_convert.specs.code.Written.{EndsInRound, HasOneTooMany, WritesRound};
 
-use crate::conversion::Conversion;
+use crate::crew::{Converting, PieceRows};
 use crate::output::write_rows;
 use crate::pieces::RowPieces;
 use crate::tally::{Tally, left_after};
+use crate::texts::TextPool;
 use std::io::Write;
-use std::sync::Wait;
-use std::thread::Threads;
 use zic_base::{RowFault, RunStop};
 use zic_counted::Counted;
 use zic_layout_rows::Rows;
-use zic_pieces::{Gate, TaskStop, run_task};
+use zic_pieces::TaskStop;
 use zic_plan::RowLog;
 
 /// Returns the rows of the pieces, as a task that doesn't stop at a row that ends the run.
@@ -24,24 +23,18 @@ use zic_plan::RowLog;
 /// # Errors
 ///
 /// `Memory`.
-fn rows_of<T: Threads + Wait + Sync, G: Gate + Sync>(
-    conversion: &Conversion<'_, T, G>,
-    pieces: &RowPieces<'_, '_>,
+fn rows_of<F: Fn(&RowPieces<'_, '_, P>) -> PieceRows, P: TextPool>(
+    conversion: &Converting<'_, F, P>,
+    pieces: &RowPieces<'_, '_, P>,
 ) -> Result<Vec<Rows>, RunStop>
+    requires crew { IsCrew (F.pre conversion.now.crew.now) (F.post conversion.now.crew.now) }
     requires goes_on { pieces.now.stops ≡ false }
     requires few { length pieces.now.pieces ≤ MAX_ROUND_PIECES }
     ensures ok { IfOk result (λ rows.
         AreValues (IsOutcomeOf pieces.now) (length pieces.now.pieces) rows.items) }
     ensures err { IfErr result (λ stop. stop ≡ RunStop.Memory) }
 {
-    let workers = conversion.plan.workers();
-    match run_task(
-        conversion.rt,
-        conversion.alloc,
-        pieces,
-        workers,
-        conversion.gate,
-    ) {
+    match (conversion.crew)(pieces) {
         Ok(rows) => Ok(rows),
         Err(TaskStop::Memory(_)) => Err(RunStop::Memory),
         Err(TaskStop::NoThread | TaskStop::Fault(_, ())) => unreachable!(),
@@ -54,13 +47,14 @@ fn rows_of<T: Threads + Wait + Sync, G: Gate + Sync>(
 /// # Errors
 ///
 /// Returns `Memory` or `WriteFailed` in its place where these end the run.
-fn end_at_fault<T: Threads + Wait + Sync, W: Write, G: Gate + Sync, L: RowLog>(
-    conversion: &Conversion<'_, T, G>,
-    pieces: &RowPieces<'_, '_>,
+fn end_at_fault<F: Fn(&RowPieces<'_, '_, P>) -> PieceRows, P: TextPool, W: Write, L: RowLog>(
+    conversion: &Converting<'_, F, P>,
+    pieces: &RowPieces<'_, '_, P>,
     fault: RowFault,
     writer: &mut Counted<W>,
     log: &mut L,
 ) -> RunStop
+    requires crew { IsCrew (F.pre conversion.now.crew.now) (F.post conversion.now.crew.now) }
     requires few { length pieces.now.pieces ≤ MAX_ROUND_PIECES }
     requires fault { (limit : Option ℕ) × HasOneTooMany pieces.now limit fault }
     ensures stop { (limit : Option ℕ) → HasOneTooMany pieces.now limit fault → EndsInRound
@@ -94,14 +88,15 @@ fn end_at_fault<T: Threads + Wait + Sync, W: Write, G: Gate + Sync, L: RowLog>(
 ///
 /// `Row` for the fault that ends the run, or that is one too many, once the rows before it are written,
 /// `LogFailed` once all rows are written, or `Memory` or `WriteFailed`.
-fn write_round<T: Threads + Wait + Sync, W: Write, G: Gate + Sync, L: RowLog>(
-    conversion: &Conversion<'_, T, G>,
-    pieces: &RowPieces<'_, '_>,
+fn write_round<F: Fn(&RowPieces<'_, '_, P>) -> PieceRows, P: TextPool, W: Write, L: RowLog>(
+    conversion: &Converting<'_, F, P>,
+    pieces: &RowPieces<'_, '_, P>,
     rows: &[Rows],
     left: Option<u64>,
     writer: &mut Counted<W>,
     log: &mut L,
 ) -> Result<Tally, RunStop>
+    requires crew { IsCrew (F.pre conversion.now.crew.now) (F.post conversion.now.crew.now) }
     requires values { AreValues (IsOutcomeOf pieces.now) (length pieces.now.pieces) rows.now }
     ensures ok { IfOk result (WritesRound pieces.now left W.contents writer.old writer.new
         (L.noted log.old) (L.noted log.new)) }
@@ -126,13 +121,14 @@ fn write_round<T: Threads + Wait + Sync, W: Write, G: Gate + Sync, L: RowLog>(
 /// # Errors
 ///
 /// As [`write_round`].
-fn convert_again<T: Threads + Wait + Sync, W: Write, G: Gate + Sync, L: RowLog>(
-    conversion: &Conversion<'_, T, G>,
-    pieces: &RowPieces<'_, '_>,
+fn convert_again<F: Fn(&RowPieces<'_, '_, P>) -> PieceRows, P: TextPool, W: Write, L: RowLog>(
+    conversion: &Converting<'_, F, P>,
+    pieces: &RowPieces<'_, '_, P>,
     left: Option<u64>,
     writer: &mut Counted<W>,
     log: &mut L,
 ) -> Result<Tally, RunStop>
+    requires crew { IsCrew (F.pre conversion.now.crew.now) (F.post conversion.now.crew.now) }
     requires goes_on { pieces.now.stops ≡ false }
     requires few { length pieces.now.pieces ≤ MAX_ROUND_PIECES }
     ensures ok { IfOk result (WritesRound pieces.now left W.contents writer.old writer.new
@@ -148,8 +144,8 @@ fn convert_again<T: Threads + Wait + Sync, W: Write, G: Gate + Sync, L: RowLog>(
     }
 }
 
-/// Converts the pieces of a round by the plan's workers, writes their rows, and notes their faults, of
-/// which this many are left. Returns the number of rows, and how many faults are left then.
+/// Has the crew convert the pieces of a round, writes their rows, and notes their faults, of which this
+/// many are left. Returns the number of rows, and how many faults are left then.
 ///
 /// The first piece with a fault that ends the run ends the task, and later ones need not be
 /// converted. The rows before that fault are then converted once more, and so are the rows before one
@@ -158,14 +154,20 @@ fn convert_again<T: Threads + Wait + Sync, W: Write, G: Gate + Sync, L: RowLog>(
 /// # Errors
 ///
 /// As [`write_round`].
-pub(crate) fn convert_round<T: Threads + Wait + Sync, W: Write, G: Gate + Sync, L: RowLog>(
-    conversion: &Conversion<'_, T, G>,
-    pieces: &RowPieces<'_, '_>,
+pub(crate) fn convert_round<
+    F: Fn(&RowPieces<'_, '_, P>) -> PieceRows,
+    P: TextPool,
+    W: Write,
+    L: RowLog,
+>(
+    conversion: &Converting<'_, F, P>,
+    pieces: &RowPieces<'_, '_, P>,
     left: Option<u64>,
     writer: &mut Counted<W>,
     log: &mut L,
 ) -> Result<Tally, RunStop>
-    requires { ArePieces pieces.now }
+    requires crew { IsCrew (F.pre conversion.now.crew.now) (F.post conversion.now.crew.now) }
+    requires pieces { ArePieces pieces.now }
     ensures ok { IfOk result (WritesRound pieces.now left W.contents writer.old writer.new
         (L.noted log.old) (L.noted log.new)) }
     ensures stop { IfErr result (EndsInRound pieces.now left W.contents writer.old writer.new
@@ -173,17 +175,10 @@ pub(crate) fn convert_round<T: Threads + Wait + Sync, W: Write, G: Gate + Sync, 
     ensures began { L.began log.new ≡ L.began log.old }
     ensures log { IsErrOf result RunStop.LogFailed → L.failed log.new }
 {
-    let workers = conversion.plan.workers();
-    match run_task(
-        conversion.rt,
-        conversion.alloc,
-        pieces,
-        workers,
-        conversion.gate,
-    ) {
+    match (conversion.crew)(pieces) {
         Ok(rows) => {
             let written = write_round(conversion, pieces, &rows, left, writer, log);
-            pieces.keep_texts(rows);
+            conversion.texts.keep(rows);
             written
         }
         Err(TaskStop::Fault(i, ())) => {

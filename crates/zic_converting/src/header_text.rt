@@ -1,8 +1,9 @@
 //! The fields of a header, one after another.
 
 use std::alloc::{AllocError, Global};
-use zic_columns::{Field, Span, exchange, push_field, without_mark};
+use zic_columns::{Field, Span, push_field, without_mark};
 use zic_command_line::HeaderFields;
+use zic_plan::Delimiter;
 
 /// The least number of bytes of a field after which no more of them are looked at.
 const LEAST: usize = 65_536;
@@ -21,18 +22,19 @@ enum Place {
 }
 
 /// Returns the place after a byte, or `None` where the byte ends the field.
-fn place_after(place: Place, byte: u8) -> Option<Place> {
+fn place_after(place: Place, byte: u8, delimiter: u8) -> Option<Place> {
     match (place, byte) {
         (Place::Start, b'"') | (Place::QuoteSeen, b'"') => Some(Place::Quoted),
         (Place::Quoted, b'"') => Some(Place::QuoteSeen),
         (Place::Quoted, _) => Some(Place::Quoted),
-        (_, b',' | b'\r' | b'\n') => None,
+        (_, b'\r' | b'\n') => None,
+        (_, _) if byte == delimiter => None,
         (_, _) => Some(Place::Plain),
     }
 }
 
-/// Takes note of the fields of a record by its own bytes, in which the delimiter and the comma stand in each
-/// other's place. No bytes have no field.
+/// Takes note of the fields of a record by its own bytes, with this delimiter between them. No bytes have no
+/// field.
 ///
 /// # Errors
 ///
@@ -40,7 +42,7 @@ fn place_after(place: Place, byte: u8) -> Option<Place> {
 pub(crate) fn note_fields(
     alloc: Global,
     own: &[u8],
-    delimiter: u8,
+    delimiter: &Delimiter,
     fields: &mut HeaderFields<'_>,
 ) -> Result<(), AllocError> {
     let record = without_mark(own);
@@ -48,11 +50,11 @@ pub(crate) fn note_fields(
     let mut start = 0;
     let mut place = Place::Start;
     for (index, byte) in record.iter().enumerate() {
-        match place_after(place, *byte) {
+        match place_after(place, *byte, delimiter.byte()) {
             Some(next) => place = next,
             None => {
                 fields.push(alloc, text.of(&record[start..index])?)?;
-                if *byte != b',' {
+                if *byte != delimiter.byte() {
                     return Ok(());
                 }
                 start = index + 1;
@@ -68,17 +70,17 @@ pub(crate) fn note_fields(
 
 /// The text of a field, made in the place of that of the field before.
 #[derive(Drop)]
-struct FieldText {
+struct FieldText<'a> {
     text: Vec<u8>,
-    delimiter: u8,
+    delimiter: &'a Delimiter,
     /// The number of bytes of a field that are looked at, if it has more.
     most: usize,
 }
 
-impl FieldText {
+impl<'a> FieldText<'a> {
     /// Makes a text of no field. Of the text of a field that has more bytes, `telling_len` bytes at least are
     /// made.
-    fn new(alloc: Global, delimiter: u8, telling_len: usize) -> FieldText {
+    fn new(alloc: Global, delimiter: &'a Delimiter, telling_len: usize) -> FieldText<'a> {
         // Two double quotes may stand for one in the text, and the first opens it.
         let most = telling_len.saturating_mul(2).saturating_add(8);
         FieldText {
@@ -100,8 +102,7 @@ impl FieldText {
             _ => Field::Plain(all),
         };
         self.text.clear();
-        push_field(&mut self.text, field, field_now)?;
-        exchange(&mut self.text, self.delimiter);
+        push_field(&mut self.text, field, field_now, self.delimiter)?;
         Ok(&self.text)
     }
 }

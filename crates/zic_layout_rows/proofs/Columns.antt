@@ -3,19 +3,22 @@ use Rattle.std.proofs.Common.{◌≡◌, ◌+◌, ◌<◌, ◌≤◌, ◌==◌, 
 use Rattle.std.specs.Prelude.{All, IfSome, bytes_eq, option_map, slice_get, slice_index_or}
 use Rattle.std.proofs.Math.ListN.{set}
 use Rattle.std.proofs.lemmas.Bool.{cases_Bool, cond_both, eqb-false, eqb-true}
-use Rattle.std.proofs.lemmas.List.{get_or-map, get_or-set_other, get_or-set_same, get_or-take, length-map, map-append, take_more, take_more_set}
-use Rattle.zic_columns.specs.Record.{record_at}
-use Rattle.zic_columns.specs.declared.fields.Record.{Record}
+use Rattle.std.proofs.lemmas.List.{get_or-map, get_or-set_other, get_or-set_same, get_or-take, map-append, take_more, take_more_set}
 use Rattle.zic_files.specs.File.{File}
 use Rattle.zic_base.specs.State.{Shown}
 use Rattle.zic_posix.specs.Instants.{Includes}
-use Rattle.zic_rows.specs.Count.{second_of}
 use Rattle.zic_tzif.specs.Answer.{Answers, AnswersThroughout}
 use Rattle.zic_tzif.specs.States.{IsStateOfNumber}
-use Rattle.zic_zones.specs.Zones.{ShowsThroughout, number_of, zone_in}
+use Rattle.zic_zones.specs.Zones.{IsShownAt, ShowsThroughout, number_of}
 use Rattle.zic_zones.specs.declared.row_zones.RowSpan.{RowSpan}
-use Rattle.zic_layout_rows.specs.code.Batch.{IsFile, IsStateFor, blank, zone_at}
-use Rattle.zic_layout_rows.specs.declared.lookup.FoundState.TheVariants as found
+use Rattle.zic_columns.specs.Record.{IsSplit}
+use Rattle.zic_columns.specs.declared.fields.Record.{Record}
+use Rattle.zic_columns.specs.declared.splits.TheConstants.{BATCH}
+use Rattle.zic_rows.specs.declared.row_time.RowTime.{RowTime}
+use Rattle.zic_layout_rows.specs.code.Answer.{AreAnswers, AreColumns, IsAt, IsFoundIn}
+use Rattle.zic_layout_rows.specs.code.Batch.{blank, blank_time, wanted_by, zone_at}
+use Rattle.zic_layout_rows.specs.declared.answers.Answers.{Answers as Column}
+use Rattle.zic_layout_rows.specs.declared.batch.Batch.{Batch}
 use Rattle.zic_layout_rows.specs.declared.piece.Piece.{Piece}
 
 -- a column that is filled one place further
@@ -62,18 +65,34 @@ number_within (file ∷ files) name = cond_both (bytes_eq file.name name) (Some 
     next None is = tt
     next (Some n) is = omega (arith, is)
 
--- the numbers of records' zones are those of files
-pub all_files : (piece : Piece) (records : List Record) (zones : List (Option ℕ)) → zones ≡ map (zone_at piece) records → All (IsFile piece) zones
-all_files piece records zones are k d lt =
-    let within : k < length records = omega (arith, lt, ap length are, length-map records (zone_at piece)) in
-    let at : slice_index_or zones k d ≡ zone_at piece (slice_index_or records k blank) = ap (λ (l : List (Option ℕ)). slice_index_or l k d) are ∙ get_or-map (zone_at piece) records k blank d within in
-    rw at (number_within piece.zones.now (zone_in piece.layout.now.zone (record_at piece.bytes.now (slice_index_or records k blank)).fields))
-
 -- the state of a span is that of each of its instants
-pub state_is : (piece : Piece) (n : ℕ) (c : ℤ) (second : ℤ) (span : RowSpan) → second ≡ second_of piece.layout.now.unit c → Includes span.instants second
-    → ShowsThroughout piece.zones.now n span.instants span.number → IsStateFor piece (Some n) (Some c) (found.Number span.number)
-state_is piece n c second span is within shows may = by_file (slice_get piece.zones.now n) shows where
+pub state_is : (files : List File) (n : ℕ) (second : ℤ) (span : RowSpan) → Includes span.instants second → ShowsThroughout files n span.instants span.number → IsShownAt files n second span.number
+state_is files n second span within shows = by_file (slice_get files n) shows where
   by_file : (o : Option File) → IfSome o (λ f. (state : Shown) × IsStateOfNumber f.image.content span.number state × AnswersThroughout f.image.content span.instants (Some state))
-      → IfSome o (λ f. (state : Shown) × IsStateOfNumber f.image.content span.number state × Answers f.image.content (second_of piece.layout.now.unit c) (Some state))
+      → IfSome o (λ f. (state : Shown) × IsStateOfNumber f.image.content span.number state × Answers f.image.content second (Some state))
   by_file None shows = tt
-  by_file (Some file) (state, of, answers) = (state, of, subst (λ (t : ℤ). Answers file.image.content t (Some state)) is (answers second within))
+  by_file (Some file) (state, of, answers) = (state, of, answers second within)
+
+-- what a column has of the record at a place
+found_in : (piece : Piece) (records : List Record) (times : List RowTime) (count : ℕ) (answers : Column) (place : ℕ) → AreAnswers piece records times count answers → count ≤ length records → place < count
+    → IsFoundIn piece (slice_index_or records place blank) (slice_index_or times place blank_time) answers place
+found_in piece records times count answers place are few lt = record {
+  zone = one_is (zone_at piece) records answers.zones count place blank None few lt are.zones;
+  known = are.known place lt;
+}
+
+-- what the columns of a batch have of the record at a place
+pub is_at : (piece : Piece) (other : Option Piece) (batch : Batch) (count place : ℕ) → AreColumns piece other batch count → length batch.records ≡ BATCH → place < count → IsAt piece other batch place
+is_at piece other batch count place are long lt =
+    let few : count ≤ length batch.records = omega (arith, are.few, long) in
+    record {
+      within = omega (arith, are.few, lt);
+      split = one_of (IsSplit piece.layout.now.delimiter piece.bytes.now (wanted_by piece.layout.now)) batch.records count place blank few lt are.split;
+      answers = found_in piece batch.records batch.times count batch.answers place are.answers few lt;
+      others = by_other other are.others;
+    }
+  where
+    by_other : (o : Option Piece) → IfSome o (λ p. AreAnswers p batch.records batch.times count batch.others)
+        → IfSome o (λ p. IsFoundIn p (slice_index_or batch.records place blank) (slice_index_or batch.times place blank_time) batch.others place)
+    by_other None others = tt
+    by_other (Some p) others = found_in p batch.records batch.times count batch.others place others (omega (arith, are.few, long)) lt

@@ -6,10 +6,8 @@ mod PassedLines
 pub mod PieceRows
 pub mod PutBack
 pub mod Written
-pub mod MovedRows
 pub mod RowFaults
-pub mod Stated
-pub mod QuickRows
+pub mod KnownRows
 pub mod ShownRows
 pub mod Meant
 pub mod Answered

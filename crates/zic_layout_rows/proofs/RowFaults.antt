@@ -7,7 +7,6 @@ use Rattle.std.proofs.lemmas.Bool.{and_parts}
 use Rattle.std.proofs.lemmas.Int.{ints}
 use Rattle.zic_columns.specs.Own.{CsvRecord}
 use Rattle.zic_columns.specs.Quotes.{has_stray}
-use Rattle.zic_columns.specs.Record.{record_at}
 use Rattle.zic_columns.specs.Round.{may_have}
 use Rattle.zic_columns.specs.declared.fields.Record.{Record}
 use Rattle.zic_files.specs.File.{File}
@@ -21,7 +20,7 @@ use Rattle.zic_rows.specs.declared.limit.TheConstants.{FIRST_INSTANT, LAST_INSTA
 use Rattle.zic_zones.specs.Zones.{is_named, number_of, zone_in}
 use Rattle.zic_layout_rows.specs.LayoutRows.{admits_stray, has_right_quotes}
 use Rattle.zic_layout_rows.specs.Rows.{is_closed, is_row_instant}
-use Rattle.zic_layout_rows.specs.code.Batch.{fault_at, time_at, zone_at}
+use Rattle.zic_layout_rows.specs.code.Batch.{record_of, fault_at, time_at, zone_at}
 use Rattle.zic_layout_rows.specs.declared.piece.Piece.{Piece}
 
 none_before : (o : Option ℕ) → option_map (λ n. suc n) o ≡ None → o ≡ None
@@ -71,37 +70,37 @@ name_is files name n has_time some is =
 
 module _ (piece : Piece) (number : ℕ) (given : Record) (le : number ≤ piece.most) where
   -- it has too many bytes
-  pub too_long : may_have piece.layout.now.max_record (length (record_at piece.bytes.now given).own) ≡ false → fault_at piece number given ≡ Some kind.RowTooLong
+  pub too_long : may_have piece.layout.now.max_record (length (record_of piece given).own) ≡ false → fault_at piece number given ≡ Some kind.RowTooLong
   too_long long = rw (le-leb number piece.most le, long) refl
 
-  module _ (short : may_have piece.layout.now.max_record (length (record_at piece.bytes.now given).own) ≡ true) where
+  module _ (short : may_have piece.layout.now.max_record (length (record_of piece given).own) ≡ true) where
     -- its double quotes are wrong
-    pub wrong_quotes : has_right_quotes piece.layout.now.quotes 44 (record_at piece.bytes.now given) ≡ false → fault_at piece number given ≡ Some kind.RowQuote
+    pub wrong_quotes : has_right_quotes piece.layout.now.quotes piece.layout.now.delimiter (record_of piece given) ≡ false → fault_at piece number given ≡ Some kind.RowQuote
     wrong_quotes wrong = rw (le-leb number piece.most le, short, wrong) refl
 
-    module _ (closed : has_right_quotes piece.layout.now.quotes 44 (record_at piece.bytes.now given) ≡ true) (admits : has_count piece.layout.now.count (length (record_at piece.bytes.now given).fields) ≡ true) where
+    module _ (closed : has_right_quotes piece.layout.now.quotes piece.layout.now.delimiter (record_of piece given) ≡ true) (admits : has_count piece.layout.now.count (length (record_of piece given).fields) ≡ true) where
       -- its zone has no file
       pub zone_missing : zone_at piece given ≡ None → fault_at piece number given ≡ Some kind.RowZone
-      zone_missing none = rw (le-leb number piece.most le, short, closed, admits, unnamed piece.zones.now (zone_in piece.layout.now.zone (record_at piece.bytes.now given).fields) none) refl
+      zone_missing none = rw (le-leb number piece.most le, short, closed, admits, unnamed piece.zones.now (zone_in piece.layout.now.zone (record_of piece given).fields) none) refl
 
       module _ (n : ℕ) (zone : zone_at piece given ≡ Some n) where
         -- it has no instant
         pub time_missing : (fault : RowKind) → time_at piece given ≡ Err fault → fault_at piece number given ≡ Some fault
         time_missing fault none =
-            rw (le-leb number piece.most le, short, closed, admits, named piece.zones.now (zone_in piece.layout.now.zone (record_at piece.bytes.now given).fields) n zone, none) refl
+            rw (le-leb number piece.most le, short, closed, admits, named piece.zones.now (zone_in piece.layout.now.zone (record_of piece given).fields) n zone, none) refl
 
         module _ (c : ℤ) (count : time_at piece given ≡ Ok c) where
           -- its instant is out of range
           pub out_of_range : is_row_instant (Some (second_of piece.layout.now.unit c)) ≡ false
               → fault_at piece number given ≡ Some kind.RowRange
           out_of_range out =
-              rw (le-leb number piece.most le, short, closed, admits, named piece.zones.now (zone_in piece.layout.now.zone (record_at piece.bytes.now given).fields) n zone, count, out) refl
+              rw (le-leb number piece.most le, short, closed, admits, named piece.zones.now (zone_in piece.layout.now.zone (record_of piece given).fields) n zone, count, out) refl
 
           -- or it has no fault
           pub no_fault : is_row_instant (Some (second_of piece.layout.now.unit c)) ≡ true
               → fault_at piece number given ≡ None
           no_fault may =
-              rw (le-leb number piece.most le, short, closed, admits, named piece.zones.now (zone_in piece.layout.now.zone (record_at piece.bytes.now given).fields) n zone, count, may) refl
+              rw (le-leb number piece.most le, short, closed, admits, named piece.zones.now (zone_in piece.layout.now.zone (record_of piece given).fields) n zone, count, may) refl
 
 -- a row may have an instant that passes the check
 pub row_may : (t : ℤ) → is_row_instant (Some t) ≡ true → IsRowInstant t
@@ -126,18 +125,15 @@ open_counted : (fields : List (List ℕ)) → length fields ≡ 0 → is_closed 
 open_counted [] none = refl
 open_counted (field ∷ fields) none = absurd (omega (arith, none))
 
--- the double quotes of a closed record
-pub closed_quotes : (by : Quotes) (row_record : CsvRecord) (stray : Bool) → is_closed row_record.fields ≡ true → stray ≡ has_stray 44 row_record.own → admits_stray by stray ≡ true
-    → has_right_quotes by 44 row_record ≡ true
-closed_quotes by row_record stray closed is admits = rw closed (ap (admits_stray by) (sym is) ∙ admits)
+module _ (by : Quotes) (delimiter : ℕ) (row_record : CsvRecord) where
+  -- the double quotes of a record with fields
+  pub right_counted : (stray : Bool) → (length row_record.fields ≡ 0 → ⊥) → stray ≡ has_stray delimiter row_record.own → admits_stray by stray ≡ true → has_right_quotes by delimiter row_record ≡ true
+  right_counted stray some is admits = rw (closed_counted row_record.fields some) (ap (admits_stray by) (sym is) ∙ admits)
 
-pub right_counted : (by : Quotes) (row_record : CsvRecord) (stray : Bool) → (length row_record.fields ≡ 0 → ⊥) → stray ≡ has_stray 44 row_record.own → admits_stray by stray ≡ true
-    → has_right_quotes by 44 row_record ≡ true
-right_counted by row_record stray some is admits = closed_quotes by row_record stray (closed_counted row_record.fields some) is admits
+  -- of one without
+  pub open_wrong : length row_record.fields ≡ 0 → has_right_quotes by delimiter row_record ≡ false
+  open_wrong none = rw (open_counted row_record.fields none) refl
 
-pub open_wrong : (by : Quotes) (row_record : CsvRecord) → length row_record.fields ≡ 0 → has_right_quotes by 44 row_record ≡ false
-open_wrong by row_record none = rw (open_counted row_record.fields none) refl
-
-pub stray_wrong : (by : Quotes) (row_record : CsvRecord) (stray : Bool) → stray ≡ has_stray 44 row_record.own → admits_stray by stray ≡ false → has_right_quotes by 44 row_record ≡ false
-stray_wrong by row_record stray is refused =
-    ap (λ (b : Bool). is_closed row_record.fields && b) (ap (admits_stray by) (sym is) ∙ refused) ∙ and-false (is_closed row_record.fields)
+  -- and stray ones
+  pub stray_wrong : (stray : Bool) → stray ≡ has_stray delimiter row_record.own → admits_stray by stray ≡ false → has_right_quotes by delimiter row_record ≡ false
+  stray_wrong stray is refused = ap (λ (b : Bool). is_closed row_record.fields && b) (ap (admits_stray by) (sym is) ∙ refused) ∙ and-false (is_closed row_record.fields)

@@ -1,44 +1,53 @@
 -- Rows that are written as a layout says.
-use Rattle.std.proofs.Common.{◌≡◌, ◌+◌, ℕ, List, [], ◌∷◌, Option, Some, None, sym, subst}
+use Rattle.std.proofs.Common.{◌≡◌, ℕ, List, Option, Result, Ok, Err, refl, sym, subst}
 use Rattle.zic_base.specs.declared.row_fault.RowKind.{RowKind}
-use Rattle.zic_columns.specs.Own.{CsvRecord}
+use Rattle.zic_columns.specs.declared.fields.Record.{Record}
 use Rattle.zic_files.specs.File.{File}
-use Rattle.zic_plan.specs.declared.layout.Layout.{Layout}
 use Rattle.zic_plan.specs.declared.layout.Written.{Written}
 use Rattle.zic_plan.specs.declared.layout.Written.TheVariants as written
-use Rattle.zic_zones.specs.Zones.{alone}
-use Rattle.zic_layout_rows.specs.LayoutRows.{IsWrittenAt, RecordsConvertBy, ends_by}
-use Rattle.zic_layout_rows.specs.PieceRows.{AreRowsOf, RowsOf}
-use Rattle.zic_layout_rows.specs.code.Moved.{with_old}
-use Rattle.zic_layout_rows.specs.code.Row.{AreNext, AreNextBy, IsNextBy}
-use Rattle.zic_layout_rows.proofs.NextRows.{IsNextAt}
+use Rattle.std.specs.Prelude.{IfOk}
+use Rattle.zic_layout_rows.specs.LayoutRows.{IsAnswer, IsAnswerAt, IsRowAt, IsRowBy, IsWrittenAt, IsWrittenBy, faulty_text, old_files}
+use Rattle.zic_layout_rows.specs.code.Answer.{IsAnswerOf, IsAnswered, IsRowOf, IsShownRow, IsWrittenOf}
+use Rattle.zic_layout_rows.specs.code.Batch.{record_of}
+use Rattle.zic_layout_rows.specs.code.Row.{by_both}
+use Rattle.zic_layout_rows.specs.declared.answer.Answer.{Answer}
+use Rattle.zic_layout_rows.specs.declared.piece.Piece.{Piece}
+use Rattle.zic_layout_rows.proofs.ShownRows.{shown_text}
 
-module _ (layout : Layout) (files : List File) (most : ℕ) (all : layout.written ≡ written.All) where
-  -- where each row is written, so is the next
-  pub next_written : (number : ℕ) (row_record : CsvRecord) (old new : RowsOf) → AreNext layout files most number row_record old new → AreNextBy layout (alone files) most number row_record old new
-  next_written number row_record old new next = by_end (ends_by layout files most number row_record) next where
-    by_end : (end : Option RowKind) → IsNextAt layout files most number row_record old new end → IsNextBy layout (alone files) most number row_record old new end
-    by_end None is = (is.0, subst (λ (w : Written). IsWrittenAt w layout (alone files) most number row_record is.0) (sym all) is.1, is.2)
-    by_end (Some kind) is = is
+-- a record with an answer or a fault has a row
+pub has_row : (piece : Piece) (given : Record) (answer : Result Answer RowKind) → IfOk answer (IsShownRow piece given) → (row : List ℕ) × IsRowOf piece given answer row
+has_row piece given (Ok answer) shown = shown_text piece given answer shown
+has_row piece given (Err kind) shown = (faulty_text piece.layout.now kind (record_of piece given), refl)
 
-  -- and it doesn't matter what another release answers
-  come_with : (old : Option (List File)) (number : ℕ) (row_records : List CsvRecord) (texts : List (List ℕ)) (fault : Option RowKind)
-      → RecordsConvertBy layout (alone files) most number row_records texts fault → RecordsConvertBy layout (with_old files old) most number row_records texts fault
-  come_with old number [] texts fault come = come
-  come_with old number (w ∷ row_records) [] fault come = come
-  come_with old number (w ∷ row_records) (text ∷ texts) fault come =
-      let here = subst (λ (by : Written). IsWrittenAt by layout (alone files) most number w text) all come.1 in (
-        come.0,
-        subst (λ (by : Written). IsWrittenAt by layout (with_old files old) most number w text) (sym all) here,
-        come_with old (number + 1) row_records texts fault come.2,
-      )
+module _ (piece : Piece) (number : ℕ) (given : Record) where
+  -- its row, by the answer or the fault that it has as the row of a number
+  row_by : (answer : Result Answer RowKind) → IsAnswered piece number given answer → (row : List ℕ) → IsRowOf piece given answer row
+      → IsRowBy piece.layout.now piece.zones.now piece.most number (record_of piece given) row
+  row_by (Ok answer) is row of = subst (λ (o : Option RowKind). IsRowAt piece.layout.now piece.zones.now o (record_of piece given) row) (sym is.0) of
+  row_by (Err kind) is row of = subst (λ (o : Option RowKind). IsRowAt piece.layout.now piece.zones.now o (record_of piece given) row) (sym is) of
 
-  pub rows_with : (old : Option (List File)) (first : ℕ) (row_records : List CsvRecord) (rows : RowsOf)
-      → AreRowsOf layout (alone files) most first row_records rows → AreRowsOf layout (with_old files old) most first row_records rows
-  rows_with old first row_records rows are = record {
-    texts = are.texts;
-    come = come_with old first row_records are.texts rows.fault are.come;
-    text = are.text;
-    count = are.count;
-    faults = are.faults;
-  }
+  -- and the text of its answer
+  pub answer_by : (answer : Result Answer RowKind) → IsAnswered piece number given answer → (text : List ℕ) → IsAnswerOf piece given answer text
+      → IsAnswer piece.layout.now piece.zones.now piece.most number (record_of piece given) text
+  answer_by (Ok answer) is text of = subst (λ (o : Option RowKind). IsAnswerAt piece.layout.now piece.zones.now o (record_of piece given) text) (sym is.0) of
+  answer_by (Err kind) is text of = subst (λ (o : Option RowKind). IsAnswerAt piece.layout.now piece.zones.now o (record_of piece given) text) (sym is) of
+
+  module _ (answer : Result Answer RowKind) (is : IsAnswered piece number given answer) (old : Option (List File)) (other row : List ℕ) where
+    written_at : (by : Written) → (by ≡ written.Moved → IsAnswer piece.layout.now (old_files old) piece.most number (record_of piece given) other)
+        → IsWrittenOf by piece given answer other row → IsWrittenAt by piece.layout.now (by_both piece old) piece.most number (record_of piece given) row
+    written_at written.All others of = row_by answer is row of
+    written_at written.Moved others of = record {
+      row = of.whole;
+      by = row_by answer is of.whole of.is_row;
+      answer = of.own;
+      answers = answer_by answer is of.own of.is_own;
+      other = other;
+      others = others refl;
+      same = of.same;
+      moved = of.moved;
+    }
+
+    -- what is written of it
+    pub written_by : (piece.layout.now.written ≡ written.Moved → IsAnswer piece.layout.now (old_files old) piece.most number (record_of piece given) other)
+        → IsWrittenOf piece.layout.now.written piece given answer other row → IsWrittenBy piece.layout.now (by_both piece old) piece.most number (record_of piece given) row
+    written_by others of = written_at piece.layout.now.written others of

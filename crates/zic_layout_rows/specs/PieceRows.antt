@@ -1,17 +1,12 @@
 -- The rows of a piece of a column.
-use Rattle.std.specs.Prelude.{◌≡◌, ℕ, List, [], length, map, Option, None}
+use Rattle.std.specs.Prelude.{◌≡◌, ℕ, List, [], length, Option, None}
 use Rattle.std.specs.List.{concat}
-use Rattle.zic_columns.specs.Lines.{exchanged_record}
-use Rattle.zic_columns.specs.Own.{CsvRecord, csv_records}
+use Rattle.zic_columns.specs.Own.{CsvRecord}
 use Rattle.zic_plan.specs.declared.layout.Layout.{Layout}
 use Rattle.zic_plan.specs.Noted.{RowNote}
 use Rattle.zic_base.specs.declared.row_fault.RowKind.{RowKind}
 use Rattle.zic_zones.specs.declared.releases.Releases.{Releases}
 use Rattle.zic_layout_rows.specs.LayoutRows.{RecordsConvertBy, faults_by}
-
--- the records of bytes in which the comma and the delimiter stand in each other's place, with the two put back
-abbrev pub csv_records_in : ℕ → List ℕ → List CsvRecord
-csv_records_in delimiter bytes = map (exchanged_record delimiter) (csv_records bytes)
 
 -- the text of some rows, how many there are, the fault of the row after them that ends the run, or none, and the faults that they have
 pub record RowsOf : Type 0 where

@@ -1,15 +1,14 @@
 //! Rows with a fault.
 
-ghost use Rattle.zic_columns.specs.Lines.{exchanged_record};
 ghost use Rattle.std.specs.Prelude.{◌≡◌, ◌∷◌, ◌++◌, ◌≤◌, [], IsTrue, IfOk, OnOk, Some, None};
 ghost use Rattle.std.specs.Prelude.{false, length, take, drop, map};
 ghost use Rattle.csv.specs.Writing.{default_writer, row_text, with_delimiter};
 ghost use Rattle.zic_columns.specs.Exchange.{exchanged};
-ghost use Rattle.zic_columns.specs.Record.{IsSplit, IsWithinPiece, field_text, record_at};
+ghost use Rattle.zic_columns.specs.Record.{IsWithinPiece, field_text};
 ghost use Rattle.zic_plan.specs.declared.layout.RowStart.TheVariants as start;
 ghost use Rattle.zic_zones.specs.Zones.{field_at, zone_in};
 ghost use Rattle.zic_layout_rows.specs.LayoutRows.{answered, ending, faulty_text, if_rejected, marked_text, timeless_text};
-ghost use Rattle.zic_layout_rows.specs.code.Batch.{wanted_by};
+ghost use Rattle.zic_layout_rows.specs.code.Batch.{IsGiven, record_of};
 
 use crate::piece::Piece;
 use csv::WriterBuilder;
@@ -45,7 +44,7 @@ pub fn put_back(text: &mut Vec<u8>, start: usize, delimiter: u8)
     }
 }
 
-/// Copies the text of a field, in which the delimiter and commas are put back in their places.
+/// Copies the text of a field.
 pub(crate) fn copy_field(
     alloc: Global,
     piece: &Piece<'_, '_>,
@@ -53,23 +52,22 @@ pub(crate) fn copy_field(
 ) -> Result<Vec<u8>, AllocError>
     requires { IsWithinPiece piece.now.bytes.now field }
     ensures { IfOk result (λ copy. copy.items
-        ≡ exchanged piece.now.layout.now.delimiter (field_text piece.now.bytes.now field)) }
+        ≡ field_text piece.now.layout.now.delimiter piece.now.bytes.now field) }
 {
     let mut copy = Vec::new(alloc);
-    push_field(&mut copy, piece.bytes, field)?;
-    exchange(&mut copy, piece.layout.delimiter.byte());
+    push_field(&mut copy, piece.bytes, field, &piece.layout.delimiter)?;
     Ok(copy)
 }
 
-/// Copies the name of a record's zone, as [`copy_field`] does a field.
+/// Copies the name of a record's zone.
 pub(crate) fn copy_zone(
     alloc: Global,
     piece: &Piece<'_, '_>,
     given: &Record,
 ) -> Result<Vec<u8>, AllocError>
-    requires { IsSplit piece.now.bytes.now (wanted_by piece.now.layout.now) given.now }
+    requires { IsGiven piece.now given.now }
     ensures { IfOk result (λ copy. copy.items ≡ zone_in piece.now.layout.now.zone
-        (exchanged_record piece.now.layout.now.delimiter (record_at piece.now.bytes.now given.now)).fields) }
+        (record_of piece.now given.now).fields) }
 {
     match &piece.layout.zone {
         ZoneFrom::Field(_) => copy_field(alloc, piece, given.zone),
@@ -77,15 +75,14 @@ pub(crate) fn copy_zone(
     }
 }
 
-/// Copies the field of a record's time, as [`copy_field`] does a field.
+/// Copies the field of a record's time.
 pub(crate) fn copy_time(
     alloc: Global,
     piece: &Piece<'_, '_>,
     given: &Record,
 ) -> Result<Vec<u8>, AllocError>
-    requires { IsSplit piece.now.bytes.now (wanted_by piece.now.layout.now) given.now }
-    ensures { IfOk result (λ copy. copy.items ≡ field_at (exchanged_record piece.now.layout.now.delimiter
-        (record_at piece.now.bytes.now given.now)).fields piece.now.layout.now.time) }
+    requires { IsGiven piece.now given.now }
+    ensures { IfOk result (λ copy. copy.items ≡ field_at (record_of piece.now given.now).fields piece.now.layout.now.time) }
 {
     copy_field(alloc, piece, given.time)
 }
@@ -120,9 +117,9 @@ pub(crate) fn answered(style: Style, from: TimeFrom) -> usize
 
 /// Returns the row of a record by its fields, without local time.
 fn timeless_row(alloc: Global, piece: &Piece<'_, '_>, given: &Record) -> Result<Vec<u8>, AllocError>
-    requires { IsSplit piece.now.bytes.now (wanted_by piece.now.layout.now) given.now }
+    requires { IsGiven piece.now given.now }
     ensures { IfOk result (λ row. row.items ≡ timeless_text start.Fields piece.now.layout.now
-        (exchanged_record piece.now.layout.now.delimiter (record_at piece.now.bytes.now given.now))) }
+        (record_of piece.now given.now)) }
 {
     let name = copy_zone(alloc, piece, given)?;
     let field = copy_time(alloc, piece, given)?;
@@ -135,37 +132,25 @@ fn timeless_row(alloc: Global, piece: &Piece<'_, '_>, given: &Record) -> Result<
     }
 }
 
-/// Appends a row of the own bytes of a record and some commas, in which the delimiter and commas
-/// are put back in their places.
-pub fn push_own(
-    text: &mut Vec<u8>,
-    own: &[u8],
-    commas: &[u8],
-    delimiter: u8,
-) -> Result<(), AllocError>
-    ensures { OnOk result (text.new.items
-        ≡ text.old.items ++ (exchanged delimiter (own.now ++ commas.now) ++ 10 ∷ [])) }
+/// Appends a row of the own bytes of a record and some delimiters.
+pub fn push_own(text: &mut Vec<u8>, own: &[u8], delimiters: &[u8]) -> Result<(), AllocError>
+    ensures { OnOk result
+        (text.new.items ≡ text.old.items ++ (own.now ++ delimiters.now ++ 10 ∷ [])) }
 {
-    let start = text.len();
     text.extend_from_slice(own)?;
-    text.extend_from_slice(commas)?;
-    put_back(text, start, delimiter);
+    text.extend_from_slice(delimiters)?;
     text.push(b'\n')?;
     Ok(())
 }
 
-/// Copies the own bytes of a faulty record, with the delimiter and commas swapped back, if it is
-/// rejected. Returns no bytes if it isn't.
+/// Copies the own bytes of a faulty record, if it is rejected. Returns no bytes if it isn't.
 pub fn rejected_bytes(alloc: Global, layout: &Layout, own: &[u8]) -> Result<Vec<u8>, AllocError>
-    ensures { IfOk result (λ copy. copy.items
-        ≡ if_rejected layout.now.at_fault (exchanged layout.now.delimiter own.now)) }
+    ensures { IfOk result (λ copy. copy.items ≡ if_rejected layout.now.at_fault own.now) }
 {
-    let mut copy = Vec::new(alloc);
-    if layout.at_fault == AtFault::Reject {
-        copy.extend_from_slice(own)?;
-        put_back(&mut copy, 0, layout.delimiter.byte());
+    match layout.at_fault {
+        AtFault::Reject => Vec::from_slice(alloc, own),
+        AtFault::End | AtFault::GoOn => Ok(Vec::new(alloc)),
     }
-    Ok(copy)
 }
 
 /// Appends the row of a record with a fault that is written, as [`push_faulty`] does.
@@ -176,25 +161,23 @@ fn push_marked(
     kind: RowKind,
     given: &Record,
 ) -> Result<(), AllocError>
-    requires { IsSplit piece.now.bytes.now (wanted_by piece.now.layout.now) given.now }
+    requires { IsGiven piece.now given.now }
     ensures { OnOk result (text.new.items ≡ text.old.items ++ marked_text piece.now.layout.now kind
-        (exchanged_record piece.now.layout.now.delimiter (record_at piece.now.bytes.now given.now))) }
+        (record_of piece.now given.now)) }
 {
-    let delimiter = piece.layout.delimiter.byte();
     let own = given.own.of(piece.bytes);
     if matches!(
         kind,
         RowKind::RowFields | RowKind::RowQuote | RowKind::RowTooLong
     ) {
-        return push_own(text, own, b"", delimiter);
+        return push_own(text, own, b"");
     }
     match piece.layout.start {
-        RowStart::Record => match (piece.layout.style, piece.layout.from) {
-            (Style::Iso, TimeFrom::Count | TimeFrom::Rfc3339) => {
-                push_own(text, own, b",,,", delimiter)
-            }
-            _ => push_own(text, own, b",,,,", delimiter),
-        },
+        RowStart::Record => {
+            let empty = [piece.layout.delimiter.byte(); 4];
+            let fields = answered(piece.layout.style, piece.layout.from);
+            push_own(text, own, &empty[..fields])
+        }
         RowStart::Fields => {
             let row = timeless_row(alloc, piece, given)?;
             text.extend_from_slice(&row)
@@ -202,9 +185,8 @@ fn push_marked(
     }
 }
 
-/// Appends the row of a record with a fault, unless the record is rejected. The record has the
-/// delimiter and the comma in each other's place. Where memory runs out, a part of the row may be
-/// there.
+/// Appends the row of a record with a fault, unless the record is rejected. Where memory runs out, a part
+/// of the row may be there.
 pub(crate) fn push_faulty(
     alloc: Global,
     text: &mut Vec<u8>,
@@ -212,9 +194,9 @@ pub(crate) fn push_faulty(
     kind: RowKind,
     given: &Record,
 ) -> Result<(), AllocError>
-    requires { IsSplit piece.now.bytes.now (wanted_by piece.now.layout.now) given.now }
+    requires { IsGiven piece.now given.now }
     ensures { OnOk result (text.new.items ≡ text.old.items ++ faulty_text piece.now.layout.now kind
-        (exchanged_record piece.now.layout.now.delimiter (record_at piece.now.bytes.now given.now))) }
+        (record_of piece.now given.now)) }
 {
     match piece.layout.at_fault {
         AtFault::Reject => Ok(()),

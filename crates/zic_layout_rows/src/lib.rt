@@ -2,18 +2,18 @@
 #![tactic(auto)]
 
 mod answer;
+mod answers;
 mod batch;
 mod faulty;
 mod lookup;
 mod moved;
 mod note;
-mod only;
 mod piece;
-mod quick;
 mod row;
-mod shown;
+mod search;
 mod start;
 mod text;
+mod time;
 
 pub use faulty::{ends_run, push_own, put_back, rejected_bytes};
 pub use piece::{Piece, rows_of_piece};

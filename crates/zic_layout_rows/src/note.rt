@@ -1,12 +1,10 @@
 //! What is noted of a row with a fault.
 
 ghost use Rattle.std.specs.Prelude.{◌≡◌, ◌≤◌, ℕ, List, length, IfOk};
-ghost use Rattle.zic_columns.specs.Exchange.{exchanged};
-ghost use Rattle.zic_columns.specs.Lines.{exchanged_record};
-ghost use Rattle.zic_columns.specs.Record.{IsSplit, bytes_at, record_at};
+ghost use Rattle.zic_columns.specs.Record.{bytes_at};
 ghost use Rattle.zic_layout_rows.specs.Detail.{line_feeds_before, value_at_fault};
 ghost use Rattle.zic_layout_rows.specs.LayoutRows.{if_rejected};
-ghost use Rattle.zic_layout_rows.specs.code.Batch.{wanted_by};
+ghost use Rattle.zic_layout_rows.specs.code.Batch.{IsGiven, record_of};
 ghost use Rattle.zic_layout_rows.specs.code.Note.{ArePassed, IsNotedOf};
 
 use crate::faulty::{copy_time, copy_zone, rejected_bytes};
@@ -52,17 +50,17 @@ impl LinesPassed {
     }
 }
 
-/// Returns the field of a record that a fault is of, without double quotes, and with the delimiter and
-/// commas put back in their places. Returns no bytes where the fault isn't of one field.
+/// Returns the field of a record that a fault is of, without double quotes. Returns no bytes where the
+/// fault isn't of one field.
 fn value_at_fault(
     alloc: Global,
     piece: &Piece<'_, '_>,
     given: &Record,
     kind: RowKind,
 ) -> Result<Vec<u8>, AllocError>
-    requires { IsSplit piece.now.bytes.now (wanted_by piece.now.layout.now) given.now }
+    requires { IsGiven piece.now given.now }
     ensures { IfOk result (λ value. value.items ≡ value_at_fault piece.now.layout.now kind
-        (exchanged_record piece.now.layout.now.delimiter (record_at piece.now.bytes.now given.now))) }
+        (record_of piece.now given.now)) }
 {
     match kind {
         RowKind::RowZone => copy_zone(alloc, piece, given),
@@ -87,7 +85,7 @@ fn detail_of(
     kind: RowKind,
     passed: &mut LinesPassed,
 ) -> Result<Option<FaultDetail>, AllocError>
-    requires { IsSplit piece.now.bytes.now (wanted_by piece.now.layout.now) given.now }
+    requires { IsGiven piece.now given.now }
     ensures { IfOk result
         (IsNotedOf piece.now given.now kind passed.old piece.now.lines_before) }
 {
@@ -103,8 +101,8 @@ fn detail_of(
 }
 
 /// Returns what is noted of a record with a fault: its own bytes where it is rejected, how its line
-/// ends, and its line and the field at fault where details are noted. The record has the delimiter and the
-/// comma in each other's place. Lines are counted on from the ones that were passed before.
+/// ends, and its line and the field at fault where details are noted. Lines are counted on from the ones
+/// that were passed before.
 pub(crate) fn note_of(
     alloc: Global,
     piece: &Piece<'_, '_>,
@@ -112,11 +110,10 @@ pub(crate) fn note_of(
     fault: RowFault,
     passed: &mut LinesPassed,
 ) -> Result<FaultyRow, AllocError>
-    requires { IsSplit piece.now.bytes.now (wanted_by piece.now.layout.now) given.now }
+    requires { IsGiven piece.now given.now }
     ensures { IfOk result (λ row. row ≡ record {
       fault = fault;
-      own = if_rejected piece.now.layout.now.at_fault (exchanged piece.now.layout.now.delimiter
-          (bytes_at piece.now.bytes.now given.now.own));
+      own = if_rejected piece.now.layout.now.at_fault (bytes_at piece.now.bytes.now given.now.own);
     }) }
 {
     let own = rejected_bytes(alloc, piece.layout, given.own.of(piece.bytes))?;

@@ -1,19 +1,20 @@
 //! What rows begin with.
 
-ghost use Rattle.std.specs.Prelude.{◌≡◌, ◌++◌, ◌∷◌, [], IfOk, IsTrue, OnOk, Some};
+ghost use Rattle.std.specs.Prelude.{◌≡◌, ◌≤◌, ◌++◌, ◌∷◌, [], ℕ, IfOk, IsTrue, List, OnOk, Some, length};
 ghost use Rattle.std.specs.Fmt.{signed_decimal};
-ghost use Rattle.zic_columns.specs.Record.{IsSplit, IsWithin, bytes_at, field_text, record_at};
+ghost use Rattle.zic_columns.specs.Record.{IsWithin, bytes_at, field_text};
 ghost use Rattle.zic_zones.specs.Zones.{zone_in};
-ghost use Rattle.zic_layout_rows.specs.LayoutRows.{input_text};
-ghost use Rattle.zic_layout_rows.specs.code.Batch.{IsCountFor, IsInput, IsPlain, input_in, wanted_by, zone_at};
-ghost use Rattle.zic_layout_rows.specs.code.Row.{field_start};
+ghost use Rattle.zic_columns.specs.Exchange.{exchanged};
+ghost use Rattle.zic_layout_rows.specs.LayoutRows.{beginning, input_text};
+ghost use Rattle.zic_layout_rows.specs.code.Batch.{IsCountFor, IsGiven, IsInput, IsPlain, input_in, record_of, zone_at};
+ghost use Rattle.zic_layout_rows.specs.code.Row.{input_of, put_from};
 
 use crate::piece::Piece;
 use itoa::Buffer;
 use std::alloc::AllocError;
 use zic_columns::{Field, Record, Span};
 use zic_plan::{Layout, RowStart, TimeFrom, ZoneFrom};
-use zic_rows::RowText;
+use zic_rows::{RowText, RowTime, count_from};
 
 /// No bytes of a piece.
 pub(crate) const NOWHERE: Span = Span { start: 0, end: 0 };
@@ -25,13 +26,27 @@ pub(crate) enum Input {
     Count(i128),
 }
 
+/// Returns what a row has of the time in the field of its record: the field as it is, where that has
+/// decimals, or else the text of the time's count.
+#[inline(always)]
+pub(crate) fn input_of(layout: &Layout, time: RowTime) -> Input
+    ensures { result ≡ input_of layout.now.from time }
+{
+    match layout.from {
+        TimeFrom::Count => Input::Field,
+        TimeFrom::Rfc3339 | TimeFrom::Local(_) => {
+            Input::Count(count_from(time.second, time.fraction, time.unit))
+        }
+    }
+}
+
 /// Returns whether the own bytes of a record are the name of its zone, a comma, and its time.
 #[inline(always)]
 fn begins_row(piece: &Piece<'_, '_>, given: &Record, time: Span) -> bool
-    requires split { IsSplit piece.now.bytes.now (wanted_by piece.now.layout.now) given.now }
+    requires split { IsGiven piece.now given.now }
     requires time { IsWithin piece.now.bytes.now time }
     ensures { IsTrue result → bytes_at piece.now.bytes.now given.now.own
-        ≡ zone_in piece.now.layout.now.zone (record_at piece.now.bytes.now given.now).fields
+        ≡ zone_in piece.now.layout.now.zone (record_of piece.now given.now).fields
         ++ 44 ∷ bytes_at piece.now.bytes.now time }
 {
     let (ZoneFrom::Field(_), Field::Plain(zone)) = (&piece.layout.zone, given.zone) else {
@@ -53,10 +68,10 @@ fn push_zone(
     given: &Record,
     file: usize,
 ) -> Result<(), AllocError>
-    requires split { IsSplit piece.now.bytes.now (wanted_by piece.now.layout.now) given.now }
+    requires split { IsGiven piece.now given.now }
     requires file { zone_at piece.now given.now ≡ Some file }
     ensures { OnOk result (text.new ≡ text.old ++ (zone_in piece.now.layout.now.zone
-        (record_at piece.now.bytes.now given.now).fields ++ 44 ∷ [])) }
+        (record_of piece.now given.now).fields ++ 44 ∷ [])) }
 {
     if let (ZoneFrom::Field(_), Field::Plain(zone)) = (&piece.layout.zone, given.zone) {
         return text.push_field(piece.bytes, zone.start, zone.end);
@@ -75,13 +90,13 @@ fn push_given(
     given: &Record,
     file: usize,
 ) -> Result<Span, AllocError>
-    requires split { IsSplit piece.now.bytes.now (wanted_by piece.now.layout.now) given.now }
+    requires split { IsGiven piece.now given.now }
     requires file { zone_at piece.now given.now ≡ Some file }
     requires plain { IsPlain given.now.time }
     ensures within_bytes { IfOk result (IsWithin piece.now.bytes.now) }
     ensures text { IfOk result (λ span. text.new ++ bytes_at piece.now.bytes.now span ≡ text.old
-        ++ (zone_in piece.now.layout.now.zone (record_at piece.now.bytes.now given.now).fields
-        ++ 44 ∷ field_text piece.now.bytes.now given.now.time)) }
+        ++ (zone_in piece.now.layout.now.zone (record_of piece.now given.now).fields
+        ++ 44 ∷ field_text piece.now.layout.now.delimiter piece.now.bytes.now given.now.time)) }
 {
     let Field::Plain(time) = given.time else {
         unreachable!()
@@ -113,29 +128,32 @@ fn push_input(text: &mut RowText, layout: &Layout, count: i128) -> Result<(), Al
     push_decimals(text, count)
 }
 
-/// Appends what the row of a record begins with, with commas, but for the last part, where that is to
-/// be copied from the piece. Returns where that part stands.
+/// Where the last part of what a row begins with is to be copied from, and the index of the text from
+/// which on commas stand for the delimiter.
+#[derive(Clone, Copy, Drop)]
+pub(crate) struct Begun {
+    pub(crate) last: Span,
+    pub(crate) commas: usize,
+}
+
+/// Appends what the row of a record begins with by its fields, with commas, but for the last part, where
+/// that is to be copied from the piece. Returns where that part stands.
 #[inline(always)]
-pub(crate) fn push_start(
+fn push_fields(
     text: &mut RowText,
     piece: &Piece<'_, '_>,
     given: &Record,
     file: usize,
     input: Input,
 ) -> Result<Span, AllocError>
-    requires split { IsSplit piece.now.bytes.now (wanted_by piece.now.layout.now) given.now }
+    requires split { IsGiven piece.now given.now }
     requires file { zone_at piece.now given.now ≡ Some file }
     requires input { IsInput piece.now given.now input }
     ensures within_bytes { IfOk result (IsWithin piece.now.bytes.now) }
-    ensures text { IfOk result (λ span. text.new ++ bytes_at piece.now.bytes.now span
-        ≡ text.old ++ field_start piece.now.layout.now.start
-        (bytes_at piece.now.bytes.now given.now.own)
-        (zone_in piece.now.layout.now.zone (record_at piece.now.bytes.now given.now).fields)
-        (input_in piece.now given.now input)) }
+    ensures text { IfOk result (λ span. text.new ++ bytes_at piece.now.bytes.now span ≡ text.old
+        ++ (zone_in piece.now.layout.now.zone (record_of piece.now given.now).fields
+        ++ 44 ∷ input_in piece.now given.now input)) }
 {
-    if let RowStart::Record = piece.layout.start {
-        return Ok(given.own);
-    }
     match input {
         Input::Field => push_given(text, piece, given, file),
         Input::Count(count) => {
@@ -144,4 +162,45 @@ pub(crate) fn push_start(
             Ok(NOWHERE)
         }
     }
+}
+
+/// Appends what the row of a record begins with, but for the last part, where that is to be copied from
+/// the piece.
+#[inline(always)]
+pub(crate) fn push_start(
+    text: &mut RowText,
+    piece: &Piece<'_, '_>,
+    given: &Record,
+    file: usize,
+    input: Input,
+) -> Result<Begun, AllocError>
+    requires split { IsGiven piece.now given.now }
+    requires file { zone_at piece.now given.now ≡ Some file }
+    requires input { IsInput piece.now given.now input }
+    ensures within_bytes { IfOk result (λ begun. IsWithin piece.now.bytes.now begun.last) }
+    ensures commas { IfOk result (λ begun.
+        begun.commas ≤ length (text.new ++ bytes_at piece.now.bytes.now begun.last)) }
+    ensures text { IfOk result (λ begun. (rest : List ℕ)
+        → put_from piece.now.layout.now.delimiter begun.commas
+        (text.new ++ (bytes_at piece.now.bytes.now begun.last ++ rest)) ≡ text.old
+        ++ (beginning piece.now.layout.now.start piece.now.layout.now.delimiter
+        (bytes_at piece.now.bytes.now given.now.own)
+        (zone_in piece.now.layout.now.zone (record_of piece.now given.now).fields)
+        (input_in piece.now given.now input)
+        ++ exchanged piece.now.layout.now.delimiter rest)) }
+{
+    let commas = text.len();
+    if let RowStart::Fields = piece.layout.start {
+        let last = push_fields(text, piece, given, file, input)?;
+        return Ok(Begun { last, commas });
+    }
+    if piece.layout.delimiter.byte() == b',' {
+        let last = given.own;
+        return Ok(Begun { last, commas });
+    }
+    text.push(given.own.of(piece.bytes))?;
+    Ok(Begun {
+        last: NOWHERE,
+        commas: text.len(),
+    })
 }

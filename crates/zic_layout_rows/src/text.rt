@@ -1,19 +1,20 @@
 //! The text of the row of a record.
 
-ghost use Rattle.std.specs.Prelude.{◌≡◌, ◌<◌, ◌≤◌, ◌++◌, List, OnOk, drop, length, take, ℕ};
-ghost use Rattle.zic_columns.specs.Exchange.{exchanged};
-ghost use Rattle.zic_columns.specs.Lines.{exchanged_record};
-ghost use Rattle.zic_columns.specs.Record.{IsSplit, IsWithin, bytes_at, record_at};
+ghost use Rattle.std.specs.Prelude.{◌≡◌, ◌<◌, ◌≤◌, ◌++◌, IfOk, List, OnOk, length, ℕ};
+ghost use Rattle.zic_columns.specs.Record.{IsWithin, bytes_at};
 ghost use Rattle.zic_rows.specs.Count.{units_of_second};
 ghost use Rattle.zic_rows.specs.Instant.{IsRowInstant};
 ghost use Rattle.zic_layout_rows.specs.LayoutRows.{IsTextBy};
-ghost use Rattle.zic_layout_rows.specs.code.Batch.{IsShownRow, wanted_by};
-ghost use Rattle.zic_layout_rows.specs.code.Row.{local_rest, rest_at};
+ghost use Rattle.zic_layout_rows.specs.code.Answer.{IsRowOf, IsShownRow};
+ghost use Rattle.zic_layout_rows.specs.code.Batch.{IsGiven, record_of};
+ghost use Rattle.zic_layout_rows.specs.code.Row.{local_rest, put_from, rest_at};
 
+use crate::answer::Answer;
+use crate::faulty::push_faulty;
 use crate::piece::Piece;
-use crate::quick::ShownRow;
-use crate::start::{Input, push_decimals, push_start};
-use std::alloc::AllocError;
+use crate::start::{push_decimals, push_start};
+use std::alloc::{AllocError, Global};
+use zic_base::RowKind;
 use zic_columns::{Record, Span};
 use zic_plan::{Style, TimeFrom};
 use zic_rows::{RowRest, RowText, RowTime, StateText, count_from};
@@ -22,7 +23,7 @@ use zic_rows::{RowRest, RowText, RowTime, StateText, count_from};
 #[inline(always)]
 pub(crate) fn put_back(text: &mut RowText, start: usize, delimiter: u8)
     requires { start ≤ length text.old }
-    ensures { text.new ≡ take start text.old ++ exchanged delimiter (drop start text.old) }
+    ensures { text.new ≡ put_from delimiter start text.old }
 {
     if delimiter != b',' {
         text.exchange(start, delimiter);
@@ -76,27 +77,45 @@ pub(crate) fn push_rest(
     text.push_row(piece.bytes, last.start, last.end, &rest)
 }
 
-/// Appends the text of the row of a record, with the delimiter put back. Where memory runs out, a part
-/// of the row may be there.
+/// Appends the text of the row of a record with this answer, with the delimiter put back. Where memory
+/// runs out, a part of the row may be there.
 #[inline(always)]
 pub(crate) fn push_row(
     text: &mut RowText,
     piece: &Piece<'_, '_>,
     given: &Record,
-    input: Input,
-    row: &ShownRow<'_>,
+    answer: &Answer<'_>,
 ) -> Result<(), AllocError>
-    requires split { IsSplit piece.now.bytes.now (wanted_by piece.now.layout.now) given.now }
-    requires row { IsShownRow piece.now given.now input row.now }
+    requires split { IsGiven piece.now given.now }
+    requires shown { IsShownRow piece.now given.now answer.now }
     ensures { OnOk result ((made : List ℕ) × (text.new ≡ text.old ++ made)
-        × IsTextBy piece.now.layout.now piece.now.zones.now (exchanged_record
-        piece.now.layout.now.delimiter (record_at piece.now.bytes.now given.now)) made) }
+        × IsTextBy piece.now.layout.now piece.now.zones.now (record_of piece.now given.now) made) }
 {
-    // The name of a file has no byte that can stand between fields.
-    piece.zones.are_sound();
-    let start = text.len();
-    let last = push_start(text, piece, given, row.file, input)?;
-    push_rest(text, piece, last, row.time, row.text)?;
-    put_back(text, start, piece.layout.delimiter.byte());
+    let begun = push_start(text, piece, given, answer.file, answer.input)?;
+    push_rest(text, piece, begun.last, answer.time, answer.state.text())?;
+    put_back(text, begun.commas, piece.layout.delimiter.byte());
     Ok(())
+}
+
+/// Appends the row of a record with this answer or fault: no row, where the record is rejected.
+pub(crate) fn push_any(
+    alloc: Global,
+    text: &mut RowText,
+    piece: &Piece<'_, '_>,
+    given: &Record,
+    answer: &Result<Answer<'_>, RowKind>,
+) -> Result<(), AllocError>
+    requires split { IsGiven piece.now given.now }
+    requires shown { IfOk answer.now (IsShownRow piece.now given.now) }
+    ensures { OnOk result ((row : List ℕ) × (text.new ≡ text.old ++ row)
+        × IsRowOf piece.now given.now answer.now row) }
+{
+    match answer {
+        Ok(answer) => push_row(text, piece, given, answer),
+        Err(kind) => {
+            let mut row = Vec::new(alloc);
+            push_faulty(alloc, &mut row, piece, *kind, given)?;
+            text.push(&row)
+        }
+    }
 }

@@ -29,42 +29,44 @@ abbrev pub wanted_at : ℕ → Wanted
 wanted_at index = record { zone = Some index; time = index }
 
 -- what was learnt of the records of a piece so far, and those that are left
-pub record LearnsPiece {T : Type 0} (replied : T → Option (List Reply)) (old now : TreeOf T) (piece : List ℕ) (index : ℕ) (splitting : Splitting) (count : ℕ) : Type 0 where
+pub record LearnsPiece {T : Type 0} (replied : T → Option (List Reply)) (old now : TreeOf T) (d : ℕ) (piece : List ℕ) (index : ℕ) (splitting : Splitting) (count : ℕ) : Type 0 where
   pub grown : Grows replied old now
+  pub delimiter_is : splitting.delimiter ≡ d
   pub piece_is : splitting.piece ≡ piece
   pub wanted : splitting.wanted ≡ wanted_at index
   pub done : List CsvRecord
-  pub parts : csv_records piece ≡ done ++ splitting.left
+  pub parts : csv_records d piece ≡ done ++ splitting.left
   pub known : All (IsKnown now.learnt) (map (name_in index) done)
   pub few : count ≤ BATCH
   pub end : count < BATCH → splitting.left ≡ []
 
 -- the names of records that were split
-names_split : (piece : List ℕ) (index : ℕ) (records : List Record) → All (IsSplit piece (wanted_at index)) records
-    → map (zone_text piece) records ≡ map (name_in index) (map (record_at piece) records)
-names_split piece index [] split = refl
-names_split piece index (given ∷ records) split =
-    let one = (All-head (IsSplit piece (wanted_at index)) given records split).zone in
-    let rest = names_split piece index records (All-tail (IsSplit piece (wanted_at index)) given records split) in
+names_split : (d : ℕ) (piece : List ℕ) (index : ℕ) (records : List Record) → All (IsSplit d piece (wanted_at index)) records
+    → map (zone_text d piece) records ≡ map (name_in index) (map (record_at d piece) records)
+names_split d piece index [] split = refl
+names_split d piece index (given ∷ records) split =
+    let one = (All-head (IsSplit d piece (wanted_at index)) given records split).zone in
+    let rest = names_split d piece index records (All-tail (IsSplit d piece (wanted_at index)) given records split) in
     λ k. one k ∷ rest k
 
 of_fields : (index : ℕ) (wholes : List CsvRecord) → map (name_in index) wholes ≡ map (λ (fields : List (List ℕ)). field_at fields index) (map (λ (w : CsvRecord). w.fields) wholes)
 of_fields index [] = refl
 of_fields index (w ∷ wholes) = ap (λ (l : List (List ℕ)). name_in index w ∷ l) (of_fields index wholes)
 
-module _ {T : Type 0} (replied : T → Option (List Reply)) (old : TreeOf T) (piece : List ℕ) (index : ℕ) where
-  module _ (now : TreeOf T) (splitting : Splitting) (count : ℕ) (far : LearnsPiece replied old now piece index splitting count) where
+module _ {T : Type 0} (replied : T → Option (List Reply)) (old : TreeOf T) (d : ℕ) (piece : List ℕ) (index : ℕ) where
+  module _ (now : TreeOf T) (splitting : Splitting) (count : ℕ) (far : LearnsPiece replied old now d piece index splitting count) where
     -- the next records of the piece
-    pub batch_done : (then : TreeOf T) (next : Splitting) (more : ℕ) (records : List Record) → next.piece ≡ splitting.piece → next.wanted ≡ splitting.wanted
-        → splitting.left ≡ map (record_at splitting.piece) records ++ next.left → All (IsSplit splitting.piece splitting.wanted) records → more ≤ BATCH → (more < BATCH → next.left ≡ [])
-        → Grows replied now then → All (IsKnown then.learnt) (map (zone_text piece) records) → LearnsPiece replied old then piece index next more
-    batch_done then next more records piece_is wanted split each few end grows known =
-        let wholes = map (record_at piece) records in
-        let split_here = subst (λ (p : List ℕ). splitting.left ≡ map (record_at p) records ++ next.left) far.piece_is split in
-        let each_here = subst (λ (w : Wanted). All (IsSplit piece w) records) far.wanted (subst (λ (p : List ℕ). All (IsSplit p splitting.wanted) records) far.piece_is each) in
-        let names = subst (All (IsKnown then.learnt)) (names_split piece index records each_here) known in
+    pub batch_done : (then : TreeOf T) (next : Splitting) (more : ℕ) (records : List Record) → next.delimiter ≡ splitting.delimiter → next.piece ≡ splitting.piece → next.wanted ≡ splitting.wanted
+        → splitting.left ≡ map (record_at splitting.delimiter splitting.piece) records ++ next.left → All (IsSplit splitting.delimiter splitting.piece splitting.wanted) records → more ≤ BATCH → (more < BATCH → next.left ≡ [])
+        → Grows replied now then → All (IsKnown then.learnt) (map (zone_text d piece) records) → LearnsPiece replied old then d piece index next more
+    batch_done then next more records delimiter_is piece_is wanted split each few end grows known =
+        let wholes = map (record_at d piece) records in
+        let split_here = rw (far.delimiter_is, far.piece_is) at split in
+        let each_here = rw (far.delimiter_is, far.piece_is, far.wanted) at each in
+        let names = subst (All (IsKnown then.learnt)) (names_split d piece index records each_here) known in
         record {
           grown = grows_then replied old now then far.grown grows;
+          delimiter_is = delimiter_is ∙ far.delimiter_is;
           piece_is = piece_is ∙ far.piece_is;
           wanted = wanted ∙ far.wanted;
           done = far.done ++ wholes;
@@ -77,35 +79,35 @@ module _ {T : Type 0} (replied : T → Option (List Reply)) (old : TreeOf T) (pi
         }
 
     -- no record is left
-    pub piece_done : count < BATCH → All (IsKnown now.learnt) (map (λ (fields : List (List ℕ)). field_at fields index) (column_records piece))
+    pub piece_done : count < BATCH → All (IsKnown now.learnt) (map (λ (fields : List (List ℕ)). field_at fields index) (column_records d piece))
     piece_done lt =
-        let all : csv_records piece ≡ far.done = far.parts ∙ ap (λ (l : List CsvRecord). far.done ++ l) (far.end lt) ∙ append-nil far.done in
-        let same : map (name_in index) far.done ≡ map (λ (fields : List (List ℕ)). field_at fields index) (column_records piece) =
-        ap (map (name_in index)) (sym all) ∙ of_fields index (csv_records piece) ∙ ap (map (λ (fields : List (List ℕ)). field_at fields index)) (wholes_fields piece) in
+        let all : csv_records d piece ≡ far.done = far.parts ∙ ap (λ (l : List CsvRecord). far.done ++ l) (far.end lt) ∙ append-nil far.done in
+        let same : map (name_in index) far.done ≡ map (λ (fields : List (List ℕ)). field_at fields index) (column_records d piece) =
+        ap (map (name_in index)) (sym all) ∙ of_fields index (csv_records d piece) ∙ ap (map (λ (fields : List (List ℕ)). field_at fields index)) (wholes_fields d piece) in
         subst (All (IsKnown now.learnt)) same far.known
 
 -- the zones of the records of the pieces before those that are left are known
-pub record LearnsRound {T : Type 0} (replied : T → Option (List Reply)) (old now : TreeOf T) (index : ℕ) (pieces : List (List ℕ)) : Type 0 where
+pub record LearnsRound {T : Type 0} (replied : T → Option (List Reply)) (old now : TreeOf T) (d index : ℕ) (pieces : List (List ℕ)) : Type 0 where
   pub grown : Grows replied old now
-  pub known : All (IsKnown now.learnt) (map (λ (fields : List (List ℕ)). field_at fields index) (records_of pieces))
+  pub known : All (IsKnown now.learnt) (map (λ (fields : List (List ℕ)). field_at fields index) (records_of d pieces))
 
-records_more : (pieces : List (List ℕ)) (n : ℕ) (piece : List ℕ) → slice_get pieces n ≡ Some piece → records_of (take (n + 1) pieces) ≡ records_of (take n pieces) ++ column_records piece
-records_more pieces n piece at =
-    ap records_of (take_next pieces n piece at) ∙ flat_map-append column_records (take n pieces) (piece ∷ [])
-    ∙ ap (λ (l : List (List (List ℕ))). records_of (take n pieces) ++ l) (append-nil (column_records piece))
+records_more : (d : ℕ) (pieces : List (List ℕ)) (n : ℕ) (piece : List ℕ) → slice_get pieces n ≡ Some piece → records_of d (take (n + 1) pieces) ≡ records_of d (take n pieces) ++ column_records d piece
+records_more d pieces n piece at =
+    ap (records_of d) (take_next pieces n piece at) ∙ flat_map-append (column_records d) (take n pieces) (piece ∷ [])
+    ∙ ap (λ (l : List (List (List ℕ))). records_of d (take n pieces) ++ l) (append-nil (column_records d piece))
 
-module _ {T : Type 0} (replied : T → Option (List Reply)) (old : TreeOf T) (index : ℕ) (pieces : List (List ℕ)) where
-  pub next_piece : (now then : TreeOf T) (n : ℕ) (piece : List ℕ) → slice_get pieces n ≡ Some piece → LearnsRound replied old now index (take n pieces) → Grows replied now then
-      → All (IsKnown then.learnt) (map (λ (fields : List (List ℕ)). field_at fields index) (column_records piece)) → LearnsRound replied old then index (take (n + 1) pieces)
+module _ {T : Type 0} (replied : T → Option (List Reply)) (old : TreeOf T) (d index : ℕ) (pieces : List (List ℕ)) where
+  pub next_piece : (now then : TreeOf T) (n : ℕ) (piece : List ℕ) → slice_get pieces n ≡ Some piece → LearnsRound replied old now d index (take n pieces) → Grows replied now then
+      → All (IsKnown then.learnt) (map (λ (fields : List (List ℕ)). field_at fields index) (column_records d piece)) → LearnsRound replied old then d index (take (n + 1) pieces)
   next_piece now then n piece at far grows known =
       let name = λ (fields : List (List ℕ)). field_at fields index in
-      let first = records_of (take n pieces) in
-      let same : map name (records_of (take (n + 1) pieces)) ≡ map name first ++ map name (column_records piece) =
-      ap (map name) (records_more pieces n piece at) ∙ map-append name first (column_records piece) in
+      let first = records_of d (take n pieces) in
+      let same : map name (records_of d (take (n + 1) pieces)) ≡ map name first ++ map name (column_records d piece) =
+      ap (map name) (records_more d pieces n piece at) ∙ map-append name first (column_records d piece) in
       record {
         grown = grows_then replied old now then far.grown grows;
         known = subst (All (IsKnown then.learnt)) (sym same)
-            (All-append (IsKnown then.learnt) (map name first) (map name (column_records piece)) (all_known_on replied now then (map name first) grows far.known) known);
+            (All-append (IsKnown then.learnt) (map name first) (map name (column_records d piece)) (all_known_on replied now then (map name first) grows far.known) known);
       }
 
 -- ---- where a zone comes from

@@ -14,8 +14,8 @@ use Rattle.zic_zones.specs.Tree.{Grows, TreeOf}
 use Rattle.zic_zones.proofs.Learning.{all_known_on}
 
 -- the text of a record's field that names a zone
-abbrev pub zone_text : List ℕ → Record → List ℕ
-zone_text piece given = field_text piece given.zone
+abbrev pub zone_text : ℕ → List ℕ → Record → List ℕ
+zone_text d piece given = field_text d piece given.zone
 
 -- a record for a number that no record has
 abbrev pub no_record : Record
@@ -28,24 +28,24 @@ no_record = record {
 }
 
 -- what was learnt of the records so far, of which the last names a zone in this field
-pub record LearnsRecords {T : Type 0} (replied : T → Option (List Reply)) (old now : TreeOf T) (piece : List ℕ) (last : Field) (done : List Record) : Type 0 where
+pub record LearnsRecords {T : Type 0} (replied : T → Option (List Reply)) (old now : TreeOf T) (d : ℕ) (piece : List ℕ) (last : Field) (done : List Record) : Type 0 where
   pub grown : Grows replied old now
   pub located : IsWithinPiece piece last
-  pub last_known : IsKnown now.learnt (field_text piece last)
-  pub known : All (IsKnown now.learnt) (map (zone_text piece) done)
+  pub last_known : IsKnown now.learnt (field_text d piece last)
+  pub known : All (IsKnown now.learnt) (map (zone_text d piece) done)
 
-module _ {T : Type 0} (replied : T → Option (List Reply)) (old : TreeOf T) (piece : List ℕ) where
+module _ {T : Type 0} (replied : T → Option (List Reply)) (old : TreeOf T) (d : ℕ) (piece : List ℕ) where
   module _ (now : TreeOf T) (last : Field) (records : List Record) (i : ℕ) (given : Record) (at : slice_get records i ≡ Some given)
-      (far : LearnsRecords replied old now piece last (take i records)) where
-    known_next : (then : TreeOf T) → All (IsKnown then.learnt) (map (zone_text piece) (take i records)) → IsKnown then.learnt (zone_text piece given)
-        → All (IsKnown then.learnt) (map (zone_text piece) (take (i + 1) records))
+      (far : LearnsRecords replied old now d piece last (take i records)) where
+    known_next : (then : TreeOf T) → All (IsKnown then.learnt) (map (zone_text d piece) (take i records)) → IsKnown then.learnt (zone_text d piece given)
+        → All (IsKnown then.learnt) (map (zone_text d piece) (take (i + 1) records))
     known_next then known one =
-        let same : map (zone_text piece) (take (i + 1) records) ≡ map (zone_text piece) (take i records) ++ zone_text piece given ∷ [] =
-        ap (map (zone_text piece)) (take_next records i given at) ∙ map-append (zone_text piece) (take i records) (given ∷ []) in
-        subst (All (IsKnown then.learnt)) (sym same) (All-push (IsKnown then.learnt) (map (zone_text piece) (take i records)) (zone_text piece given) known one)
+        let same : map (zone_text d piece) (take (i + 1) records) ≡ map (zone_text d piece) (take i records) ++ zone_text d piece given ∷ [] =
+        ap (map (zone_text d piece)) (take_next records i given at) ∙ map-append (zone_text d piece) (take i records) (given ∷ []) in
+        subst (All (IsKnown then.learnt)) (sym same) (All-push (IsKnown then.learnt) (map (zone_text d piece) (take i records)) (zone_text d piece given) known one)
 
     -- a record of the last name
-    pub record_same : zone_text piece given ≡ field_text piece last → LearnsRecords replied old now piece last (take (i + 1) records)
+    pub record_same : zone_text d piece given ≡ field_text d piece last → LearnsRecords replied old now d piece last (take (i + 1) records)
     record_same same = record {
       grown = far.grown;
       located = far.located;
@@ -54,11 +54,11 @@ module _ {T : Type 0} (replied : T → Option (List Reply)) (old : TreeOf T) (pi
     }
 
     -- a record of another name
-    pub record_next : (then : TreeOf T) → Grows replied now then → IsWithinPiece piece given.zone → IsKnown then.learnt (zone_text piece given)
-        → LearnsRecords replied old then piece given.zone (take (i + 1) records)
+    pub record_next : (then : TreeOf T) → Grows replied now then → IsWithinPiece piece given.zone → IsKnown then.learnt (zone_text d piece given)
+        → LearnsRecords replied old then d piece given.zone (take (i + 1) records)
     record_next then grows located known = record {
       grown = grows_then replied old now then far.grown grows;
       located = located;
       last_known = known;
-      known = known_next then (all_known_on replied now then (map (zone_text piece) (take i records)) grows far.known) known;
+      known = known_next then (all_known_on replied now then (map (zone_text d piece) (take i records)) grows far.known) known;
     }

@@ -4,7 +4,7 @@ use crate::releases::Releases;
 use crate::zones::Zones;
 use std::alloc::{AllocError, Global};
 use zic_columns::Round;
-use zic_plan::ZoneFrom;
+use zic_plan::{Delimiter, ZoneFrom};
 
 /// Zones of a release, and those of another that rows are compared with.
 #[derive(Drop)]
@@ -43,10 +43,11 @@ impl<Z: Zones, O: Zones> Zones for Compared<Z, O> {
         &mut self,
         alloc: Global,
         zone: &ZoneFrom,
+        delimiter: &Delimiter,
         round: &Round<'_>,
     ) -> Result<(), AllocError> {
-        self.zones.prepare(alloc, zone, round)?;
-        self.old.prepare(alloc, zone, round)
+        self.zones.prepare(alloc, zone, delimiter, round)?;
+        self.old.prepare(alloc, zone, delimiter, round)
     }
 
     fn ready(&self) -> Releases<'_> {

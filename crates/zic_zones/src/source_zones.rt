@@ -13,7 +13,7 @@ use std::alloc::{AllocError, Global};
 use std::marker::Model;
 use zic_columns::Round;
 use zic_files::Files;
-use zic_plan::ZoneFrom;
+use zic_plan::{Delimiter, ZoneFrom};
 
 /// The zones of the files of a source, all of them ready for rows. Clauses see the files.
 #[derive(Drop)]
@@ -142,6 +142,7 @@ impl<'a> Zones for SourceZones<'a> {
         &mut self,
         alloc: Global,
         _zone: &ZoneFrom,
+        _delimiter: &Delimiter,
         round: &Round<'_>,
     ) -> Result<(), AllocError> {
         // The round after the last has no piece.

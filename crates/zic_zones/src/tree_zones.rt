@@ -1,6 +1,6 @@
 //! The zones of a tree of files.
 
-ghost use Rattle.std.specs.Prelude.{◌≡◌, [], OnOk, OnErr, IsTrue, All, map};
+ghost use Rattle.std.specs.Prelude.{◌≡◌, ℕ, [], OnOk, OnErr, IsTrue, All, map};
 ghost use Rattle.zic_columns.specs.Column.{column_records};
 ghost use Rattle.zic_columns.specs.Record.{IsWithinPiece, field_text};
 ghost use Rattle.zic_columns.specs.Round.{records_of};
@@ -17,7 +17,7 @@ use std::alloc::{AllocError, Global};
 use std::marker::Model;
 use zic_columns::{BATCH, Field, Record, Round, Span, Splitter, Wanted, push_field};
 use zic_files::{TreeFiles, ZoneTree};
-use zic_plan::ZoneFrom;
+use zic_plan::{Delimiter, ZoneFrom};
 
 /// An empty range of a piece.
 const NOWHERE: Span = Span { start: 0, end: 0 };
@@ -57,17 +57,23 @@ impl<T: ZoneTree> TreeZones<T> {
     }
 
     /// Learns the zone that a field of a piece names.
-    fn learn_field(&mut self, alloc: Global, piece: &[u8], field: Field) -> Result<(), AllocError>
+    fn learn_field(
+        &mut self,
+        alloc: Global,
+        piece: &[u8],
+        field: Field,
+        delimiter: &Delimiter,
+    ) -> Result<(), AllocError>
         requires { IsWithinPiece piece.now field }
         ensures grown { OnOk result (Grows T.replied self.old self.new) }
-        ensures known { OnOk result (IsKnown self.new.learnt (field_text piece.now field)) }
+        ensures known { OnOk result (IsKnown self.new.learnt (field_text delimiter.now piece.now field)) }
         ensures broken { OnErr result (Breaks T.replied self.old self.new) }
     {
         match field {
             Field::Plain(span) => self.learn(alloc, span.of(piece)),
             Field::Quoted(_) => {
                 let mut name = Vec::new(alloc);
-                push_field(&mut name, piece, field)?;
+                push_field(&mut name, piece, field, delimiter)?;
                 self.learn(alloc, &name)
             }
         }
@@ -80,18 +86,19 @@ impl<T: ZoneTree> TreeZones<T> {
         alloc: Global,
         piece: &[u8],
         records: &[Record],
+        delimiter: &Delimiter,
     ) -> Result<(), AllocError>
         requires { All (λ given. IsWithinPiece piece.now given.zone) records.now }
         ensures grown { OnOk result (Grows T.replied self.old self.new) }
         ensures known { OnOk result (All (IsKnown self.new.learnt)
-            (map (λ given. field_text piece.now given.zone) records.now)) }
+            (map (λ given. field_text delimiter.now piece.now given.zone) records.now)) }
         ensures broken { OnErr result (Breaks T.replied self.old self.new) }
     {
         // No zone has the name without bytes.
         let mut last = Field::Plain(NOWHERE);
         for record in records {
             if !have_same_bytes(piece, record.zone, last) {
-                self.learn_field(alloc, piece, record.zone)?;
+                self.learn_field(alloc, piece, record.zone, delimiter)?;
                 last = record.zone;
             }
         }
@@ -99,10 +106,16 @@ impl<T: ZoneTree> TreeZones<T> {
     }
 
     /// Learns the zones that the records of a piece name in the field with this index.
-    fn learn_piece(&mut self, alloc: Global, piece: &[u8], index: usize) -> Result<(), AllocError>
+    fn learn_piece(
+        &mut self,
+        alloc: Global,
+        piece: &[u8],
+        index: usize,
+        delimiter: &Delimiter,
+    ) -> Result<(), AllocError>
         ensures grown { OnOk result (Grows T.replied self.old self.new) }
         ensures known { OnOk result (All (IsKnown self.new.learnt)
-            (map (λ fields. field_at fields index) (column_records piece.now))) }
+            (map (λ fields. field_at fields index) (column_records delimiter.now piece.now))) }
         ensures broken { OnErr result (Breaks T.replied self.old self.new) }
     {
         let field = Field::Plain(NOWHERE);
@@ -114,11 +127,11 @@ impl<T: ZoneTree> TreeZones<T> {
             stray: false,
         }; BATCH];
         let zone = Some(index);
-        let mut splitter = Splitter::new(piece, Wanted { zone, time: index });
+        let mut splitter = Splitter::new(piece, Wanted { zone, time: index }, delimiter);
         let mut count = BATCH;
         while count == BATCH {
             count = splitter.fill(&mut records);
-            self.learn_records(alloc, piece, &records[..count])?;
+            self.learn_records(alloc, piece, &records[..count], delimiter)?;
         }
         Ok(())
     }
@@ -129,14 +142,15 @@ impl<T: ZoneTree> TreeZones<T> {
         alloc: Global,
         round: &Round<'_>,
         index: usize,
+        delimiter: &Delimiter,
     ) -> Result<(), AllocError>
         ensures grown { OnOk result (Grows T.replied self.old self.new) }
         ensures known { OnOk result (All (IsKnown self.new.learnt)
-            (map (λ fields. field_at fields index) (records_of round.now))) }
+            (map (λ fields. field_at fields index) (records_of delimiter.now round.now))) }
         ensures broken { OnErr result (Breaks T.replied self.old self.new) }
     {
         for number in 0..round.len() {
-            self.learn_piece(alloc, round.piece(number), index)?;
+            self.learn_piece(alloc, round.piece(number), index, delimiter)?;
         }
         Ok(())
     }
@@ -175,10 +189,11 @@ impl<T: ZoneTree> Zones for TreeZones<T> {
         &mut self,
         alloc: Global,
         zone: &ZoneFrom,
+        delimiter: &Delimiter,
         round: &Round<'_>,
     ) -> Result<(), AllocError> {
         match zone {
-            ZoneFrom::Field(index) => self.learn_round(alloc, round, *index),
+            ZoneFrom::Field(index) => self.learn_round(alloc, round, *index, delimiter),
             ZoneFrom::Name(name) => self.learn(alloc, name.as_bytes()),
         }
     }
@@ -204,7 +219,8 @@ impl<T: ZoneTree> Zones for TreeZones<T> {
 fn have_same_bytes(piece: &[u8], field: Field, other: Field) -> bool
     requires field { IsWithinPiece piece.now field }
     requires other { IsWithinPiece piece.now other }
-    ensures { IsTrue result → field_text piece.now field ≡ field_text piece.now other }
+    ensures { IsTrue result → (delimiter : ℕ) → field_text delimiter piece.now field
+        ≡ field_text delimiter piece.now other }
 {
     match (field, other) {
         (Field::Plain(span), Field::Plain(other)) => span.of(piece) == other.of(piece),

@@ -3,7 +3,7 @@
 use crate::releases::Releases;
 use std::alloc::{AllocError, Global};
 use zic_columns::Round;
-use zic_plan::ZoneFrom;
+use zic_plan::{Delimiter, ZoneFrom};
 
 /// Zones by name. Those that rows need are made ready before the rows are made.
 pub trait Zones {
@@ -41,7 +41,7 @@ pub trait Zones {
         ensures broken { OnErr result (broken self.old self.new) }
         ensures requested { requests self.old name.now self.new };
 
-    /// Makes the zones ready that the records of a round name.
+    /// Makes the zones ready that the records of a round name, in which this delimiter stands between fields.
     ///
     /// # Errors
     ///
@@ -50,11 +50,12 @@ pub trait Zones {
         &mut self,
         alloc: Global,
         zone: &ZoneFrom,
+        delimiter: &Delimiter,
         round: &Round<'_>,
     ) -> Result<(), AllocError>
         ensures grown { OnOk result (grown self.old self.new) }
         ensures settled { OnOk result
-            (All (settled self.new) (map (zone_in zone.now) (records_of round.now))) }
+            (All (settled self.new) (map (zone_in zone.now) (records_of delimiter.now round.now))) }
         ensures broken { OnErr result (broken self.old self.new) };
 
     /// Returns the files that are known, ready for rows.

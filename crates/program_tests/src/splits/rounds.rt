@@ -11,7 +11,7 @@ use zic_columns::{
     BATCH, Column, Field, PassStop, Record, Round, Span, Splitter, Taken, Wanted, line_end_at,
     line_feeds, push_field,
 };
-use zic_plan::{LineEnd, Notes, Records};
+use zic_plan::{Delimiter, LineEnd, Notes, Records};
 
 /// The fields of a record that are shown.
 const SHOWN: Wanted = Wanted {
@@ -24,20 +24,31 @@ const STEPS: [usize; 6] = [1, 2, 3, 5, 8, 1000];
 
 /// Adds a record of a piece to a text: its two fields with `=` between them, or nothing for another
 /// number of fields, and `|`.
-fn push_record(rt: &impl Abort, text: &mut Vec<u8>, piece: &[u8], given: Record)
+fn push_record(
+    rt: &impl Abort,
+    text: &mut Vec<u8>,
+    piece: &[u8],
+    given: Record,
+    delimiter: &Delimiter,
+)
     requires zone { IsWithinPiece piece.now given.zone }
     requires time { IsWithinPiece piece.now given.time }
 {
     if given.count == 2 {
-        must(rt, push_field(text, piece, given.zone));
+        must(rt, push_field(text, piece, given.zone, delimiter));
         must(rt, text.push(b'='));
-        must(rt, push_field(text, piece, given.time));
+        must(rt, push_field(text, piece, given.time, delimiter));
     }
     must(rt, text.push(b'|'));
 }
 
 /// Adds the records of a piece to a text, as [`push_record`] does. Returns their number.
-pub(super) fn push_records(rt: &impl Abort, text: &mut Vec<u8>, piece: &[u8]) -> usize {
+pub(super) fn push_records(
+    rt: &impl Abort,
+    text: &mut Vec<u8>,
+    piece: &[u8],
+    delimiter: &Delimiter,
+) -> usize {
     let none = Span { start: 0, end: 0 };
     let missing = Field::Plain(none);
     let mut records = [Record {
@@ -47,12 +58,12 @@ pub(super) fn push_records(rt: &impl Abort, text: &mut Vec<u8>, piece: &[u8]) ->
         time: missing,
         stray: false,
     }; BATCH];
-    let mut splitter = Splitter::new(piece, SHOWN);
+    let mut splitter = Splitter::new(piece, SHOWN, delimiter);
     let mut total = 0usize;
     for _ in 0..1_000_000 {
         let count = splitter.fill(&mut records);
         for given in &records[..count] {
-            push_record(rt, text, piece, *given);
+            push_record(rt, text, piece, *given, delimiter);
         }
         total = total.wrapping_add(count);
         if count < BATCH {
@@ -81,7 +92,7 @@ fn push_round(
         Taken::End => return Some(false),
         Taken::TooLong => return None,
     }
-    if size < push_pieces(rt, text, &column.round()) {
+    if size < push_pieces(rt, text, &column.round(), &Delimiter::comma()) {
         return None;
     }
     Some(true)
@@ -89,10 +100,15 @@ fn push_round(
 
 /// Adds the records of the pieces of a round to a text. Returns the greatest number of records of a
 /// piece.
-fn push_pieces(rt: &impl Abort, text: &mut Vec<u8>, round: &Round<'_>) -> usize {
+fn push_pieces(
+    rt: &impl Abort,
+    text: &mut Vec<u8>,
+    round: &Round<'_>,
+    delimiter: &Delimiter,
+) -> usize {
     let mut most = 0;
     for index in 0..round.len() {
-        most = push_records(rt, text, round.piece(index)).max(most);
+        most = push_records(rt, text, round.piece(index), delimiter).max(most);
     }
     most
 }
@@ -135,7 +151,15 @@ pub(super) fn shown(
     most: u64,
     plan: (usize, usize),
 ) -> Option<(Vec<u8>, u32)> {
-    let column = Column::new(alloc, device, most, Records::Csv, Notes::Faults).ok()?;
+    let column = Column::new(
+        alloc,
+        device,
+        most,
+        Records::Csv,
+        &Delimiter::comma(),
+        Notes::Faults,
+    )
+    .ok()?;
     rest_of(rt, alloc, column, plan)
 }
 
@@ -184,6 +208,36 @@ fn records_come_in_rounds(rt: HostRuntime) {
     }
 }
 
+#[test]
+fn records_have_a_delimiter(rt: HostRuntime) {
+    let delimiter = must(&rt, Delimiter::new(b';').ok_or(()));
+    let bytes = b"a;0\nb,c;1\n\"d;\"\"\";2\n\"e\";\"3\"\nf,4\n";
+    for step in STEPS {
+        let mut device = Device::new(bytes, step, Ok(()));
+        let alloc = rt.alloc();
+        let begun = Column::new(
+            alloc,
+            &mut device,
+            100,
+            Records::Csv,
+            &delimiter,
+            Notes::Faults,
+        );
+        let mut column = must(&rt, begun);
+        let mut text = Vec::new(alloc);
+        for _ in 0..100 {
+            match must(&rt, column.next_round(alloc, 1000, 2, None)) {
+                Taken::Round => {
+                    push_pieces(&rt, &mut text, &column.round(), &delimiter);
+                }
+                _ => break,
+            }
+        }
+        let want = b"a=0|b,c=1|d;\"=2|e=3||";
+        expect_text(&rt, &text, want, "the records between semicolons");
+    }
+}
+
 /// Returns the own bytes of the first record of a column and `>`, and then its other records, in
 /// reads of this length.
 fn after_first(
@@ -196,7 +250,14 @@ fn after_first(
     let mut device = Device::new(column, step, Ok(()));
     let mut column = must(
         rt,
-        Column::new(alloc, &mut device, 100, records, Notes::Faults),
+        Column::new(
+            alloc,
+            &mut device,
+            100,
+            records,
+            &Delimiter::comma(),
+            Notes::Faults,
+        ),
     );
     let mut text = must(rt, column.pass_record(alloc, 1000, None));
     let (rest, _) = must(rt, rest_of(rt, alloc, column, (1000, 2)).ok_or(()));
@@ -266,13 +327,20 @@ fn up_to_long(
     let mut device = Device::new(column, 1, Ok(()));
     let mut column = must(
         rt,
-        Column::new(alloc, &mut device, 100, records, Notes::Faults),
+        Column::new(
+            alloc,
+            &mut device,
+            100,
+            records,
+            &Delimiter::comma(),
+            Notes::Faults,
+        ),
     );
     let mut text = Vec::new(alloc);
     for _ in 0..1_000 {
         match must(rt, column.next_round(alloc, 1000, 2, Some(longest))) {
             Taken::Round => {
-                push_pieces(rt, &mut text, &column.round());
+                push_pieces(rt, &mut text, &column.round(), &Delimiter::comma());
             }
             Taken::OpenLine(line) => {
                 must(rt, text.extend_from_slice(&line.own));
@@ -314,7 +382,14 @@ fn a_long_first_record_is_not_passed_over(rt: HostRuntime) {
         for (longest, passes) in [(12, true), (11, false), (1, false)] {
             let mut device = Device::new(b"zone,instant\na,0\n", step, Ok(()));
             let alloc = rt.alloc();
-            let begun = Column::new(alloc, &mut device, 100, Records::Csv, Notes::Faults);
+            let begun = Column::new(
+                alloc,
+                &mut device,
+                100,
+                Records::Csv,
+                &Delimiter::comma(),
+                Notes::Faults,
+            );
             let mut column = must(&rt, begun);
             let passed = match column.pass_record(alloc, 1000, Some(longest)) {
                 Ok(_) => passes,
@@ -535,7 +610,15 @@ static FIRST_READS: [(&[u8], usize, usize); 9] = [
 /// Ends the test where a column in reads of this length isn't begun, or in another number of reads.
 fn expect_first_reads(rt: &impl Abort, alloc: Global, column: &[u8], step: usize, want: usize) {
     let mut device = Device::new(column, step, Ok(()));
-    let begun = Column::new(alloc, &mut device, 100, Records::Csv, Notes::Faults).is_ok();
+    let begun = Column::new(
+        alloc,
+        &mut device,
+        100,
+        Records::Csv,
+        &Delimiter::comma(),
+        Notes::Faults,
+    )
+    .is_ok();
     expect(rt, begun && device.reads() == want, "the first reads");
 }
 
@@ -575,7 +658,14 @@ fn pieces_know_their_lines(rt: HostRuntime) {
     for step in STEPS {
         let mut device = Device::new(column, step, Ok(()));
         let alloc = rt.alloc();
-        let begun = Column::new(alloc, &mut device, 100, Records::Csv, Notes::Details);
+        let begun = Column::new(
+            alloc,
+            &mut device,
+            100,
+            Records::Csv,
+            &Delimiter::comma(),
+            Notes::Details,
+        );
         let mut column = must(&rt, begun);
         let mut text = Vec::new(alloc);
         for _ in 0..100 {

@@ -4,9 +4,9 @@ use Rattle.std.specs.Simd.Lanes.{chunk, mask_l}
 use Rattle.zic_columns.specs.Column.{AreWholeRecords, HasNoQuote, column_records, ends_line}
 use Rattle.zic_columns.specs.declared.blocks.Passed.{Passed}
 
--- a comma or a line end
-abbrev pub ends_field : ℕ → Bool
-ends_field byte = byte == 44 || ends_line byte
+-- a delimiter or a line end
+abbrev pub ends_field : ℕ → ℕ → Bool
+ends_field delimiter byte = byte == delimiter || ends_line byte
 
 -- bit k is set where byte k of the 32 from an index on passes the test
 abbrev pub mask_at : (ℕ → Bool) → List ℕ → ℕ → ℕ
@@ -32,8 +32,8 @@ pub record AreCounted (bytes : List ℕ) (most : ℕ) (passed : Passed) : Type 0
   pub few : passed.records < most
 
 -- the first bytes are whole records, fewer than `most`
-pub record ArePassed (bytes : List ℕ) (most : ℕ) (passed : Passed) : Type 0 where
+pub record ArePassed (delimiter : ℕ) (bytes : List ℕ) (most : ℕ) (passed : Passed) : Type 0 where
   pub within : passed.len ≤ length bytes
-  pub whole : AreWholeRecords (take passed.len bytes)
-  pub counted : length (column_records (take passed.len bytes)) ≡ passed.records
+  pub whole : AreWholeRecords delimiter (take passed.len bytes)
+  pub counted : length (column_records delimiter (take passed.len bytes)) ≡ passed.records
   pub few : passed.records < most

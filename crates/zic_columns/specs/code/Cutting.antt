@@ -8,11 +8,11 @@ use Rattle.zic_columns.specs.declared.pieces.Cut.{Cut}
 use Rattle.zic_columns.specs.declared.pieces.TheConstants.{MAX_ROUND_PIECES}
 
 -- pieces of `size` records each, which have the records before the cut
-pub record IsCut (bytes : List ℕ) (size : ℕ) (cut : Cut) : Type 0 where
+pub record IsCut (delimiter : ℕ) (bytes : List ℕ) (size : ℕ) (cut : Cut) : Type 0 where
   pub within : cut.len ≤ length bytes
   pub ranges : AreWithin cut.ranges.items cut.len
   pub few : length cut.ranges.items ≤ MAX_ROUND_PIECES
-  pub sizes : ArePiecesOf size (pieces_at bytes cut.ranges.items)
-  pub records : csv_records (take cut.len bytes) ≡ records_of_pieces (pieces_at bytes cut.ranges.items)
-  pub whole : (drop cut.len bytes ≡ []) ⊎ AreWholeRecords (take cut.len bytes)
-  pub none : length cut.ranges.items ≡ 0 → column_records bytes ≡ []
+  pub sizes : ArePiecesOf delimiter size (pieces_at bytes cut.ranges.items)
+  pub records : csv_records delimiter (take cut.len bytes) ≡ records_of_pieces delimiter (pieces_at bytes cut.ranges.items)
+  pub whole : (drop cut.len bytes ≡ []) ⊎ AreWholeRecords delimiter (take cut.len bytes)
+  pub none : length cut.ranges.items ≡ 0 → column_records delimiter bytes ≡ []

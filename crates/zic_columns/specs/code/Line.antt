@@ -14,9 +14,9 @@ pub record IsAfterLineEnds (bytes rest : List ℕ) : Type 0 where
   pub begins : 0 < length rest → ends_line (slice_index rest 0) ≡ false
 
 -- the first `len` bytes hold the first record, and are whole records or all bytes
-pub record IsFirstRecord (bytes : List ℕ) (len : ℕ) : Type 0 where
+pub record IsFirstRecord (delimiter : ℕ) (bytes : List ℕ) (len : ℕ) : Type 0 where
   pub some : 0 < len
   pub within : len ≤ length bytes
   pub fields : List (List ℕ)
-  pub one : column_records (take len bytes) ≡ fields ∷ []
-  pub whole : (len ≡ length bytes) ⊎ AreWholeRecords (take len bytes)
+  pub one : column_records delimiter (take len bytes) ≡ fields ∷ []
+  pub whole : (len ≡ length bytes) ⊎ AreWholeRecords delimiter (take len bytes)

@@ -33,13 +33,13 @@ pub record IsLineEndAt (bytes : List ℕ) (at : ℕ) : Type 0 where
   pub here : ends_line (slice_index bytes at) ≡ true
 
 -- the record that begins at an index has a line end, and the field ends after it are shown
-pub record IsPlainFrom (piece : List ℕ) (start : ℕ) (wanted : Wanted) (ends : FieldEnds) (given : Record) : Type 0 where
-  pub from : IsRecordFrom piece start wanted given
+pub record IsPlainFrom (delimiter : ℕ) (piece : List ℕ) (start : ℕ) (wanted : Wanted) (ends : FieldEnds) (given : Record) : Type 0 where
+  pub from : IsRecordFrom delimiter piece start wanted given
   pub ended : IsLineEndAt piece given.own.end
-  pub shows : ShowsEnds piece (given.own.end + 1) ends
+  pub shows : ShowsEnds delimiter piece (given.own.end + 1) ends
 
 -- The records of a piece from an index on are a record and those from another index on, or there is none.
-abbrev pub IsNextAt : List ℕ → Wanted → ℕ → Option Record → ℕ → Type 0
-IsNextAt piece wanted old given new = MatchOption given
-    ((csv_records (drop old piece) ≡ []) × (csv_records (drop new piece) ≡ []))
-    (λ first. (csv_records (drop old piece) ≡ record_at piece first ∷ csv_records (drop new piece)) × IsSplit piece wanted first)
+abbrev pub IsNextAt : ℕ → List ℕ → Wanted → ℕ → Option Record → ℕ → Type 0
+IsNextAt delimiter piece wanted old given new = MatchOption given
+    ((csv_records delimiter (drop old piece) ≡ []) × (csv_records delimiter (drop new piece) ≡ []))
+    (λ first. (csv_records delimiter (drop old piece) ≡ record_at delimiter piece first ∷ csv_records delimiter (drop new piece)) × IsSplit delimiter piece wanted first)

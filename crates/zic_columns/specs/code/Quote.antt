@@ -1,8 +1,7 @@
 -- The first double quote, and stray ones.
 use Rattle.std.specs.Prelude.{◌≡◌, ◌<◌, ◌||◌, ℕ, Bool, List, ◌∷◌, length, slice_index, take}
 use Rattle.csv.specs.declared.parser.State.{State}
-use Rattle.zic_columns.specs.Column.{HasNoQuote, state_after}
-use Rattle.zic_columns.specs.Exchange.{config_of}
+use Rattle.zic_columns.specs.Column.{HasNoQuote, config_of, state_after}
 use Rattle.zic_columns.specs.Quotes.{goes_past, is_quoted}
 use Rattle.zic_columns.specs.code.Machine.{state_at}
 use Rattle.zic_columns.specs.declared.machine.Place.{Place}
@@ -18,5 +17,5 @@ abbrev pub strays_from : ℕ → State → List ℕ → Bool
 strays_from delimiter s bytes = is_quoted (state_after (config_of delimiter) s bytes) || goes_past delimiter s bytes
 
 -- after this byte at a place, bytes have a stray double quote where they have one from the next place on
-abbrev pub StraysOn : Place → ℕ → Place → Type 0
-StraysOn p byte next = (rest : List ℕ) → strays_from 44 (state_at next) rest ≡ strays_from 44 (state_at p) (byte ∷ rest)
+abbrev pub StraysOn : ℕ → Place → ℕ → Place → Type 0
+StraysOn delimiter p byte next = (rest : List ℕ) → strays_from delimiter (state_at next) rest ≡ strays_from delimiter (state_at p) (byte ∷ rest)

@@ -1,8 +1,8 @@
 -- A record of a piece, field by field.
 use Rattle.std.specs.Prelude.{◌≡◌, ◌+◌, ◌-◌, ◌<◌, ◌≤◌, ◌⊎◌, ℕ, true, false, List, [], ◌∷◌, ◌++◌, Some, drop, length, slice_index, slice_range}
 use Rattle.csv.specs.Machine.{next_record}
-use Rattle.csv.specs.Reading.{default_config}
 use Rattle.csv.specs.declared.parser.State.TheVariants as st
+use Rattle.zic_columns.specs.Column.{config_of}
 use Rattle.zic_columns.specs.Own.{own_texts}
 use Rattle.zic_columns.specs.Record.{IsSplit, IsWithinPiece, bytes_at, field_text, wanted_text}
 use Rattle.zic_columns.specs.code.Block.{ends_field}
@@ -16,12 +16,12 @@ use Rattle.zic_columns.specs.declared.walk.FoundField.{FoundField}
 use Rattle.zic_columns.specs.declared.walk.QuotedText.{QuotedText}
 use Rattle.memchr.specs.Find.{Nowhere, Passes}
 
--- no comma or line end stands from an index up to another, at which there is one or the end
-pub record IsFieldEnd (bytes : List ℕ) (at stop : ℕ) : Type 0 where
+-- no delimiter or line end stands from an index up to another, at which there is one or the end
+pub record IsFieldEnd (delimiter : ℕ) (bytes : List ℕ) (at stop : ℕ) : Type 0 where
   pub low : at ≤ stop
   pub high : stop ≤ length bytes
-  pub before : Nowhere (Passes ends_field bytes) at stop
-  pub ends : (stop ≡ length bytes) ⊎ (ends_field (slice_index bytes stop) ≡ true)
+  pub before : Nowhere (Passes (ends_field delimiter) bytes) at stop
+  pub ends : (stop ≡ length bytes) ⊎ (ends_field delimiter (slice_index bytes stop) ≡ true)
 
 -- a double quote stands there
 pub record IsQuoteAt (bytes : List ℕ) (at : ℕ) : Type 0 where
@@ -33,28 +33,28 @@ abbrev pub quoted_field : QuotedText → FoundField
 quoted_field text = record { field = Plain text.span; stop = text.stop; stray = false }
 
 -- of these fields a record has the number and the wanted ones
-pub record HasFields (piece : List ℕ) (wanted : Wanted) (fields : List (List ℕ)) (given : Record) : Type 0 where
+pub record HasFields (delimiter : ℕ) (piece : List ℕ) (wanted : Wanted) (fields : List (List ℕ)) (given : Record) : Type 0 where
   pub count : given.count ≡ length fields
   pub zone_within : IsWithinPiece piece given.zone
-  pub zone : field_text piece given.zone ≡ wanted_text fields wanted.zone
+  pub zone : field_text delimiter piece given.zone ≡ wanted_text fields wanted.zone
   pub time_within : IsWithinPiece piece given.time
-  pub time : field_text piece given.time ≡ wanted_text fields (Some wanted.time)
+  pub time : field_text delimiter piece given.time ≡ wanted_text fields (Some wanted.time)
 
 -- the fields of a record were read up to an index, at which another begins
-pub record HasWalked (piece : List ℕ) (start : ℕ) (wanted : Wanted) (given : Record) (at : ℕ) : Type 0 where
+pub record HasWalked (delimiter : ℕ) (piece : List ℕ) (start : ℕ) (wanted : Wanted) (given : Record) (at : ℕ) : Type 0 where
   pub own : given.own.start ≡ start
   pub low : start ≤ at
   pub high : at ≤ length piece
   pub few : given.count ≤ at
   pub fields : List (List ℕ)
-  pub has : HasFields piece wanted fields given
-  pub reads : (more : List ℕ) → next_record default_config st.StartField [] [] (slice_range piece start at ++ more) ≡ next_record default_config st.StartField fields [] more
-  pub any : ReadsTo st.StartField (slice_range piece start at) st.StartField
-  pub quotes : HasQuotes (slice_range piece start at) place.Start given.stray
+  pub has : HasFields delimiter piece wanted fields given
+  pub reads : (more : List ℕ) → next_record (config_of delimiter) st.StartField [] [] (slice_range piece start at ++ more) ≡ next_record (config_of delimiter) st.StartField fields [] more
+  pub any : ReadsTo delimiter st.StartField (slice_range piece start at) st.StartField
+  pub quotes : HasQuotes delimiter (slice_range piece start at) place.Start given.stray
 
 -- the record that begins at an index
-pub record IsRecordFrom (piece : List ℕ) (start : ℕ) (wanted : Wanted) (given : Record) : Type 0 where
+pub record IsRecordFrom (delimiter : ℕ) (piece : List ℕ) (start : ℕ) (wanted : Wanted) (given : Record) : Type 0 where
   pub at : given.own.start ≡ start
-  pub split : IsSplit piece wanted given
-  pub owns : own_texts (drop start piece) ≡ bytes_at piece given.own ∷ own_texts (drop given.own.end piece)
-  pub ended : given.own.end < length piece → IsEndOfRecord st.StartField (drop start piece) (given.own.end - start + 1)
+  pub split : IsSplit delimiter piece wanted given
+  pub owns : own_texts delimiter (drop start piece) ≡ bytes_at piece given.own ∷ own_texts delimiter (drop given.own.end piece)
+  pub ended : given.own.end < length piece → IsEndOfRecord delimiter st.StartField (drop start piece) (given.own.end - start + 1)

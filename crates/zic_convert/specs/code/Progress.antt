@@ -2,14 +2,11 @@
 use Rattle.std.specs.Prelude.{◌≡◌, ◌≤◌, ◌<◌, ◌↔◌, ◌⊎◌, ℕ, Bool, false, List, [], ◌∷◌, ◌++◌, length, drop, take, Option, Some, None, IfSome}
 use Rattle.std.specs.List.{concat}
 use Rattle.std.specs.Io.KnownBytes.{Appends}
-use Rattle.csv.specs.Reading.{strip_bom}
 use Rattle.zic_columns.specs.Column.{HasNoLineEnd}
-use Rattle.zic_columns.specs.Exchange.{exchanged}
-use Rattle.zic_columns.specs.Lines.{records_by, texts_by}
+use Rattle.zic_columns.specs.Lines.{records_by}
 use Rattle.zic_columns.specs.Own.{CsvRecord, first_text}
 use Rattle.zic_columns.specs.Quotes.{is_open}
-use Rattle.zic_columns.specs.Round as Columns
-use Rattle.zic_columns.specs.Round.{ArePiecesOf, BeginsTooLong, ColumnOf, HasNoRecord, IsNextTooLong, may_have, taken_records, unread}
+use Rattle.zic_columns.specs.Round.{ArePiecesOf, BeginsTooLong, ColumnOf, HasNoRecord, IsNextTooLong, Takes, may_have, taken_records, unread}
 use Rattle.zic_columns.specs.declared.columns.Taken.{Taken}
 use Rattle.zic_columns.specs.declared.columns.Taken.TheVariants as taken
 use Rattle.zic_columns.specs.declared.pieces.TheConstants.{MAX_ROUND_PIECES}
@@ -30,11 +27,10 @@ use Rattle.zic_base.specs.declared.row_fault.RowKind.TheVariants as kinds
 use Rattle.zic_base.specs.declared.run_stop.RunStop.{RunStop}
 use Rattle.zic_base.specs.declared.run_stop.RunStop.TheVariants as stop
 use Rattle.zic_zones.specs.declared.releases.Releases.{Releases}
-use Rattle.zic_convert.specs.Column.{AreRowRecords, header_of, names_added, own_header, own_line}
-use Rattle.zic_layout_rows.specs.LayoutRows.{RecordsConvertBy, faults_by, if_rejected}
-use Rattle.zic_convert.specs.Header.{IsHeaderFault, header_fault}
+use Rattle.zic_convert.specs.Column.{AreRowRecords, header_of, header_read, names_added, own_line, records_read, texts_read}
+use Rattle.zic_layout_rows.specs.LayoutRows.{RecordsConvertBy, faults_by}
+use Rattle.zic_convert.specs.Header.{IsHeaderFault, fault_read, header_fault}
 use Rattle.zic_convert.specs.Run.{EndsAtHeader, EndsIn, Notes, Output, PassesHeader, WritesRows}
-use Rattle.zic_convert.specs.code.Row.{records_in, taken_rows}
 use Rattle.zic_convert.specs.code.Written.{EndsInRecords, IsLeft, WritesRecords}
 use Rattle.zic_convert.specs.declared.tally.Tally.{Tally}
 use Rattle.zic_convert.specs.declared.halt.Halt.{Halt}
@@ -43,14 +39,13 @@ use Rattle.zic_convert.specs.declared.halt.Halt.TheVariants as halt
 abbrev pub output : Option (List ℕ) → Option (List ℕ) → Option (List RowNote) → Option (List RowNote) → Output
 output held held' log log' = record { held = held; held' = held'; log = log; log' = log' }
 
--- Where the bytes that are left of a column are known, these records come next, and then those of the bytes that are left then. Their
--- own bytes have the delimiter put back.
-abbrev pub Takes : Layout → Option (List ℕ) → Option (List ℕ) → List CsvRecord → Type 0
-Takes layout old new row_records = IfSome old (λ bytes. (rest : List ℕ) × (new ≡ Some rest) × (records_in layout bytes ≡ row_records ++ records_in layout rest))
+-- the records that are left of a column
+abbrev pub records_left : Layout → List ℕ → List CsvRecord
+records_left layout bytes = records_by layout.records layout.delimiter bytes
 
 -- Where the bytes that are left are known, these records come next.
 abbrev pub ComeNext : Layout → Option (List ℕ) → List CsvRecord → Type 0
-ComeNext layout left row_records = IfSome left (λ bytes. (more : List CsvRecord) × (records_in layout bytes ≡ row_records ++ more))
+ComeNext layout left row_records = IfSome left (λ bytes. (more : List CsvRecord) × (records_left layout bytes ≡ row_records ++ more))
 
 -- Of these records this number was converted and written, none of which ends the run, and the bytes that are left have the others. So many
 -- more rows with a fault may come, where there is a limit.
@@ -59,7 +54,7 @@ pub record IsSoFar (layout : Layout) (releases : Releases) (most : ℕ) (limit :
   pub texts : List (List ℕ)
   pub rest : List ℕ
   pub bytes : left ≡ Some rest
-  pub goes_on : all ≡ row_records ++ records_in layout rest
+  pub goes_on : all ≡ row_records ++ records_left layout rest
   pub come : RecordsConvertBy layout releases most 1 row_records texts None
   pub counted : count ≡ length texts
   pub wrote : Appends out.held out.held' (concat texts)
@@ -68,11 +63,11 @@ pub record IsSoFar (layout : Layout) (releases : Releases) (most : ℕ) (limit :
 
 -- by these releases, all rows of the bytes that were left, where they are known, were written, there are n, and their faults were noted
 abbrev pub ConvertsRest : Layout → ℕ → Option ℕ → Option (List ℕ) → ℕ → Output → Releases → Type 0
-ConvertsRest layout most limit known n out releases = IfSome known (λ bytes. WritesRows layout releases most limit [] (records_in layout bytes) n out)
+ConvertsRest layout most limit known n out releases = IfSome known (λ bytes. WritesRows layout releases most limit [] (records_left layout bytes) n out)
 
 -- the conversion of those bytes ended early
 abbrev pub EndsInRest : Layout → ℕ → Option ℕ → Option (List ℕ) → RunStop → Output → Releases → Type 0
-EndsInRest layout most limit known why out releases = IfSome known (λ bytes. EndsIn layout releases most limit [] (records_in layout bytes) why out)
+EndsInRest layout most limit known why out releases = IfSome known (λ bytes. EndsIn layout releases most limit [] (records_left layout bytes) why out)
 
 -- by these releases, all rows of a column were written below its own header
 abbrev pub ConvertsColumn : Layout → ℕ → Option ℕ → Option (List ℕ) → ℕ → Output → Releases → Type 0
@@ -86,17 +81,9 @@ EndsInColumn layout most limit known why out releases = IfSome known (λ column.
     ⊎ (PassesHeader layout releases.zones column why [] out
     × (row_records : List CsvRecord) × AreRowRecords layout column row_records × EndsIn layout releases most limit (own_line layout column) row_records why out))
 
--- the column's own header with names added, but for the delimiter of the column
-abbrev pub own_line_in : Layout → List ℕ → List ℕ
-own_line_in layout column = header_of layout.start (names_added layout) layout.delimiter (exchanged layout.delimiter (own_header layout.header (texts_by layout.records (strip_bom column))))
-
--- and its own bytes alone, where records are rejected
-abbrev pub rejects_header_in : Layout → List ℕ → List ℕ
-rejects_header_in layout column = if_rejected layout.at_fault (exchanged layout.delimiter (own_header layout.header (texts_by layout.records (strip_bom column))))
-
--- the own bytes of a column's header, also where it is skipped; none where it has none
-abbrev pub passed_in : Layout → List ℕ → List ℕ
-passed_in layout column = first_text (take (records_before layout.header) (texts_by layout.records (strip_bom column)))
+-- the own bytes of the header of a column, by the bytes that are read of it, also where it is skipped; none where it has none
+abbrev pub header_passed : Layout → List ℕ → List ℕ
+header_passed layout bytes = first_text (take (records_before layout.header) (texts_read layout bytes))
 
 -- the own bytes that are kept of a header
 abbrev pub kept_of : Header → List ℕ → List ℕ
@@ -104,28 +91,24 @@ kept_of header.Absent own = own
 kept_of header.First own = own
 kept_of header.Skipped own = []
 
--- the header's fault, or none
-abbrev pub header_fault_in : Layout → List File → List ℕ → Option RowKind
-header_fault_in layout files column = header_fault layout files (take (records_before layout.header) (records_in layout (strip_bom column)))
-
 -- where each line is a record, there is no line end
 abbrev pub EndsNoLine : Records → List ℕ → Type 0
 EndsNoLine by.Csv own = Unit {0}
 EndsNoLine by.Lines own = HasNoLineEnd own
 
 -- the own bytes are those of an open line
-abbrev pub is_open_by : Records → List ℕ → Bool
-is_open_by by.Csv own = false
-is_open_by by.Lines own = is_open 44 own
+abbrev pub is_open_by : Records → ℕ → List ℕ → Bool
+is_open_by by.Csv delimiter own = false
+is_open_by by.Lines delimiter own = is_open delimiter own
 
 -- some own bytes are those of one record, or of none
-pub record AreOfOne (mode : Records) (own : List ℕ) : Type 0 where
-  pub one : (own ≡ []) ⊎ ((given : CsvRecord) × (records_by mode own ≡ given ∷ []))
+pub record AreOfOne (mode : Records) (delimiter : ℕ) (own : List ℕ) : Type 0 where
+  pub one : (own ≡ []) ⊎ ((given : CsvRecord) × (records_by mode delimiter own ≡ given ∷ []))
   pub ended : EndsNoLine mode own
 
 -- the fault of a header with these own bytes, or none
 abbrev pub IsOwnFault : Layout → List File → List ℕ → Option RowKind → Type 0
-IsOwnFault layout files own fault = AreOfOne layout.records own → fault ≡ header_fault layout files (records_in layout own)
+IsOwnFault layout files own fault = AreOfOne layout.records layout.delimiter own → fault ≡ header_fault layout files (records_left layout own)
 
 -- The zones got to know the name in the header. Memory was refused, or the header has this fault by all files that rows may be made by.
 abbrev pub HaltsAtCheck : {Z : Type 0} → (Z → Z → Type 0) → (Z → Z → Type 0) → (Z → Releases → Type 0) → Z → Z → Layout → List ℕ → Halt → Type 0
@@ -137,19 +120,19 @@ HaltsAtCheck grown broken may_be old new layout own (halt.Stop _) = ⊥
 
 -- The bytes that are left of a column have its records after those that are a header.
 abbrev pub BeginsRows : Layout → List ℕ → Option (List ℕ) → Type 0
-BeginsRows layout column left = (rest : List ℕ) × (left ≡ Some rest) × (records_by layout.records rest ≡ drop (records_before layout.header) (records_by layout.records (strip_bom column)))
+BeginsRows layout bytes left = (rest : List ℕ) × (left ≡ Some rest) × (records_left layout rest ≡ drop (records_before layout.header) (records_read layout bytes))
 
 -- the header of a column, where the bytes that are left are known, could not be passed over: the column can't be read on, or it is too long
-abbrev pub HaltsAtHeader : Option ℕ → Records → Option (List ℕ) → Halt → Type 0
-HaltsAtHeader most by known halt.Unread = Unit {0}
-HaltsAtHeader most by known (halt.Stop (stop.Row row kind)) = (row ≡ 0) × (kind ≡ kinds.RowTooLong) × IsNextTooLong most by known
-HaltsAtHeader most by known (halt.Stop _) = ⊥
+abbrev pub HaltsAtHeader : Option ℕ → Records → ℕ → Option (List ℕ) → Halt → Type 0
+HaltsAtHeader most by delimiter known halt.Unread = Unit {0}
+HaltsAtHeader most by delimiter known (halt.Stop (stop.Row row kind)) = (row ≡ 0) × (kind ≡ kinds.RowTooLong) × IsNextTooLong most by delimiter known
+HaltsAtHeader most by delimiter known (halt.Stop _) = ⊥
 
 -- a stop at the header of a column, which has too many bytes, where the bytes of the column are known
 pub record IsAtLongHeader (layout : Layout) (known : Option (List ℕ)) (why : RunStop) : Type 0 where
   pub is : why ≡ stop.Row 0 kinds.RowTooLong
   pub header : records_before layout.header ≡ 1
-  pub long : IfSome known (λ column. BeginsTooLong layout.max_record (records_by layout.records (strip_bom column)))
+  pub long : IfSome known (λ bytes. BeginsTooLong layout.max_record (records_read layout bytes))
 
 -- a column could not be begun: it can't be read on, or its header is too long
 abbrev pub HaltsAtBegin : Layout → Option (List ℕ) → Halt → Type 0
@@ -161,13 +144,13 @@ HaltsAtBegin layout known (halt.Stop _) = ⊥
 pub record IsAtHeader (layout : Layout) (files : List File) (known : Option (List ℕ)) (why : RunStop) : Type 0 where
   pub kind : RowKind
   pub is : why ≡ stop.Row 0 kind
-  pub fault : IfSome known (λ column. header_fault_in layout files column ≡ Some kind)
+  pub fault : IfSome known (λ bytes. fault_read layout files bytes ≡ Some kind)
 
 -- the conversion of a column, where its bytes are known, ended before its rows began
 abbrev pub HaltsAtHead : {W : Type 0} → (W → Option (List ℕ)) → Counts W → Counts W → Layout → List File → Option (List ℕ) → Halt → Type 0
 HaltsAtHead contents old new layout files known halt.Unread = new ≡ old
 HaltsAtHead contents old new layout files known (halt.Stop stop.Memory) = new ≡ old
-HaltsAtHead contents old new layout files known (halt.Stop stop.WriteFailed) = HasFailedSince new old.failures × IfSome known (λ column. FailsWithin contents old new (own_line_in layout column) × (header_fault_in layout files column ≡ None))
+HaltsAtHead contents old new layout files known (halt.Stop stop.WriteFailed) = HasFailedSince new old.failures × IfSome known (λ bytes. FailsWithin contents old new (header_of layout.start (names_added layout) layout.delimiter (header_read layout bytes)) × (fault_read layout files bytes ≡ None))
 HaltsAtHead contents old new layout files known (halt.Stop (stop.Row row kind)) = (new ≡ old) × IsAtHeader layout files known (stop.Row row kind)
 HaltsAtHead contents old new layout files known (halt.Stop _) = ⊥
 
@@ -186,12 +169,13 @@ longest_of layout = end_limit layout.at_fault layout.records layout.max_record
 -- to its end
 pub record TakesNext {R : Type 0} (remaining : R → Option (List ℕ)) (size : ℕ) (longest : Option ℕ) (old new : ColumnOf R) (next : Taken) : Type 0 where
   pub by : new.by ≡ old.by
-  pub takes : Columns.Takes old.by (unread remaining old) (unread remaining new) (taken_records next new.round)
+  pub delimiter : new.delimiter ≡ old.delimiter
+  pub takes : Takes old.by old.delimiter (unread remaining old) (unread remaining new) (taken_records old.delimiter next new.round)
   pub some : next ≡ taken.Round ↔ (0 < length new.round)
-  pub end : next ≡ taken.End → HasNoRecord old.by (unread remaining new)
-  pub long : next ≡ taken.TooLong → IsNextTooLong longest old.by (unread remaining new)
+  pub end : next ≡ taken.End → HasNoRecord old.by old.delimiter (unread remaining new)
+  pub long : next ≡ taken.TooLong → IsNextTooLong longest old.by old.delimiter (unread remaining new)
   pub few : length new.round ≤ MAX_ROUND_PIECES
-  pub cut : ArePiecesOf size new.round
+  pub cut : ArePiecesOf old.delimiter size new.round
 
 -- What was taken of a column, the first record as the row of this number, was converted: all rows were written, or there was nothing, at its
 -- end.
@@ -199,7 +183,7 @@ abbrev pub WritesTaken : {W : Type 0} → Layout → Releases → ℕ → Option
     → Option Tally → Type 0
 WritesTaken layout releases most limit first next pieces contents old new log log' None = (next ≡ taken.End) × (new ≡ old) × (log' ≡ log)
 WritesTaken layout releases most limit first next pieces contents old new log log' (Some tally) =
-    (next ≡ taken.End → ⊥) × (next ≡ taken.TooLong → ⊥) × WritesRecords layout releases most limit first (taken_rows layout.delimiter next pieces) contents old new log log' tally
+    (next ≡ taken.End → ⊥) × (next ≡ taken.TooLong → ⊥) × WritesRecords layout releases most limit first (taken_records layout.delimiter next pieces) contents old new log log' tally
 
 -- the run ended in it, or at a record that has too many bytes
 abbrev pub EndsInTaken : {W : Type 0} → Layout → Releases → ℕ → Option ℕ → ℕ → Taken → List (List ℕ) → (W → Option (List ℕ)) → Counts W → Counts W → Option (List RowNote) → Option (List RowNote)
@@ -209,7 +193,7 @@ EndsInTaken layout known most limit first taken.TooLong pieces contents old new 
     ((releases : Releases) (given : CsvRecord) → may_have (longest_of layout) (length given.own) ≡ false → EndsInRecords layout releases most limit first (given ∷ []) contents old new log log why)
     × (log' ≡ log)
 EndsInTaken layout known most limit first next pieces contents old new log log' why =
-    EndsInRecords layout known most limit first (taken_rows layout.delimiter next pieces) contents old new log log' why
+    EndsInRecords layout known most limit first (taken_records layout.delimiter next pieces) contents old new log log' why
 
 -- the column could not be read on, before zones were requested, or memory was refused then
 abbrev pub EndsAtTaking : {Z : Type 0} → (Z → Z → Type 0) → Z → Z → Halt → Type 0

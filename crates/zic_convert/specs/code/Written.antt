@@ -4,6 +4,7 @@ use Rattle.std.specs.List.{concat}
 use Rattle.std.specs.Io.{StartsWith}
 use Rattle.std.specs.Io.KnownBytes.{Appends}
 use Rattle.zic_columns.specs.Own.{CsvRecord}
+use Rattle.zic_columns.specs.Round.{records_of_pieces}
 use Rattle.zic_counted.specs.Counts.{Counts, HasFailedSince}
 use Rattle.zic_counted.specs.Written.{FailsWithin}
 use Rattle.zic_zones.specs.declared.releases.Releases.{Releases}
@@ -15,7 +16,6 @@ use Rattle.zic_base.specs.declared.run_stop.RunStop.{RunStop}
 use Rattle.zic_base.specs.declared.run_stop.RunStop.TheVariants as stop
 use Rattle.zic_layout_rows.specs.LayoutRows.{RecordsConvertBy}
 use Rattle.zic_convert.specs.Run.{AreFew, IsOneTooMany, Notes}
-use Rattle.zic_convert.specs.code.Row.{records_of_all}
 use Rattle.zic_layout_rows.specs.PieceRows.{AreRowsOf, RowsOf}
 use Rattle.zic_convert.specs.code.Pieces.{Pieces, joined}
 use Rattle.zic_convert.specs.declared.tally.Tally.{Tally}
@@ -73,7 +73,7 @@ WritesRecords layout releases most limit first row_records contents old new log 
 
 -- those of a round
 abbrev pub WritesRound : {W : Type 0} → Pieces → Option ℕ → (W → Option (List ℕ)) → Counts W → Counts W → Option (List RowNote) → Option (List RowNote) → Tally → Type 0
-WritesRound p limit contents old new log log' tally = WritesRecords p.layout p.releases p.most limit p.first (records_of_all p.layout.delimiter p.pieces) contents old new log log' tally
+WritesRound p limit contents old new log log' tally = WritesRecords p.layout p.releases p.most limit p.first (records_of_pieces p.layout.delimiter p.pieces) contents old new log log' tally
 
 -- Of the rows of these records, those of the first records were written, and their faults, which are few, noted. Then the writer failed,
 -- before the row of a record up to which faults are few too.
@@ -124,10 +124,10 @@ EndsInRecords layout releases most limit first row_records contents old new log 
 
 -- those of a round
 abbrev pub EndsInRound : {W : Type 0} → Pieces → Option ℕ → (W → Option (List ℕ)) → Counts W → Counts W → Option (List RowNote) → Option (List RowNote) → RunStop → Type 0
-EndsInRound p limit contents old new log log' why = EndsInRecords p.layout p.releases p.most limit p.first (records_of_all p.layout.delimiter p.pieces) contents old new log log' why
+EndsInRound p limit contents old new log log' why = EndsInRecords p.layout p.releases p.most limit p.first (records_of_pieces p.layout.delimiter p.pieces) contents old new log log' why
 
 -- among the rows of a round is this one with one fault too many
 abbrev pub HasOneTooMany : Pieces → Option ℕ → RowFault → Type 0
 HasOneTooMany p limit fault =
-    (rows : RowsOf) × AreRowsOf p.layout p.releases p.most p.first (records_of_all p.layout.delimiter p.pieces) rows
+    (rows : RowsOf) × AreRowsOf p.layout p.releases p.most p.first (records_of_pieces p.layout.delimiter p.pieces) rows
     × (before : List RowNote) × IsOneTooMany limit rows.faults fault.row fault.kind before

@@ -1,11 +1,10 @@
 -- What is noted of a record with a fault, as the code has it.
 use Rattle.std.specs.Prelude.{◌≡◌, ◌≤◌, ℕ, List, Option, None, Some, length}
 use Rattle.zic_base.specs.declared.row_fault.RowKind.{RowKind}
-use Rattle.zic_columns.specs.Lines.{exchanged_record}
-use Rattle.zic_columns.specs.Record.{record_at}
 use Rattle.zic_columns.specs.declared.fields.Record.{Record}
 use Rattle.zic_plan.specs.declared.row_log.FaultDetail.{FaultDetail}
 use Rattle.zic_layout_rows.specs.Detail.{line_at, line_feeds_before, value_at_fault}
+use Rattle.zic_layout_rows.specs.code.Batch.{record_of}
 use Rattle.zic_layout_rows.specs.declared.note.LinesPassed.{LinesPassed}
 use Rattle.zic_layout_rows.specs.declared.piece.Piece.{Piece}
 
@@ -17,7 +16,7 @@ pub record ArePassed (piece : List ℕ) (passed : LinesPassed) : Type 0 where
 -- what is noted of a record is the line where it begins and the value at fault
 pub record IsDetailOf (piece : Piece) (given : Record) (fault : RowKind) (before : ℕ) (passed : LinesPassed) (detail : FaultDetail) : Type 0 where
   pub line : ArePassed piece.bytes.now passed → passed.at ≤ given.own.start → detail.line ≡ line_at before piece.bytes.now given.own.start
-  pub value : detail.value.items ≡ value_at_fault piece.layout.now fault (exchanged_record piece.layout.now.delimiter (record_at piece.bytes.now given))
+  pub value : detail.value.items ≡ value_at_fault piece.layout.now fault (record_of piece given)
 
 -- that is noted where lines are counted, and nothing where they aren't
 abbrev pub IsNotedOf : Piece → Record → RowKind → LinesPassed → Option ℕ → Option FaultDetail → Type 0

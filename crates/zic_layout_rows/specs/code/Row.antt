@@ -1,12 +1,11 @@
 -- Rows as the code has them.
-use Rattle.std.specs.Prelude.{◌≡◌, ◌+◌, ℕ, ℤ, pos, ◌+ℤ◌, ◌*ℤ◌, List, ◌∷◌, ◌++◌, Option, None, Some, MatchOption}
+use Rattle.std.specs.Prelude.{◌≡◌, ◌+◌, ℕ, ℤ, pos, ◌+ℤ◌, ◌*ℤ◌, List, ◌∷◌, ◌++◌, Option, None, Some, MatchOption, drop, take}
 use Rattle.std.specs.Fmt.{signed_decimal}
 use Rattle.zic_base.specs.State.{Shown}
+use Rattle.zic_columns.specs.Exchange.{exchanged}
 use Rattle.zic_columns.specs.Own.{CsvRecord}
 use Rattle.zic_files.specs.File.{File}
 use Rattle.zic_plan.specs.declared.layout.Layout.{Layout}
-use Rattle.zic_plan.specs.declared.layout.RowStart.{RowStart}
-use Rattle.zic_plan.specs.declared.layout.RowStart.TheVariants as start
 use Rattle.zic_plan.specs.declared.layout.Style.{Style}
 use Rattle.zic_plan.specs.declared.layout.Style.TheVariants as styles
 use Rattle.zic_plan.specs.declared.layout.TimeFrom.{TimeFrom}
@@ -16,13 +15,15 @@ use Rattle.zic_rows.specs.Row.{state_text}
 use Rattle.zic_rows.specs.declared.row_time.RowTime.{RowTime}
 use Rattle.zic_base.specs.declared.row_fault.RowKind.{RowKind}
 use Rattle.zic_zones.specs.declared.releases.Releases.{Releases}
-use Rattle.zic_layout_rows.specs.LayoutRows.{IsRowBy, IsWrittenBy, ends_by, fault_by, noted}
+use Rattle.zic_layout_rows.specs.LayoutRows.{IsWrittenBy, ends_by, fault_by, noted}
 use Rattle.zic_layout_rows.specs.PieceRows.{RowsOf}
+use Rattle.zic_layout_rows.specs.declared.piece.Piece.{Piece}
+use Rattle.zic_layout_rows.specs.declared.start.Input.{Input}
+use Rattle.zic_layout_rows.specs.declared.start.Input.TheVariants as given_by
 
--- what a row begins with, before the delimiter is put back, by the text of the field
-abbrev pub field_start : RowStart → List ℕ → List ℕ → List ℕ → List ℕ
-field_start start.Fields own name field = name ++ 44 ∷ field
-field_start start.Record own name field = own
+-- bytes, with commas and the delimiter exchanged from an index on
+abbrev pub put_from : ℕ → ℕ → List ℕ → List ℕ
+put_from delimiter index bytes = take index bytes ++ exchanged delimiter (drop index bytes)
 
 -- the count of a time
 abbrev pub time_count : RowTime → ℤ
@@ -42,13 +43,25 @@ rest_at style from.Count time state = timed_rest_text style time.unit time.secon
 rest_at style from.Rfc3339 time state = timed_rest_text style time.unit time.second time.fraction state
 rest_at style (from.Local choice) time state = local_rest style time state
 
--- Rows, and those with the row of one record more, as the row of a number, or with the fault that ends the run there.
-abbrev pub AreNext : Layout → List File → ℕ → ℕ → CsvRecord → RowsOf → RowsOf → Type 0
-AreNext layout files most number row_record old new = MatchOption (ends_by layout files most number row_record)
-    ((row : List ℕ) × IsRowBy layout files most number row_record row × (new ≡ record { text = old.text ++ row; count = old.count + 1; fault = old.fault; faults = old.faults ++ noted layout.at_fault number row_record.own (fault_by layout files most number row_record) }))
-    (λ kind. new ≡ record old { fault = Some kind })
+-- what a row has of the time in the field of its record: the field as it is, where that has decimals, or else the time's count
+abbrev pub input_of : TimeFrom → RowTime → Input
+input_of from.Count time = given_by.Field
+input_of from.Rfc3339 time = given_by.Count (time_count time)
+input_of (from.Local choice) time = given_by.Count (time_count time)
 
--- The same of a record whose row is written as the layout says, by the end of the run there, or none.
+-- the files of a release, and those of another, if there is one
+abbrev pub with_old : List File → Option (List File) → Releases
+with_old files old = record { zones = files; old = old }
+
+abbrev pub by_both : Piece → Option (List File) → Releases
+by_both piece old = with_old piece.zones.now old
+
+-- the files of a piece with the zones of another release, if there is one
+abbrev pub files_of : Option Piece → Option (List File)
+files_of None = None
+files_of (Some other) = Some other.zones.now
+
+-- Rows, and those with the row of one record more, as the row of a number, or with the fault that ends the run there.
 abbrev pub IsNextBy : Layout → Releases → ℕ → ℕ → CsvRecord → RowsOf → RowsOf → Option RowKind → Type 0
 IsNextBy layout releases most number row_record old new end = MatchOption end
     ((row : List ℕ) × IsWrittenBy layout releases most number row_record row × (new ≡ record { text = old.text ++ row; count = old.count + 1; fault = old.fault; faults = old.faults ++ noted layout.at_fault number row_record.own (fault_by layout releases.zones most number row_record) }))

@@ -11,5 +11,5 @@ returns c =
     let from = c.args.from in
     let is = c.field_ends_at-ends.ensures in
     let within : from + 32 ≤ length bytes = omega (arith, c.requires, c.if-bytes-from-lt-BLOCK.false) in
-    subst (λ (m : ℕ). IsFirst (Passes ends_field bytes) from (length bytes) (Some (from + trailing_zeros w64 m))) (sym is)
-    (first_in_mask ends_field bytes from within (omega (arith, c.if-ends-eq0.false, is)))
+    subst (λ (m : ℕ). IsFirst (Passes (ends_field c.args.delimiter.byte) bytes) from (length bytes) (Some (from + trailing_zeros w64 m))) (sym is)
+    (first_in_mask (ends_field c.args.delimiter.byte) bytes from within (omega (arith, c.if-ends-eq0.false, is)))

@@ -14,7 +14,7 @@ loop-whole-preserved c =
     let ended = rw (take_rest bytes (whole + n)) at c.in-Ok.ensures in
     record {
       within = omega (arith, ended.within, length-drop (whole + n) bytes, within);
-      records = more_ends bytes (whole + n) (more_lines bytes whole c.loop-whole.invariant.records n lines) c.in-Ok.len (begins_next bytes whole n lines within) ended;
+      records = more_ends c.args.delimiter.can bytes (whole + n) (more_lines c.args.delimiter.can bytes whole c.loop-whole.invariant.records n lines) c.in-Ok.len (begins_next bytes whole n lines within) ended;
     }
 
 pub returns-in-Err : goal.returns-in-Err
@@ -25,7 +25,7 @@ returns-in-Err c =
     let lines : BeginWithLines (drop whole bytes) n = rw (take_rest bytes whole) at c.lines_before_quote-whole.ensures in
     let within : whole + n < length bytes = omega (arith, lines.within, length-drop whole bytes, c.if-whole-bytes.false, c.loop-whole.invariant.within) in
     let reads = rw (take_rest bytes (whole + n)) at c.in-Err.ensures in
-    scanned_begun bytes (whole + n) (more_lines bytes whole c.loop-whole.invariant.records n lines) c.in-Err.place (omega (arith, within)) (begins_next bytes whole n lines within) reads
+    scanned_begun c.args.delimiter.can bytes (whole + n) (more_lines c.args.delimiter.can bytes whole c.loop-whole.invariant.records n lines) c.in-Err.place (omega (arith, within)) (begins_next bytes whole n lines within) reads
 
 pub returns-then-whole-bytes : goal.returns-then-whole-bytes
 returns-then-whole-bytes c =
@@ -33,4 +33,4 @@ returns-then-whole-bytes c =
     let whole = c.loop-whole.whole in
     let n = c.lines_before_quote-whole.result in
     let lines : BeginWithLines (drop whole bytes) n = rw (take_rest bytes whole) at c.lines_before_quote-whole.ensures in
-    scanned_all bytes (whole + n) (more_lines bytes whole c.loop-whole.invariant.records n lines) (sym c.if-whole-bytes.true)
+    scanned_all c.args.delimiter.can bytes (whole + n) (more_lines c.args.delimiter.can bytes whole c.loop-whole.invariant.records n lines) (sym c.if-whole-bytes.true)

@@ -5,7 +5,7 @@ use Rattle.zic_columns.proofs.csv_scan.scan_from.Given as goal
 abbrev pub invariant-loop-whole : goal.invariant-loop-whole
 invariant-loop-whole l = record {
   within : l.whole ≤ length l.bytes;
-  records : AreWholeRecords (take l.whole l.bytes);
+  records : AreWholeRecords l.delimiter.byte (take l.whole l.bytes);
 }
 
 abbrev pub decreases-loop-whole : goal.decreases-loop-whole

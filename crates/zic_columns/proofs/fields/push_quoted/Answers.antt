@@ -10,7 +10,7 @@ pub returns-in_default : goal.returns-in_default
 returns-in_default c =
     let loop = c.loop-byte.invariant in
     let after = c.after_line_ends-rest in
-    let text = text_after c.args.bytes.now after.result.now loop.0 c.loop-byte.byte-index after.ensures
+    let text = text_after c.args.delimiter.can c.args.bytes.now after.result.now loop.0 c.loop-byte.byte-index after.ensures
     (record { within = omega arith; place_now = c.loop-byte.place_now; spells = loop.2; ends = inr c.in_default.ensures }) in
     loop.1 ∙ ap (λ (t : List ℕ). c.args.text.now.items ++ t) (sym text)
 
@@ -32,9 +32,9 @@ loop-byte-preserved c =
     ] in (
       loop.0 ++ more,
       items ∙ ap (λ (t : List ℕ). t ++ more) loop.1 ∙ append_assoc c.args.text.now.items loop.0 more,
-      subst (λ (p : Place). Spells (take (index + 1) rest) (loop.0 ++ more) p) place_now
-          (subst (λ (b : List ℕ). Spells b (loop.0 ++ more) read.next) (sym (take_more rest index 0 c.loop-byte-test.true))
-          (spells_byte (take index rest) loop.0 c.loop-byte.place_now byte read loop.2 c.in-Some.ensures.0)),
+      subst (λ (p : Place). Spells c.args.delimiter.byte (take (index + 1) rest) (loop.0 ++ more) p) place_now
+          (subst (λ (b : List ℕ). Spells c.args.delimiter.byte b (loop.0 ++ more) read.next) (sym (take_more rest index 0 c.loop-byte-test.true))
+          (spells_byte c.args.delimiter.can (take index rest) loop.0 c.loop-byte.place_now byte read loop.2 c.in-Some.ensures.0)),
     )
 
 pub returns : goal.returns
@@ -42,6 +42,6 @@ returns c =
     let loop = c.loop-byte.invariant in
     let after = c.after_line_ends-rest in
     let all : c.loop-byte.byte-index ≡ length after.result.now = omega arith in
-    let text = text_after c.args.bytes.now after.result.now loop.0 c.loop-byte.byte-index after.ensures
+    let text = text_after c.args.delimiter.can c.args.bytes.now after.result.now loop.0 c.loop-byte.byte-index after.ensures
     (record { within = omega arith; place_now = c.loop-byte.place_now; spells = loop.2; ends = inl all }) in
     loop.1 ∙ ap (λ (t : List ℕ). c.args.text.now.items ++ t) (sym text)

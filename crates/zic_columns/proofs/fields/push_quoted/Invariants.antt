@@ -4,4 +4,4 @@ use Rattle.zic_columns.proofs.fields.push_quoted.Given as goal
 
 -- the text was appended that the bytes before the index spell
 abbrev pub invariant-loop-byte : goal.invariant-loop-byte
-invariant-loop-byte l = (text : List ℕ) × (l.text.items ≡ l.fn.text.items ++ text) × Spells (take l.byte-index l.rest) text l.place_now
+invariant-loop-byte l = (text : List ℕ) × (l.text.items ≡ l.fn.text.items ++ text) × Spells l.delimiter.byte (take l.byte-index l.rest) text l.place_now

@@ -7,7 +7,7 @@ use Rattle.zic_columns.proofs.first.first_record.Goals as goal
 pub returns-then-is_empty : goal.returns-then-is_empty
 returns-then-is_empty c =
     let start = c.after_line_ends-rest in
-    no_record c.args.bytes.now start.result.now start.ensures (nil_from_length start.result.now (eqb-true _ 0 (sym c.is_empty.ensures ∙ c.if-is_empty.true)))
+    no_record c.args.delimiter.can c.args.bytes.now start.result.now start.ensures (nil_from_length start.result.now (eqb-true _ 0 (sym c.is_empty.ensures ∙ c.if-is_empty.true)))
 
 pub record_len-requires : goal.record_len-requires
 record_len-requires c =
@@ -17,4 +17,4 @@ record_len-requires c =
 pub returns : goal.returns
 returns c =
     let start = c.after_line_ends-rest in
-    first_after c.args.bytes.now start.result.now c.record_len.result start.ensures c.record_len.ensures
+    first_after c.args.delimiter.can c.args.bytes.now start.result.now c.record_len.result start.ensures c.record_len.ensures

@@ -7,14 +7,14 @@ use Rattle.zic_columns.proofs.first.split_records.Goals as goal
 pub loop-left-init : goal.loop-left-init
 loop-left-init c =
     let bytes = c.args.bytes.now in
-    record { few = omega arith; passed = subst (λ (n : ℕ). HasPassed bytes n bytes) (omega arith) (passed_none bytes) }
+    record { few = omega arith; passed = subst (λ (n : ℕ). HasPassed c.args.delimiter.can bytes n bytes) (omega arith) (passed_none c.args.delimiter.can bytes) }
 
 pub returns-in_default : goal.returns-in_default
 returns-in_default c =
     let rest = c.loop-left.rest.now in
     let len = c.pass_records-passed.result.len in
-    passed_to_end c.args.bytes.now c.args.count c.loop-left.left rest c.pass_records-passed.result (take (length rest - len) (drop len rest))
-    c.loop-left.invariant.few c.loop-left.invariant.passed c.pass_records-passed.ensures (take_rest rest len) c.in_default.ensures
+    passed_to_end c.args.delimiter.can c.args.bytes.now c.args.count c.loop-left.left rest c.pass_records-passed.result (take (length rest - len) (drop len rest))
+    c.loop-left.invariant.few c.loop-left.invariant.passed (c.pass_records-passed.ensures c.args.delimiter.byte c.args.delimiter.can) (take_rest rest len) c.in_default.ensures
 
 pub loop-left-preserved : goal.loop-left-preserved
 loop-left-preserved c =
@@ -23,8 +23,8 @@ loop-left-preserved c =
     let after = take (length rest - len) (drop len rest) in
     record {
       few = omega (arith, c.loop-left.invariant.few);
-      passed = passed_on c.args.bytes.now c.args.count c.loop-left.left rest c.pass_records-passed.result after c.loop-left.invariant.few
-          c.loop-left.invariant.passed c.pass_records-passed.ensures (take_rest rest len) c.in-Some.len (take (length after - c.in-Some.len) (drop c.in-Some.len after))
+      passed = passed_on c.args.delimiter.can c.args.bytes.now c.args.count c.loop-left.left rest c.pass_records-passed.result after c.loop-left.invariant.few
+          c.loop-left.invariant.passed (c.pass_records-passed.ensures c.args.delimiter.byte c.args.delimiter.can) (take_rest rest len) c.in-Some.len (take (length after - c.in-Some.len) (drop c.in-Some.len after))
           c.in-Some.ensures (take_rest after c.in-Some.len);
     }
 
@@ -38,4 +38,4 @@ returns c =
     let bytes = c.args.bytes.now in
     let rest = c.loop-left.rest.now in
     let all : c.args.count - c.loop-left.left ≡ c.args.count = omega (arith, c.loop-left-test.false) in
-    rw (c.split_at.ensures.front, c.split_at.ensures.back) (passed_cut bytes c.args.count rest (subst (λ (n : ℕ). HasPassed bytes n rest) all c.loop-left.invariant.passed))
+    rw (c.split_at.ensures.front, c.split_at.ensures.back) (passed_cut c.args.delimiter.can bytes c.args.count rest (subst (λ (n : ℕ). HasPassed c.args.delimiter.can bytes n rest) all c.loop-left.invariant.passed))

@@ -5,7 +5,7 @@ use Rattle.zic_columns.proofs.first.split_records.Given as goal
 abbrev pub invariant-loop-left : goal.invariant-loop-left
 invariant-loop-left l = record {
   few : l.left ≤ l.count;
-  passed : HasPassed l.bytes (l.count - l.left) l.rest;
+  passed : HasPassed l.delimiter.can l.bytes (l.count - l.left) l.rest;
 }
 
 abbrev pub decreases-loop-left : goal.decreases-loop-left

@@ -13,7 +13,7 @@ loop-whole-preserved c =
     let first = rw (take_rest bytes (whole + n)) at c.in-Closed.ensures in
     record {
       within = omega (arith, first.1, length-drop (whole + n) bytes, lines.within, length-drop whole bytes, c.loop-whole.invariant.within);
-      closed = closed_more bytes (whole + n) (closed_lines bytes whole c.loop-whole.invariant.closed n lines) c.in-Closed.len first.2;
+      closed = closed_more c.args.delimiter.can bytes (whole + n) (closed_lines c.args.delimiter.can bytes whole c.loop-whole.invariant.closed n lines) c.in-Closed.len first.2;
     }
 
 pub returns-in-Open : goal.returns-in-Open
@@ -23,7 +23,7 @@ returns-in-Open c =
     let n = c.lines_before_quote-whole.result in
     let lines : BeginWithLines (drop whole bytes) n = rw (take_rest bytes whole) at c.lines_before_quote-whole.ensures in
     let within : whole + n ≤ length bytes = omega (arith, lines.within, length-drop whole bytes, c.loop-whole.invariant.within) in
-    scan_opened bytes (whole + n) (closed_lines bytes whole c.loop-whole.invariant.closed n lines) c.in-Open.line within (rw (take_rest bytes (whole + n)) at c.in-Open.ensures)
+    scan_opened c.args.delimiter.can bytes (whole + n) (closed_lines c.args.delimiter.can bytes whole c.loop-whole.invariant.closed n lines) c.in-Open.line within (rw (take_rest bytes (whole + n)) at c.in-Open.ensures)
 
 pub returns-in-Unended : goal.returns-in-Unended
 returns-in-Unended c =
@@ -32,7 +32,7 @@ returns-in-Unended c =
     let n = c.lines_before_quote-whole.result in
     let lines : BeginWithLines (drop whole bytes) n = rw (take_rest bytes whole) at c.lines_before_quote-whole.ensures in
     let within : whole + n ≤ length bytes = omega (arith, lines.within, length-drop whole bytes, c.loop-whole.invariant.within) in
-    scan_unended bytes (whole + n) (closed_lines bytes whole c.loop-whole.invariant.closed n lines) within (rw (take_rest bytes (whole + n)) at c.in-Unended.ensures)
+    scan_unended c.args.delimiter.can bytes (whole + n) (closed_lines c.args.delimiter.can bytes whole c.loop-whole.invariant.closed n lines) within (rw (take_rest bytes (whole + n)) at c.in-Unended.ensures)
 
 pub returns : goal.returns
-returns c = scan_all c.args.bytes.now c.loop-whole.whole c.loop-whole.invariant.closed c.loop-whole.invariant.within c.loop-whole-test.false
+returns c = scan_all c.args.delimiter.can c.args.bytes.now c.loop-whole.whole c.loop-whole.invariant.closed c.loop-whole.invariant.within c.loop-whole-test.false

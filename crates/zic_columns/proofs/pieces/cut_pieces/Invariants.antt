@@ -5,5 +5,5 @@ use Rattle.zic_columns.proofs.pieces.cut_pieces.Given as goal
 abbrev pub invariant-loop : goal.invariant-loop
 invariant-loop l = record {
   count : length l.ranges.items ≡ l.counter;
-  cut : IsCutTo l.bytes l.size l.ranges.items l.rest;
+  cut : IsCutTo l.delimiter.can l.bytes l.size l.ranges.items l.rest;
 }

@@ -5,7 +5,7 @@ use Rattle.zic_columns.proofs.PlainFacts.{picked, picked_zone}
 use Rattle.zic_columns.proofs.plain.with_span.Goals as goal
 
 pub returns-clause-has : goal.returns-clause-has
-returns-clause-has c = λ piece start stop wanted texts is has within.
+returns-clause-has c = λ d piece start stop wanted texts is has within.
     let fields = c.args.fields in
     let span = c.args.span in
     let zone = picked_zone piece texts fields.count has.count span fields.zone within has.zone_within c.pick.result wanted.zone c.args.indices.zone is.0 c.requires

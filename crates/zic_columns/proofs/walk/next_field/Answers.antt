@@ -11,4 +11,4 @@ returns c =
       | else-at-piece-via-then-at-piece+else-piece-at-eq34 w ↦ λ _ is. w.if-piece-at-eq34.false is
       | else-at-piece-via-else-at-piece w ↦ λ inside _. absurd (omega (arith, w.if-at-piece.false, inside))
     ] in
-    plain_at piece at c.field_end-stop.result c.field_end-stop.ensures other
+    plain_at c.args.delimiter.can piece at c.field_end-stop.result c.field_end-stop.ensures other

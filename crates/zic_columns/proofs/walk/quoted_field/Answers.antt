@@ -7,4 +7,4 @@ returns c =
     let piece = c.args.piece.now in
     let at = c.args.at in
     let found = c.field_len-found in
-    quoted_at piece at c.requires _ found.ensures.0 found.result.len found.result.stray (take_rest piece at) found.ensures.1 found.ensures.2
+    quoted_at c.args.delimiter.can piece at c.requires _ found.ensures.0 found.result.len found.result.stray (take_rest piece at) found.ensures.1 found.ensures.2

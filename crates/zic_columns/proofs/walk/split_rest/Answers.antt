@@ -2,7 +2,7 @@ use Rattle.std.proofs.Common.{◌≡◌, ◌⊎◌, ◌∙◌, ◌<◌, ◌==◌
 use Rattle.std.proofs.lemmas.Bool.{ne_eqb}
 use Rattle.zic_columns.specs.declared.fields.Span.{Span}
 use Rattle.zic_columns.proofs.WalkFacts.{record_out, walked_on}
-use Rattle.zic_columns.proofs.walk.split_rest.Goals.{then-found-piece-via-then-found-piece, then-found-piece-via-else-found-piece+then-piece-found-ne44}
+use Rattle.zic_columns.proofs.walk.split_rest.Goals.{then-found-piece-via-then-found-piece, then-found-piece-via-else-found-piece+then-piece-found}
 use Rattle.zic_columns.proofs.walk.split_rest.Goals as goal
 
 abbrev span_to : ℕ → ℕ → Span
@@ -16,12 +16,12 @@ returns-then-found-piece c =
     let found = c.next_field-found in
     let stop = found.result.stop in
     let more = c.with_field-given in
-    let has = more.ensures.has piece walked.fields walked.has found.ensures.field in
-    let out : (stop ≡ length piece) ⊎ ((stop < length piece) × ((get_or piece stop 0 == 44) ≡ false)) = elim c.then-found-piece.branch [
+    let has = more.ensures.has c.args.delimiter.byte piece walked.fields walked.has found.ensures.field in
+    let out : (stop ≡ length piece) ⊎ ((stop < length piece) × ((get_or piece stop 0 == c.args.delimiter.byte) ≡ false)) = elim c.then-found-piece.branch [
       | then-found-piece-via-then-found-piece w ↦ inl w.if-found-piece.true
-      | then-found-piece-via-else-found-piece+then-piece-found-ne44 w ↦ inr (omega (arith, w.if-found-piece.false, found.ensures.high), ne_eqb (get_or piece stop 0) 44 w.if-piece-found-ne44.true)
+      | then-found-piece-via-else-found-piece+then-piece-found w ↦ inr (omega (arith, w.if-found-piece.false, found.ensures.high), ne_eqb (get_or piece stop 0) c.args.delimiter.byte w.if-piece-found.true)
     ] in
-    record_out piece start c.args.wanted c.loop-wanted.given c.loop-wanted.at walked found.result found.ensures c.requires.begins _
+    record_out c.args.delimiter.can piece start c.args.wanted c.loop-wanted.given c.loop-wanted.at walked found.result found.ensures c.requires.begins _
     (ap (span_to stop) (ap (λ (o : Span). o.start) more.ensures.own ∙ walked.own))
     (record { count = has.count; zone_within = has.zone_within; zone = has.zone; time_within = has.time_within; time = has.time })
     more.ensures.stray out
@@ -32,6 +32,6 @@ loop-wanted-preserved c =
     let walked = c.loop-wanted.invariant in
     let found = c.next_field-found in
     let more = c.with_field-given in
-    walked_on piece c.args.begun.given.own.start c.args.wanted c.loop-wanted.given c.loop-wanted.at walked found.result found.ensures more.result
-    (omega (arith, c.if-found-piece.false, found.ensures.high)) c.if-piece-found-ne44.false more.ensures.own more.ensures.count
-    (more.ensures.has piece walked.fields walked.has found.ensures.field) more.ensures.stray
+    walked_on c.args.delimiter.can piece c.args.begun.given.own.start c.args.wanted c.loop-wanted.given c.loop-wanted.at walked found.result found.ensures more.result
+    (omega (arith, c.if-found-piece.false, found.ensures.high)) c.if-piece-found.false more.ensures.own more.ensures.count
+    (more.ensures.has c.args.delimiter.byte piece walked.fields walked.has found.ensures.field) more.ensures.stray

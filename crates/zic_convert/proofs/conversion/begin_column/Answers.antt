@@ -12,5 +12,5 @@ returns-in_err-header-in-First-clause-halt g c =
       | inl first ↦ ap records_before first
       | inr skipped ↦ ap records_before skipped
     ] in
-    rw (p.1, p.2) (header_halts c.args.by.now.layout.now (g.R.Read.remaining c.args.reader) (unread g.R.Read.remaining c.in_ok-column.column) c.in_ok-column.column.by c.in_ok-column.ensures.by
+    rw (p.1, p.2) (header_halts c.args.by.now.layout.now (g.R.Read.remaining c.args.reader) (unread g.R.Read.remaining c.in_ok-column.column) c.in_ok-column.column.by c.in_ok-column.column.delimiter c.in_ok-column.ensures.by c.in_ok-column.ensures.delimiter
     c.in_ok-column.ensures.bytes before c.in_err-header-in-First.field-0.0 c.in_err-header-in-First.ensures.halt)

@@ -1,31 +1,30 @@
 use Rattle.std.proofs.Common.{◌<◌, ◌+◌, ◌∙◌, rules, arith, refl}
 use Rattle.std.proofs.lemmas.Result.{err_from_is_err_and}
-use Rattle.zic_columns.specs.Round.{unread}
-use Rattle.zic_convert.specs.code.Row.{taken_rows}
+use Rattle.zic_columns.specs.Round.{taken_records, unread}
 use Rattle.zic_convert.proofs.Halts.{as_many, no_more}
 use Rattle.zic_convert.proofs.Joining.{taken_some}
-use Rattle.zic_convert.proofs.Progress.{rows_taken}
 use Rattle.zic_convert.proofs.Rounds.{far_at_start, far_on, flush_fails, no_round, rounds_done, taken_ends}
 use Rattle.zic_convert.proofs.Staying.{takens_known}
 use Rattle.zic_convert.proofs.conversion.convert_rounds.Goals as goal
 
 pub rounds-init : goal.rounds-init
 rounds-init g c = record {
-  by = c.requires;
+  by = c.requires.by;
+  delimiter = c.requires.delimiter;
   within = search rules;
   failures = refl;
   began = refl;
   grown = g.met.Z.Zones.same c.args.zones.now;
   far = λ releases may.
-      far_at_start c.args.conversion.now.layout.now c.args.conversion.now.plan.now.max_rows c.args.conversion.now.max_faults (unread g.R.Read.remaining c.args.column.now) (g.W.Write.contents c.args.writer.now.inner)
+      far_at_start c.args.conversion.now.by.layout.now c.args.conversion.now.by.plan.now.max_rows c.args.conversion.now.max_faults (unread g.R.Read.remaining c.args.column.now) (g.W.Write.contents c.args.writer.now.inner)
       (g.L.RowLog.noted c.args.log.now) releases;
 }
 
 pub returns-in_err-taken-clause-halt : goal.returns-in_err-taken-clause-halt
 returns-in_err-taken-clause-halt g c =
     let l = c.rounds in
-    let layout = c.args.conversion.now.layout.now in
-    let plan = c.args.conversion.now.plan.now in
+    let layout = c.args.conversion.now.by.layout.now in
+    let plan = c.args.conversion.now.by.plan.now in
     let limit = c.args.conversion.now.max_faults in
     let contents = g.W.Write.contents in
     let known = unread g.R.Read.remaining c.args.column.now in
@@ -41,8 +40,8 @@ returns-in_err-taken-clause-halt g c =
 pub returns-in_err-tally-clause-halt : goal.returns-in_err-tally-clause-halt
 returns-in_err-tally-clause-halt g c =
     let l = c.rounds in
-    let layout = c.args.conversion.now.layout.now in
-    let plan = c.args.conversion.now.plan.now in
+    let layout = c.args.conversion.now.by.layout.now in
+    let plan = c.args.conversion.now.by.plan.now in
     let limit = c.args.conversion.now.max_faults in
     let contents = g.W.Write.contents in
     let known = unread g.R.Read.remaining c.args.column.now in
@@ -55,8 +54,8 @@ returns-in_err-tally-clause-halt g c =
     let then = c.next_round.new.zones in
     let takes = c.in_ok-taken.ensures.takes in
     let taken = c.in_ok-taken.taken in
-    let rs = taken_rows layout.delimiter taken pieces in
-    let rows_next = rows_taken layout l.column.by l.invariant.by left next taken pieces takes.takes in
+    let rs = taken_records layout.delimiter taken pieces in
+    let rows_next = rw (l.invariant.by, l.invariant.delimiter) at takes.takes in
     let grows = c.in_ok-taken.ensures.grown in
     let new = c.convert_taken-converted.new.writer in
     let last = g.L.RowLog.noted c.convert_taken-converted.new.log in
@@ -64,13 +63,13 @@ returns-in_err-tally-clause-halt g c =
     let p = err_from_is_err_and c.from_residual-in_err-tally.result c.from_residual-in_err-tally.ensures.1 in
     rw (p.1, p.2) (taken_ends g.Z.Zones.known g.Z.Zones.settled g.Z.Zones.may_be g.Z.Zones.grown g.Z.Zones.broken g.met.Z.Zones.same g.met.Z.Zones.then g.met.Z.Zones.narrows g.met.Z.Zones.agrees contents
     c.files_answer_once.ensures layout plan limit known left l.count l.left held l.writer log now c.args.zones.now l.zones l.invariant.grown l.invariant.far
-    then grows taken pieces next rows_next (λ is. rw l.invariant.by at (takes.long is)) (λ releases may. takens_known layout.delimiter c.byte.ensures.sound (g.Z.Zones.settled then) (g.Z.Zones.known then) releases (g.met.Z.Zones.agrees then releases may) layout.zone taken pieces c.in_ok-taken.ensures.settled) new last c.in_err-tally.field-0.0 ends)
+    then grows taken pieces next rows_next (λ is. rw (l.invariant.by, l.invariant.delimiter) at (takes.long is)) (λ releases may. takens_known (g.Z.Zones.settled then) (g.Z.Zones.known then) releases (g.met.Z.Zones.agrees then releases may) layout.zone layout.delimiter taken pieces c.in_ok-taken.ensures.settled) new last c.in_err-tally.field-0.0 ends)
 
 pub overflow_add-count : goal.overflow_add-count
 overflow_add-count g c =
     let l = c.rounds in
-    let layout = c.args.conversion.now.layout.now in
-    let plan = c.args.conversion.now.plan.now in
+    let layout = c.args.conversion.now.by.layout.now in
+    let plan = c.args.conversion.now.by.plan.now in
     let limit = c.args.conversion.now.max_faults in
     let contents = g.W.Write.contents in
     let known = unread g.R.Read.remaining c.args.column.now in
@@ -83,8 +82,8 @@ overflow_add-count g c =
     let then = c.next_round.new.zones in
     let takes = c.in_ok-taken.ensures.takes in
     let taken = c.in_ok-taken.taken in
-    let rs = taken_rows layout.delimiter taken pieces in
-    let rows_next = rows_taken layout l.column.by l.invariant.by left next taken pieces takes.takes in
+    let rs = taken_records layout.delimiter taken pieces in
+    let rows_next = rw (l.invariant.by, l.invariant.delimiter) at takes.takes in
     let grows = c.in_ok-taken.ensures.grown in
     let new = c.convert_taken-converted.new.writer in
     let last = g.L.RowLog.noted c.convert_taken-converted.new.log in
@@ -98,8 +97,8 @@ overflow_add-count g c =
 pub rounds-smaller : goal.rounds-smaller
 rounds-smaller g c =
     let l = c.rounds in
-    let layout = c.args.conversion.now.layout.now in
-    let plan = c.args.conversion.now.plan.now in
+    let layout = c.args.conversion.now.by.layout.now in
+    let plan = c.args.conversion.now.by.plan.now in
     let limit = c.args.conversion.now.max_faults in
     let contents = g.W.Write.contents in
     let known = unread g.R.Read.remaining c.args.column.now in
@@ -112,8 +111,8 @@ rounds-smaller g c =
     let then = c.next_round.new.zones in
     let takes = c.in_ok-taken.ensures.takes in
     let taken = c.in_ok-taken.taken in
-    let rs = taken_rows layout.delimiter taken pieces in
-    let rows_next = rows_taken layout l.column.by l.invariant.by left next taken pieces takes.takes in
+    let rs = taken_records layout.delimiter taken pieces in
+    let rows_next = rw (l.invariant.by, l.invariant.delimiter) at takes.takes in
     let grows = c.in_ok-taken.ensures.grown in
     let new = c.convert_taken-converted.new.writer in
     let last = g.L.RowLog.noted c.convert_taken-converted.new.log in
@@ -121,14 +120,14 @@ rounds-smaller g c =
     let (goes, short, writes) = all in
     let (rows, are, wrote, left_is) = writes in
     let many = as_many layout (g.Z.Zones.known then) plan.max_rows (l.count + 1) rs rows are wrote.0 in
-    let filled = taken_some layout.delimiter plan.row_piece taken pieces goes short takes.some.0 (omega (arith, c.max_rows.ensures.plan.row_piece.0)) takes.cut in
+    let filled = taken_some layout.delimiter plan.row_piece taken pieces goes short takes.some.0 (omega (arith, c.max_rows.ensures.plan.row_piece.0)) (rw l.invariant.delimiter at takes.cut) in
     omega (arith, wrote.1, many, filled, l.invariant.within)
 
 pub rounds-preserved : goal.rounds-preserved
 rounds-preserved g c =
     let l = c.rounds in
-    let layout = c.args.conversion.now.layout.now in
-    let plan = c.args.conversion.now.plan.now in
+    let layout = c.args.conversion.now.by.layout.now in
+    let plan = c.args.conversion.now.by.plan.now in
     let limit = c.args.conversion.now.max_faults in
     let contents = g.W.Write.contents in
     let known = unread g.R.Read.remaining c.args.column.now in
@@ -141,8 +140,8 @@ rounds-preserved g c =
     let then = c.next_round.new.zones in
     let takes = c.in_ok-taken.ensures.takes in
     let taken = c.in_ok-taken.taken in
-    let rs = taken_rows layout.delimiter taken pieces in
-    let rows_next = rows_taken layout l.column.by l.invariant.by left next taken pieces takes.takes in
+    let rs = taken_records layout.delimiter taken pieces in
+    let rows_next = rw (l.invariant.by, l.invariant.delimiter) at takes.takes in
     let grows = c.in_ok-taken.ensures.grown in
     let new = c.convert_taken-converted.new.writer in
     let last = g.L.RowLog.noted c.convert_taken-converted.new.log in
@@ -152,20 +151,21 @@ rounds-preserved g c =
     let within = no_more layout (g.Z.Zones.known then) plan.max_rows l.count rs rows are wrote.0 l.invariant.within in
     record {
       by = takes.by ∙ l.invariant.by;
+      delimiter = takes.delimiter ∙ l.invariant.delimiter;
       within = omega (arith, wrote.1, within);
       failures = wrote.2.1 ∙ l.invariant.failures;
       began = c.convert_taken-converted.ensures.began ∙ l.invariant.began;
       grown = g.met.Z.Zones.then c.args.zones.now l.zones then l.invariant.grown grows;
       far = far_on g.Z.Zones.known g.Z.Zones.settled g.Z.Zones.may_be g.Z.Zones.grown g.Z.Zones.broken g.met.Z.Zones.same g.met.Z.Zones.then g.met.Z.Zones.narrows g.met.Z.Zones.agrees contents
           c.files_answer_once.ensures layout plan limit known left l.count l.left held l.writer log now c.args.zones.now l.zones l.invariant.grown l.invariant.far
-          then grows rs next rows_next (λ releases may. takens_known layout.delimiter c.byte.ensures.sound (g.Z.Zones.settled then) (g.Z.Zones.known then) releases (g.met.Z.Zones.agrees then releases may) layout.zone taken pieces c.in_ok-taken.ensures.settled) new last c.in-Some.tally writes;
+          then grows rs next rows_next (λ releases may. takens_known (g.Z.Zones.settled then) (g.Z.Zones.known then) releases (g.met.Z.Zones.agrees then releases may) layout.zone layout.delimiter taken pieces c.in_ok-taken.ensures.settled) new last c.in-Some.tally writes;
     }
 
 pub returns-in_err-flush-clause-halt : goal.returns-in_err-flush-clause-halt
 returns-in_err-flush-clause-halt g c =
     let l = c.rounds in
-    let layout = c.args.conversion.now.layout.now in
-    let plan = c.args.conversion.now.plan.now in
+    let layout = c.args.conversion.now.by.layout.now in
+    let plan = c.args.conversion.now.by.plan.now in
     let limit = c.args.conversion.now.max_faults in
     let contents = g.W.Write.contents in
     let known = unread g.R.Read.remaining c.args.column.now in
@@ -178,8 +178,8 @@ returns-in_err-flush-clause-halt g c =
     let then = c.next_round.new.zones in
     let takes = c.in_ok-taken.ensures.takes in
     let taken = c.in_ok-taken.taken in
-    let rs = taken_rows layout.delimiter taken pieces in
-    let rows_next = rows_taken layout l.column.by l.invariant.by left next taken pieces takes.takes in
+    let rs = taken_records layout.delimiter taken pieces in
+    let rows_next = rw (l.invariant.by, l.invariant.delimiter) at takes.takes in
     let grows = c.in_ok-taken.ensures.grown in
     let new = c.convert_taken-converted.new.writer in
     let last = g.L.RowLog.noted c.convert_taken-converted.new.log in
@@ -195,8 +195,8 @@ returns-clause-grown g c = g.met.Z.Zones.then c.args.zones.now c.rounds.zones c.
 pub returns-clause-all : goal.returns-clause-all
 returns-clause-all g c =
     let l = c.rounds in
-    let layout = c.args.conversion.now.layout.now in
-    let plan = c.args.conversion.now.plan.now in
+    let layout = c.args.conversion.now.by.layout.now in
+    let plan = c.args.conversion.now.by.plan.now in
     let limit = c.args.conversion.now.max_faults in
     let contents = g.W.Write.contents in
     let known = unread g.R.Read.remaining c.args.column.now in
@@ -209,14 +209,14 @@ returns-clause-all g c =
     let then = c.next_round.new.zones in
     let takes = c.in_ok-taken.ensures.takes in
     let taken = c.in_ok-taken.taken in
-    let rs = taken_rows layout.delimiter taken pieces in
-    let rows_next = rows_taken layout l.column.by l.invariant.by left next taken pieces takes.takes in
+    let rs = taken_records layout.delimiter taken pieces in
+    let rows_next = rw (l.invariant.by, l.invariant.delimiter) at takes.takes in
     let grows = c.in_ok-taken.ensures.grown in
     let new = c.convert_taken-converted.new.writer in
     let last = g.L.RowLog.noted c.convert_taken-converted.new.log in
     let (ended, same, unnoted) = rw (c.round.ensures, c.in_default.is) at c.in_ok-tally.ensures.ok in
     let nothing = rw ended at rows_next in
-    let end = rw l.invariant.by at (takes.end ended) in
+    let end = rw (l.invariant.by, l.invariant.delimiter) at (takes.end ended) in
     rw unnoted (rounds_done g.Z.Zones.known g.Z.Zones.settled g.Z.Zones.may_be g.Z.Zones.grown g.Z.Zones.broken g.met.Z.Zones.same g.met.Z.Zones.then g.met.Z.Zones.narrows g.met.Z.Zones.agrees contents
     c.files_answer_once.ensures layout plan limit known left l.count l.left held l.writer log now c.args.zones.now l.zones l.invariant.grown l.invariant.far
     then grows rs next rows_next nothing end c.flush.new.writer (rw same at c.in_ok-flush.ensures.ok))

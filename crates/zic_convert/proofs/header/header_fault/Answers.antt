@@ -1,5 +1,6 @@
 use Rattle.std.proofs.Common.{◌∙◌, ap, sym}
 use Rattle.zic_convert.specs.Header.{header_kind}
+use Rattle.zic_convert.proofs.Delimited.{can_delimit}
 use Rattle.zic_convert.proofs.HeaderFaults.{empty_own, no_fault, open_by_mode, read_by_mode, some_own}
 use Rattle.zic_convert.proofs.header.header_fault.Goals as goal
 use Rattle.zic_convert.proofs.header.header_fault.Goals.{then-is_open, else-is_open+in_ok-fault}
@@ -11,12 +12,13 @@ pub returns : goal.returns
 returns c = λ of.
     let law = c.first_record_is_alone.ensures in
     let layout = c.args.layout.now in
+    let can = can_delimit layout.delimiter c.byte.ensures.sound in
     let files = c.args.releases.now.zones in
     let own = c.args.own.now in
     let some = some_own own c.if-is_empty.ensures in
     elim c.if-is_open.branch [
       | then-is_open w ↦ c.header_kind.ensures ∙ ap header_kind w.fault-is
-          ∙ open_by_mode law layout own files layout.records of.ended (sym (c.is_open.ensures of.ended) ∙ w.if-is_open.true) w.open_kind.result (w.open_kind.ensures files)
+          ∙ open_by_mode law layout can own files layout.records of.ended (sym (c.is_open.ensures of.ended) ∙ w.if-is_open.true) w.open_kind.result (w.open_kind.ensures files)
       | else-is_open+in_ok-fault w ↦ c.header_kind.ensures ∙ ap header_kind w.fault-is
-          ∙ read_by_mode law layout own files layout.records some of (sym (c.is_open.ensures of.ended) ∙ w.if-is_open.false) w.in_ok-fault.fault w.in_ok-fault.ensures
+          ∙ read_by_mode law layout can own files layout.records some of (sym (c.is_open.ensures of.ended) ∙ w.if-is_open.false) w.in_ok-fault.fault w.in_ok-fault.ensures
     ]

@@ -1,6 +1,5 @@
 use Rattle.std.proofs.Common.{◌∙◌, ◌∷◌, ◌++◌, [], ℕ, List, Some, ap, ap₂, refl, subst, sym}
-use Rattle.zic_columns.specs.Exchange.{exchanged}
-use Rattle.zic_columns.specs.Lines.{open_record, exchanged_record}
+use Rattle.zic_columns.specs.Lines.{open_record}
 use Rattle.zic_columns.specs.Own.{CsvRecord}
 use Rattle.zic_plan.specs.Noted.{RowNote}
 use Rattle.zic_layout_rows.specs.PieceRows.{AreRowsOf, RowsOf}
@@ -13,7 +12,7 @@ pub returns-then-ends_run : goal.returns-then-ends_run
 returns-then-ends_run c = λ releases.
     let layout = c.args.layout.now in
     let kind = c.open_kind-kind.result in
-    let given : CsvRecord = exchanged_record layout.delimiter (open_record c.deref-own.result.now) in
+    let given : CsvRecord = open_record c.deref-own.result.now in
     let none = c.rows.view_is ∙ c.new-rows.ensures in
     rw (← c.deref-own.ensures.value)
     (subst (λ (r : RowsOf). AreRowsOf layout releases c.args.most c.args.number (given ∷ []) r) (sym (ap (λ (r : RowsOf). record r { fault = Some kind }) none))
@@ -22,17 +21,16 @@ returns-then-ends_run c = λ releases.
 pub returns : goal.returns
 returns c = λ releases.
     let layout = c.args.layout.now in
-    let d = layout.delimiter in
     let kind = c.open_kind-kind.result in
     let line = c.deref-own.result.now in
-    let given : CsvRecord = exchanged_record d (open_record line) in
+    let given : CsvRecord = open_record line in
     let is = c.open_kind-kind.ensures in
     let goes = c.if-ends_run.ensures.goes_on refl in
     let none = c.rows-2.view_is ∙ c.new-rows.ensures in
     let text = c.in_ok-push.ensures ∙ ap (λ (l : List ℕ). l ++ c.deref.result.now) (ap (λ (r : RowsOf). r.text) none) ∙ c.deref.ensures.value ∙ c.in_ok-text.ensures
-    ∙ ap (unless_compared layout.written) (sym (open_text layout releases.zones c.args.most c.args.number kind (exchanged d line) (is releases.zones) goes)) in
+    ∙ ap (unless_compared layout.written) (sym (open_text layout releases.zones c.args.most c.args.number kind line (is releases.zones) goes)) in
     let fault = ap (λ (r : RowsOf). r.fault) none in
-    let one : RowNote = record { fault = record { row = c.args.number; kind = kind }; own = if_rejected layout.at_fault (exchanged d line) } in
+    let one : RowNote = record { fault = record { row = c.args.number; kind = kind }; own = if_rejected layout.at_fault line } in
     let faults = c.in_ok-push-2.ensures.items ∙ ap₂ (λ (l : List RowNote) (n : RowNote). l ++ n ∷ []) (ap (λ (r : RowsOf). r.faults) none)
     (rw (← c.deref-own.ensures.value) at c.in_ok-note.ensures) in
     rw (← c.deref-own.ensures.value)

@@ -1,6 +1,6 @@
 use Rattle.std.proofs.Common.{◌∷◌, [], None, inr, arith}
 use Rattle.zic_zones.specs.declared.releases.Releases.{Releases}
-use Rattle.zic_columns.specs.Lines.{open_record, exchanged_record}
+use Rattle.zic_columns.specs.Lines.{open_record}
 use Rattle.zic_columns.specs.Own.{CsvRecord}
 use Rattle.zic_convert.specs.code.Pieces.{joined}
 use Rattle.zic_convert.proofs.Halts.{few}
@@ -10,18 +10,18 @@ use Rattle.zic_convert.proofs.opened.write_open_line.Goals as goal
 
 pub write_rows-requires : goal.write_rows-requires
 write_rows-requires g c =
-    let layout = c.args.conversion.now.layout.now in
+    let layout = c.args.by.now.layout.now in
     let most = c.max_rows-most.result in
-    let given : CsvRecord = exchanged_record layout.delimiter (open_record c.args.line.now.own.items) in
+    let given : CsvRecord = open_record c.args.line.now.own.items in
     let none : Releases = record { zones = []; old = None } in
     let all = alone layout none most c.args.number given c.in-Ok.row (c.in-Ok.ensures none) in
     omega (arith, few layout none most c.args.number (given ∷ []) (joined (c.in-Ok.row ∷ [])) all, c.requires)
 
 pub returns-in-Ok-left_after-clause-stop : goal.returns-in-Ok-left_after-clause-stop
 returns-in-Ok-left_after-clause-stop g c = λ releases.
-    let layout = c.args.conversion.now.layout.now in
-    let most = c.args.conversion.now.plan.now.max_rows in
-    let given : CsvRecord = exchanged_record layout.delimiter (open_record c.args.line.now.own.items) in
+    let layout = c.args.by.now.layout.now in
+    let most = c.args.by.now.plan.now.max_rows in
+    let given : CsvRecord = open_record c.args.line.now.own.items in
     let row = c.in-Ok.row in
     let are = rw c.max_rows-most.ensures.rows at (c.in-Ok.ensures releases) in
     inr (
@@ -33,9 +33,9 @@ returns-in-Ok-left_after-clause-stop g c = λ releases.
 
 pub returns-clause-stop : goal.returns-clause-stop
 returns-clause-stop g c = λ releases.
-    let layout = c.args.conversion.now.layout.now in
-    let most = c.args.conversion.now.plan.now.max_rows in
-    let given : CsvRecord = exchanged_record layout.delimiter (open_record c.args.line.now.own.items) in
+    let layout = c.args.by.now.layout.now in
+    let most = c.args.by.now.plan.now.max_rows in
+    let given : CsvRecord = open_record c.args.line.now.own.items in
     let row = c.in-Ok.row in
     let fault = c.in-Err.fault in
     let are = rw c.max_rows-most.ensures.rows at (c.in-Ok.ensures releases) in

@@ -1,6 +1,6 @@
 use Rattle.std.proofs.Common.{◌+◌, ◌<◌, arith}
 use Rattle.zic_convert.specs.code.Pieces.{joined}
-use Rattle.zic_convert.specs.code.Row.{records_of_all}
+use Rattle.zic_columns.specs.Round.{records_of_pieces}
 use Rattle.zic_convert.proofs.Halts.{few}
 use Rattle.zic_convert.proofs.Joining.{few_records, joined_low, low_ends, low_fails, low_stops, row_positive}
 use Rattle.zic_convert.proofs.round.end_at_fault.Goals as goal
@@ -14,7 +14,7 @@ write_rows-requires g c =
     let sound = c.first-first.ensures.sound in
     let rows = c.in-Ok.rows.items in
     let all = joined_low p sound c.args.fault rows (rw c.before-before.ensures at c.in-Ok.ensures.ok) in
-    let few_rows = few p.layout p.releases _ p.first (records_of_all p.layout.delimiter p.pieces) (joined rows) all in
+    let few_rows = few p.layout p.releases _ p.first (records_of_pieces p.layout.delimiter p.pieces) (joined rows) all in
     let fits : p.first + (joined rows).count < 18446744073709551616 = omega (arith, few_rows, few_records p sound, sound.first) in
     rw (c.first-first.ensures.first, c.deref.ensures.value) fits
 

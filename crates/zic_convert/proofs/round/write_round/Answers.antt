@@ -1,6 +1,6 @@
 use Rattle.std.proofs.Common.{inr, arith}
 use Rattle.zic_convert.specs.code.Pieces.{joined}
-use Rattle.zic_convert.specs.code.Row.{records_of_all}
+use Rattle.zic_columns.specs.Round.{records_of_pieces}
 use Rattle.zic_convert.proofs.Halts.{few}
 use Rattle.zic_convert.proofs.Joining.{few_records, joined_round, pieces_end}
 use Rattle.zic_convert.proofs.TooMany.{left_few}
@@ -12,10 +12,10 @@ write_rows-requires g c =
     let rows = c.args.rows.now in
     let sound = c.first-first.ensures.sound in
     let all = joined_round p rows sound c.requires.values in
-    omega (arith, few p.layout p.releases p.most p.first (records_of_all p.layout.delimiter p.pieces) (joined rows) all, few_records p sound, sound.first, c.first-first.ensures.first)
+    omega (arith, few p.layout p.releases p.most p.first (records_of_pieces p.layout.delimiter p.pieces) (joined rows) all, few_records p sound, sound.first, c.first-first.ensures.first)
 
 pub end_at_fault-requires-clause-fault : goal.end_at_fault-requires-clause-fault
-end_at_fault-requires-clause-fault g c κs within =
+end_at_fault-requires-clause-fault g c =
     (c.args.left, (joined c.args.rows.now, joined_round c.args.pieces.now c.args.rows.now c.first-first.ensures.sound c.requires.values, c.in-Err.ensures.err.0, c.in-Err.ensures.err.1))
 
 pub returns-in-Ok-write_rows-clause-ok : goal.returns-in-Ok-write_rows-clause-ok

@@ -1,5 +1,4 @@
 use Rattle.std.proofs.Common.{◌∙◌, ℕ, List, ap}
-use Rattle.zic_columns.specs.Exchange.{exchanged}
 use Rattle.zic_plan.specs.Noted.{RowNote}
 use Rattle.zic_layout_rows.specs.LayoutRows.{if_rejected}
 use Rattle.zic_layout_rows.proofs.note.note_of.Goals as goal
@@ -8,4 +7,4 @@ pub returns : goal.returns
 returns c =
     let layout = c.args.piece.now.layout.now in
     let note : List ℕ → RowNote = λ own. record { fault = c.args.fault; own = own } in
-    ap note (c.in_ok-own.ensures ∙ ap (λ (own : List ℕ). if_rejected layout.at_fault (exchanged layout.delimiter own)) c.of.ensures)
+    ap note (c.in_ok-own.ensures ∙ ap (λ (own : List ℕ). if_rejected layout.at_fault own) c.of.ensures)

@@ -1,5 +1,5 @@
 use Rattle.std.proofs.lemmas.Bool.{eqb-true}
-use Rattle.zic_layout_rows.proofs.QuickRows.{own_begins}
+use Rattle.zic_layout_rows.proofs.KnownRows.{own_begins}
 use Rattle.zic_layout_rows.proofs.start.begins_row.Goals as goal
 
 pub returns-then-time-own : goal.returns-then-time-own

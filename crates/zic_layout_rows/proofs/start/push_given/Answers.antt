@@ -1,7 +1,8 @@
 use Rattle.std.proofs.Common.{◌∙◌, ◌∷◌, [], ◌++◌, ℕ, List, ap, append_assoc, sym}
-use Rattle.zic_columns.specs.Record.{bytes_at, field_text, record_at}
+use Rattle.zic_columns.specs.Record.{bytes_at, field_text}
 use Rattle.zic_columns.specs.declared.fields.Field.{Field}
 use Rattle.zic_zones.specs.Zones.{zone_in}
+use Rattle.zic_layout_rows.specs.code.Batch.{record_of}
 use Rattle.zic_layout_rows.proofs.start.push_given.Goals as goal
 
 pub returns : goal.returns
@@ -9,10 +10,10 @@ returns c =
     let piece = c.args.piece.now in
     let bytes = piece.bytes.now in
     let old = c.args.text.now in
-    let name = zone_in piece.layout.now.zone (record_at bytes c.args.given.now).fields in
+    let name = zone_in piece.layout.now.zone (record_of piece c.args.given.now).fields in
     let time = bytes_at bytes c.in-Plain.time in
     record {
       within_bytes = rw c.in-Plain.is at c.requires.split.time_within;
       text = ap (λ (l : List ℕ). l ++ time) c.in_ok-push_zone.ensures ∙ append_assoc old (name ++ 44 ∷ []) time ∙ ap (λ (l : List ℕ). old ++ l) (append_assoc name (44 ∷ []) time)
-          ∙ ap (λ (f : Field). old ++ (name ++ 44 ∷ field_text bytes f)) (sym c.in-Plain.is);
+          ∙ ap (λ (f : Field). old ++ (name ++ 44 ∷ field_text piece.layout.now.delimiter bytes f)) (sym c.in-Plain.is);
     }

@@ -1,26 +1,30 @@
-use Rattle.std.proofs.Common.{◌∙◌, ◌++◌, FitsSigned, ℕ, List, ap, append-nil, refl, rules, to_z-of_z}
-use Rattle.std.specs.Int.{w128}
-use Rattle.zic_columns.specs.Record.{record_at}
+use Rattle.std.proofs.Common.{◌≡◌, ◌∷◌, ◌++◌, ◌∙◌, ℕ, subst, sym}
+use Rattle.zic_columns.specs.Exchange.{exchanged}
+use Rattle.zic_columns.specs.Record.{bytes_at}
 use Rattle.zic_zones.specs.Zones.{zone_in}
-use Rattle.zic_layout_rows.specs.LayoutRows.{input_text}
-use Rattle.zic_layout_rows.proofs.Columns.{number_within}
-use Rattle.zic_layout_rows.proofs.RowFaults.{name_is, start_pushed}
+use Rattle.zic_layout_rows.specs.code.Batch.{input_in, record_of}
+use Rattle.zic_layout_rows.specs.code.Row.{put_from}
+use Rattle.zic_layout_rows.proofs.PutBack.{begun_fields, begun_own}
+use Rattle.zic_layout_rows.proofs.ShownRows.{no_shorter}
 use Rattle.zic_layout_rows.proofs.start.push_start.Goals as goal
 
-pub name-requires : goal.name-requires
-name-requires c =
+pub returns-in-Fields-clause-commas : goal.returns-in-Fields-clause-commas
+returns-in-Fields-clause-commas c =
     let piece = c.args.piece.now in
-    rw c.requires.file at (number_within piece.zones.now (zone_in piece.layout.now.zone (record_at piece.bytes.now c.args.given.now).fields))
+    let given = c.args.given.now in
+    let fields = zone_in piece.layout.now.zone (record_of piece given).fields ++ 44 ∷ input_in piece given c.args.input in
+    rw c.len-commas.ensures (no_shorter c.args.text.now fields (c.push_fields.new.text ++ bytes_at piece.bytes.now c.in_ok-last.last) c.in_ok-last.ensures.text)
 
-pub returns-in_ok-push_input-in-Count-clause-text : goal.returns-in_ok-push_input-in-Count-clause-text
-returns-in_ok-push_input-in-Count-clause-text c =
+pub returns-in-Fields-clause-text : goal.returns-in-Fields-clause-text
+returns-in-Fields-clause-text c = λ rest.
     let piece = c.args.piece.now in
-    let layout = piece.layout.now in
+    let given = c.args.given.now in
+    let fields = zone_in piece.layout.now.zone (record_of piece given).fields ++ 44 ∷ input_in piece given c.args.input in
+    rw c.in-Fields.is (begun_fields piece.layout.now.delimiter c.len-commas.result c.args.text.now c.push_fields.new.text (bytes_at piece.bytes.now c.in_ok-last.last) fields rest c.len-commas.ensures c.in_ok-last.ensures.text)
+
+pub returns-then-byte-eq44-clause-text : goal.returns-then-byte-eq44-clause-text
+returns-then-byte-eq44-clause-text c = λ rest.
     let old = c.args.text.now in
-    let name = zone_in layout.zone (record_at piece.bytes.now c.args.given.now).fields in
-    let count : FitsSigned w128 c.in-Count.count = search rules in
-    let called = name_is piece.zones.now name c.args.file c.name.result.now c.requires.file c.name.ensures in
-    append-nil c.push_input.new.text
-    ∙ start_pushed old name (input_text layout.from layout.unit c.in-Count.count) c.push.new.self c.push_input.new.text
-    (c.in_ok-push-in-Count.ensures ∙ ap (λ (l : List ℕ). old ++ l) called) (rw (to_z-of_z count) at c.in_ok-push_input-in-Count.ensures)
-    ∙ (rw (c.in_default.is, c.in-Count.is) refl)
+    let own = bytes_at c.args.piece.now.bytes.now c.args.given.now.own in
+    let comma : c.args.piece.now.layout.now.delimiter ≡ 44 = sym c.byte.ensures.byte ∙ c.if-byte-eq44.true in
+    rw c.in_default.is (subst (λ (d : ℕ). put_from d c.len-commas.result (old ++ (own ++ rest)) ≡ old ++ (own ++ exchanged d rest)) (sym comma) (begun_own c.len-commas.result old own rest c.len-commas.ensures))

@@ -1,6 +1,6 @@
 use Rattle.std.proofs.Common.{drop, sym}
 use Rattle.std.proofs.lemmas.List.{take-append-drop}
-use Rattle.zic_columns.proofs.Exchanges.{comma_exchanged}
+use Rattle.zic_layout_rows.proofs.PutBack.{comma_exchanged}
 use Rattle.zic_layout_rows.proofs.text.put_back.Goals as goal
 
 pub returns-else-delimiter-ne44 : goal.returns-else-delimiter-ne44

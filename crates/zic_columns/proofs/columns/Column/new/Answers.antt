@@ -24,4 +24,4 @@ returns-clause-limit g c = rw c.pass.ensures.passed (rw (c.new.ensures.inner, c.
 
 pub invariant_of-column : goal.invariant_of-column
 invariant_of-column g c =
-    rw (c.new-4.ensures.items, c.new-2.ensures.held) (All-nil (λ range. (range.start ≤ range.end) × (range.end ≤ length (taken_bytes c.new-2.result))), c.new-3.ensures.scanned)
+    rw (c.new-4.ensures.items, c.new-2.ensures.held) (All-nil (λ range. (range.start ≤ range.end) × (range.end ≤ length (taken_bytes c.new-2.result))), c.new-3.ensures.scanned _)

@@ -13,8 +13,8 @@ returns-in-Records-clause-takes g c =
     let mid = c.gather.new.self in
     let new = c.take_round.new.self in
     IfOk-weaker c.take_round.result _ _
-    (λ taken is. takes_next old.by (unread g.R.Read.remaining old) (unread g.R.Read.remaining mid) (unread g.R.Read.remaining new) (taken_records taken new.round) c.in_ok-count.ensures.takes
-    (rw c.gather.ensures.by at is))
+    (λ taken is. takes_next old.delimiter old.by (unread g.R.Read.remaining old) (unread g.R.Read.remaining mid) (unread g.R.Read.remaining new) (taken_records old.delimiter taken new.round) c.in_ok-count.ensures.takes
+    (rw (c.gather.ensures.by, c.gather.ensures.delimiter) at is))
     c.take_round.ensures.takes
 
 pub returns-in-Records-clause-long : goal.returns-in-Records-clause-long

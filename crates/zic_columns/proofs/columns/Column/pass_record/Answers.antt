@@ -11,4 +11,4 @@ returns-clause-long g c = λ _.
     let size : length own.items ≡ vec_len own = search rules in
     let over : may_have c.args.longest (length own.items) ≡ false =
     ap (λ (n : ℕ). may_have c.args.longest n) (size ∙ sym c.len.ensures) ∙ sym c.may_have.ensures ∙ c.if-may_have.false in
-    own_too_long c.args.longest old.by own.items (unread g.R.Read.remaining old) c.in_ok-own.ensures.own over
+    own_too_long old.delimiter c.args.longest old.by own.items (unread g.R.Read.remaining old) c.in_ok-own.ensures.own over

@@ -9,6 +9,7 @@ use Rattle.zic_columns.proofs.columns.Column.read_mark.Goals as goal
 pub loop-init : goal.loop-init
 loop-init g c = record {
   by = refl;
+  delimiter = refl;
   keeps = Keeps-refl (unread g.R.Read.remaining c.args.self.now);
   grows = omega arith;
   limit = within_none g.R.Read.remaining c.args.self.now;
@@ -23,6 +24,7 @@ loop-preserved g c =
     record {
       keeps = Keeps-trans (bytes c.args.self.now) (bytes c.loop.self) (bytes c.read_on.new.self) c.loop.invariant.keeps c.in_ok-read_on.ensures.keeps;
       by = c.read_on.ensures.by ∙ c.loop.invariant.by;
+      delimiter = c.read_on.ensures.delimiter ∙ c.loop.invariant.delimiter;
       grows = omega (arith, c.loop.invariant.grows, c.in_ok-read_on.ensures.grows.1, ap length c.in_ok-read_on.ensures.grows.2, length-append c.loop.self.held c.in_ok-read_on.ensures.grows.0, c.if-branch-eq0.false);
       limit = within_both g.R.Read.remaining c.args.self.now c.loop.self c.read_on.new.self c.loop.invariant.limit c.read_on.ensures.limit;
       buffer = omega (arith, c.loop.invariant.buffer, c.read_on.ensures.buffer, few, ap length held);

@@ -25,8 +25,8 @@ returns-then-piece-self-eq34-clause-next c =
     let given = record_of plain.start plain.«end» plain.fields in
     let here = at_record (drop at piece) (c.begins_record.ensures c.if-not-begins_record.false) in
     let from = c.in_ok-plain.ensures.from in (
-      first_next piece at at here wanted given from ∙ ap (λ (w : List CsvRecord). record_at piece given ∷ w) (after_end piece plain.«end» c.in_ok-plain.ensures.ended)
-          ∙ ap (λ (n : ℕ). record_at piece given ∷ csv_records (drop n piece)) (sym c.new.ensures.at),
+      first_next c.args.delimiter.can piece at at here wanted given from ∙ ap (λ (w : List CsvRecord). record_at c.args.delimiter.byte piece given ∷ w) (after_end c.args.delimiter.can piece plain.«end» c.in_ok-plain.ensures.ended)
+          ∙ ap (λ (n : ℕ). record_at c.args.delimiter.byte piece given ∷ csv_records c.args.delimiter.byte (drop n piece)) (sym c.new.ensures.at),
       from.split,
     )
 
@@ -35,4 +35,4 @@ returns-clause-next c =
     let piece = c.args.piece.now in
     let at = c.args.self.now.at in
     let here = at_record (drop at piece) (c.begins_record.ensures c.if-not-begins_record.false) in
-    (plain_next piece at at here c.args.wanted _ _ c.in_ok-plain-2.ensures.some, c.in_ok-plain-2.ensures.some.from.split)
+    (plain_next c.args.delimiter.can piece at at here c.args.wanted _ _ c.in_ok-plain-2.ensures.some, c.in_ok-plain-2.ensures.some.from.split)

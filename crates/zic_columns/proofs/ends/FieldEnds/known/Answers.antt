@@ -4,5 +4,5 @@ use Rattle.zic_columns.proofs.ends.FieldEnds.known.Goals as goal
 
 pub returns-clause-shows : goal.returns-clause-shows
 returns-clause-shows c =
-    shows_block c.args.bytes.now c.args.at c.args.self c.requires c.if-self-ne0.false (omega (arith, c.if-bytes-self-lt-BLOCK.false))
+    shows_block c.args.delimiter.byte c.args.bytes.now c.args.at c.args.self c.requires c.if-self-ne0.false (omega (arith, c.if-bytes-self-lt-BLOCK.false))
     c.field_ends_in-mask.result c.field_ends_in-mask.type_inv c.field_ends_in-mask.ensures

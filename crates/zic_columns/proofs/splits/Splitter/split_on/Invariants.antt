@@ -8,9 +8,9 @@ abbrev pub invariant-loop-count : goal.invariant-loop-count
 invariant-loop-count l = record {
   few : l.count ≤ 256;
   room : length l.records ≡ 256;
-  shows : ShowsEnds l.piece l.cursor.at l.cursor.ends;
-  split : csv_records (drop l.initial.cursor.at l.piece) ≡ map (record_at l.piece) (take l.count l.records) ++ csv_records (drop l.cursor.at l.piece);
-  each : All (IsSplit l.piece l.wanted) (take l.count l.records);
+  shows : ShowsEnds l.delimiter.byte l.piece l.cursor.at l.cursor.ends;
+  split : csv_records l.delimiter.byte (drop l.initial.cursor.at l.piece) ≡ map (record_at l.delimiter.byte l.piece) (take l.count l.records) ++ csv_records l.delimiter.byte (drop l.cursor.at l.piece);
+  each : All (IsSplit l.delimiter.byte l.piece l.wanted) (take l.count l.records);
 }
 
 abbrev pub decreases-loop-count : goal.decreases-loop-count

@@ -1,11 +1,31 @@
-use Rattle.std.proofs.Common.{rules}
-use Rattle.zic_layout_rows.proofs.Stated.{quick_row, state_needs}
+use Rattle.std.proofs.Common.{◌+◌, List, Option, ap, refl, subst, sym, ℕ}
+use Rattle.std.specs.Prelude.{slice_index_or}
+use Rattle.zic_base.specs.declared.row_fault.RowKind.{RowKind}
+use Rattle.zic_plan.specs.declared.layout.Written.{Written}
+use Rattle.zic_layout_rows.specs.LayoutRows.{IsRowAt, IsWrittenAt}
+use Rattle.zic_layout_rows.specs.PieceRows.{RowsOf}
+use Rattle.zic_layout_rows.specs.code.Answer.{unknown}
+use Rattle.zic_layout_rows.specs.code.Batch.{blank, blank_time, record_of}
+use Rattle.zic_layout_rows.specs.code.Row.{by_both, files_of}
+use Rattle.zic_layout_rows.proofs.KnownRows.{known_sound}
+use Rattle.zic_layout_rows.proofs.NextRows.{next_sound}
 use Rattle.zic_layout_rows.proofs.row.Rows.add.Goals as goal
 
-pub row-requires : goal.row-requires
-row-requires c = state_needs c.args.piece.now c.args.given.now c.args.states.now.states c.args.known.now c.requires.known
-
-pub add_quick-requires-clause-row : goal.add_quick-requires-clause-row
-add_quick-requires-clause-row c =
-    let row = c.in-Some.ensures in
-    quick_row c.args.piece.now c.args.given.now c.args.states.now.states c.args.known.now c.requires.known c.in-Some.row (search rules) row.file row.time row.says row.text
+pub returns : goal.returns
+returns c =
+    let piece = c.args.piece.now in
+    let layout = piece.layout.now in
+    let batch = c.args.batch.now in
+    let place = c.args.place in
+    let releases = by_both piece (files_of c.args.other.now) in
+    let given = slice_index_or batch.records place blank in
+    let time = slice_index_or batch.times place blank_time in
+    let q = c.self.inside in
+    let old : RowsOf = record { text = q.text; count = q.count; fault = q.fault; faults = q.faults.items } in
+    let number = piece.first + q.count in
+    let (state, got, is) = c.requires.at.answers.known c.if-known.false in
+    let none = known_sound piece given time (slice_index_or batch.answers.known place unknown) state is number c.requires.at.split c.if-piece-number.false in
+    let (row, text, of) = c.in_ok-push_row.ensures in
+    let by_fault = subst (λ (o : Option RowKind). IsRowAt layout piece.zones.now o (record_of piece given) row) (sym none) of in
+    let by = subst (λ (w : Written). IsWrittenAt w layout releases piece.most number (record_of piece given) row) (sym (c.if-is_compared.ensures.all refl)) by_fault in
+    rw (← c.self.view_is) (next_sound layout releases piece.most number (record_of piece given) old _ none row by (ap (λ (l : List ℕ). record { text = l; count = q.count + 1; fault = q.fault; faults = q.faults.items }) text))

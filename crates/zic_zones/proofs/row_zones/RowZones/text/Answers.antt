@@ -1,4 +1,4 @@
-use Rattle.std.proofs.Common.{◌≡◌, List, subst}
+use Rattle.std.proofs.Common.{List, subst}
 use Rattle.std.specs.Prelude.{slice_get}
 use Rattle.zic_base.proofs.Elements.{got}
 use Rattle.zic_base.proofs.Options.{if_at}

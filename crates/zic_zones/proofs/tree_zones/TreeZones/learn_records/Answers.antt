@@ -21,14 +21,14 @@ loop-record-preserved g c =
           let facts = w.in_ok-learn_field.ensures in
           let located = c.requires l.record-index no_record within in
           rw (w.self-is, w.last-is)
-          (record_next g.T.ZoneTree.replied c.args.self.now piece l.self l.last records l.record-index given at l.invariant w.learn_field.new.self facts.grown located facts.known)
+          (record_next g.T.ZoneTree.replied c.args.self.now c.args.delimiter.now piece l.self l.last records l.record-index given at l.invariant w.learn_field.new.self facts.grown located facts.known)
       | else-not-have_same_bytes w ↦
-          let same = c.have_same_bytes.ensures w.if-not-have_same_bytes.false in
-          rw (w.self-is, w.last-is) (record_same g.T.ZoneTree.replied c.args.self.now piece l.self l.last records l.record-index given at l.invariant same)
+          let same = c.have_same_bytes.ensures w.if-not-have_same_bytes.false c.args.delimiter.now in
+          rw (w.self-is, w.last-is) (record_same g.T.ZoneTree.replied c.args.self.now c.args.delimiter.now piece l.self l.last records l.record-index given at l.invariant same)
     ]
 
 pub returns-clause-known : goal.returns-clause-known
 returns-clause-known g c =
     let l = c.loop-record in
     let all = take_all l.record-index c.args.records.now (omega (arith, c.loop-record-test.false)) in
-    subst (λ (records : List Record). All (IsKnown l.self.learnt) (map (zone_text c.args.piece.now) records)) all l.invariant.known
+    subst (λ (records : List Record). All (IsKnown l.self.learnt) (map (zone_text c.args.delimiter.now c.args.piece.now) records)) all l.invariant.known

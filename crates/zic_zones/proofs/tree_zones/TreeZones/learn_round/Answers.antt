@@ -11,10 +11,10 @@ pub loop-number-preserved : goal.loop-number-preserved
 loop-number-preserved g c =
     let l = c.loop-number in
     let facts = c.in_ok-learn_piece.ensures in
-    next_piece g.T.ZoneTree.replied c.args.self.now c.args.index c.args.round.now l.self c.learn_piece.new.self l.number c.piece.result.now c.piece.ensures l.invariant facts.grown facts.known
+    next_piece g.T.ZoneTree.replied c.args.self.now c.args.delimiter.now c.args.index c.args.round.now l.self c.learn_piece.new.self l.number c.piece.result.now c.piece.ensures l.invariant facts.grown facts.known
 
 pub returns-clause-known : goal.returns-clause-known
 returns-clause-known g c =
     let l = c.loop-number in
     let all = take_all l.number c.args.round.now (omega (arith, c.loop-number-test.false, c.len-number-end.ensures)) in
-    subst (λ (pieces : List (List ℕ)). All (IsKnown l.self.learnt) (map (λ (fields : List (List ℕ)). field_at fields c.args.index) (records_of pieces))) all l.invariant.known
+    subst (λ (pieces : List (List ℕ)). All (IsKnown l.self.learnt) (map (λ (fields : List (List ℕ)). field_at fields c.args.index) (records_of c.args.delimiter.now pieces))) all l.invariant.known

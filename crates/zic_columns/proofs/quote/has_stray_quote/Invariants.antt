@@ -1,8 +1,0 @@
-use Rattle.std.proofs.Common.{◌≡◌, drop}
-use Rattle.zic_columns.specs.Quotes.{has_stray}
-use Rattle.zic_columns.specs.code.Machine.{state_at}
-use Rattle.zic_columns.specs.code.Quote.{strays_from}
-use Rattle.zic_columns.proofs.quote.has_stray_quote.Given as goal
-
-abbrev pub invariant-loop-byte : goal.invariant-loop-byte
-invariant-loop-byte l = strays_from 44 (state_at l.place_now) (drop l.byte-index l.own) ≡ has_stray 44 l.own

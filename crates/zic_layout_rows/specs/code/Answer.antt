@@ -1,0 +1,176 @@
+-- What a release answers records: in the column of a batch, or by a search.
+use Rattle.std.specs.Prelude.{◌≡◌, ◌≢◌, ◌<◌, ◌≤◌, true, ℕ, ℤ, List, [], length, Option, Some, None, Result, Ok, MatchResult, IfSome, All, map, slice_get, slice_index_or, take}
+use Rattle.zic_base.specs.State.{Shown}
+use Rattle.zic_base.specs.declared.row_fault.RowKind.{RowKind}
+use Rattle.zic_columns.specs.Record.{bytes_at}
+use Rattle.zic_columns.specs.Round.{may_have}
+use Rattle.zic_columns.specs.declared.fields.Record.{Record}
+use Rattle.zic_columns.specs.declared.splits.TheConstants.{BATCH}
+use Rattle.zic_plan.specs.Layout.{has_count}
+use Rattle.zic_files.specs.File.{File}
+use Rattle.zic_plan.specs.declared.disambiguation.Disambiguation.{Disambiguation}
+use Rattle.zic_plan.specs.declared.layout.TimeFrom.{TimeFrom}
+use Rattle.zic_plan.specs.declared.layout.TimeFrom.TheVariants as from
+use Rattle.zic_plan.specs.declared.layout.Written.{Written}
+use Rattle.zic_plan.specs.declared.layout.Written.TheVariants as written
+use Rattle.zic_rows.specs.Count.{second_of}
+use Rattle.zic_rows.specs.Instant.{IsRowInstant}
+use Rattle.zic_rows.specs.declared.row_time.RowTime.{RowTime}
+use Rattle.zic_zones.specs.Resolved.{resolved}
+use Rattle.zic_zones.specs.States.{HasState}
+use Rattle.zic_zones.specs.Zones.{AnswersAt}
+use Rattle.zic_layout_rows.specs.LayoutRows.{IsAnswerBy, IsTextBy, admits_stray, empty_fields, faulty_text, file_at, input_text, with_answer}
+use Rattle.zic_layout_rows.specs.code.Batch.{AreCountsOf, IsCountFor, IsGiven, IsInput, IsTimeOf, blank, blank_time, count_at, fault_at, input_in, record_of, zone_at}
+use Rattle.zic_layout_rows.specs.code.Row.{input_of}
+use Rattle.zic_layout_rows.specs.declared.answer.Answer.{Answer}
+use Rattle.zic_layout_rows.specs.declared.answer.AnswerState.{AnswerState}
+use Rattle.zic_layout_rows.specs.declared.answer.AnswerState.TheVariants as state
+use Rattle.zic_layout_rows.specs.declared.answer.Known.{Known}
+use Rattle.zic_layout_rows.specs.declared.answers.Answers.{Answers}
+use Rattle.zic_layout_rows.specs.declared.batch.Batch.{Batch}
+use Rattle.zic_layout_rows.specs.declared.lookup.Counts.{Counts}
+use Rattle.zic_layout_rows.specs.declared.piece.Piece.{Piece}
+use Rattle.zic_layout_rows.specs.declared.search.RowQuery.{RowQuery}
+use Rattle.zic_layout_rows.specs.declared.time.TheConstants.{NO_TIME}
+
+-- where the time says something
+abbrev pub IfTime : RowTime → (RowTime → Type 0) → Type 0
+IfTime time holds = time.second ≢ NO_TIME → holds time
+
+-- The time is that of the count in a record's field, whose second a row may have. A row has that count's text by it.
+pub record IsReadTime (piece : Piece) (given : Record) (time : RowTime) : Type 0 where
+  pub count : ℤ
+  pub says : count_at piece given ≡ Some count
+  pub sound : IsCountFor piece.layout.now.from piece.layout.now.unit count
+  pub may : IsRowInstant (second_of piece.layout.now.unit count)
+  pub is : IsTimeOf piece.layout.now.unit count time
+  pub begins : IsInput piece given (input_of piece.layout.now.from time)
+  pub text : input_in piece given (input_of piece.layout.now.from time) ≡ input_text piece.layout.now.from piece.layout.now.unit count
+
+-- the times of the first records, where they say anything
+abbrev pub AreTimes : Piece → ℕ → List Record → List RowTime → Type 0
+AreTimes piece count records times = (i : ℕ) → i < count → IfTime (slice_index_or times i blank_time) (IsReadTime piece (slice_index_or records i blank))
+
+-- a record has as many bytes and fields as it may have, and the right double quotes
+pub record IsAdmitted (piece : Piece) (given : Record) : Type 0 where
+  pub closed : given.count ≢ 0
+  pub count : has_count piece.layout.now.count given.count ≡ true
+  pub quotes : admits_stray piece.layout.now.quotes given.stray ≡ true
+  pub short : may_have piece.layout.now.max_record (length (bytes_at piece.bytes.now given.own)) ≡ true
+
+-- the file of a record's zone, and its counts, which a row may have
+pub record IsRowQuery (piece : Piece) (given : Record) (query : RowQuery) : Type 0 where
+  pub file : zone_at piece given ≡ Some query.file
+  pub counts : AreCountsOf piece.layout.now (file_at piece.zones.now (zone_at piece given)) (count_at piece given) query.counts
+  pub may : IsRowInstant (second_of piece.layout.now.unit query.counts.count)
+
+-- and the row of this number has no fault
+pub record IsSoundQuery (piece : Piece) (number : ℕ) (given : Record) (query : RowQuery) : Type 0 where
+  pub sound : fault_at piece number given ≡ None
+  pub is : IsRowQuery piece given query
+
+-- the only instant of a local time of a file's clocks, which a row may have
+pub record IsOnlyInstant (files : List File) (file : ℕ) (local time : RowTime) : Type 0 where
+  pub fraction : time.fraction ≡ local.fraction
+  pub unit : time.unit ≡ local.unit
+  pub may : IsRowInstant time.second
+  pub meant : (choice : Disambiguation) → IfSome (slice_get files file) (λ f. resolved f.image.octets local.second choice ≡ Ok time.second)
+
+-- the instant that is meant by the time in a field: itself, or what a local time means
+abbrev pub IsInstantFrom : TimeFrom → List File → ℕ → RowTime → RowTime → Type 0
+IsInstantFrom from.Count files file time instant = instant ≡ time
+IsInstantFrom from.Rfc3339 files file time instant = instant ≡ time
+IsInstantFrom (from.Local choice) files file time instant = IsOnlyInstant files file time instant
+
+abbrev pub IsInstantOf : Piece → ℕ → RowTime → RowTime → Type 0
+IsInstantOf piece file time instant = IsInstantFrom piece.layout.now.from piece.zones.now file time instant
+
+-- what the tables answer a record whose field has this time, and that its row has no fault
+pub record IsKnown (piece : Piece) (given : Record) (input : RowTime) (known : Known) (shown : Shown) : Type 0 where
+  pub admitted : IsAdmitted piece given
+  pub read : IsReadTime piece given input
+  pub count : ℤ
+  pub query : IsRowQuery piece given (record { file = known.file; counts = record { input = read.count; count = count } })
+  pub time : IsTimeOf piece.layout.now.unit count known.time
+  pub answers : AnswersAt piece.zones.now known.file known.time.second shown
+
+-- nothing that is known
+abbrev pub unknown : Known
+unknown = record { file = 0; time = blank_time; state = 0 }
+
+-- the state of an answer
+abbrev pub shown_in : AnswerState → Shown
+shown_in (state.Kept text) = text.now
+shown_in (state.Made text) = text
+
+-- What a release answers a record is the file of its zone, the time of the instant, which a row may have, and the state that the file shows
+-- then. The row begins with the text of the count that the record's field has.
+pub record IsShownRow (piece : Piece) (given : Record) (answer : Answer) : Type 0 where
+  pub counts : Counts
+  pub query : IsRowQuery piece given (record { file = answer.file; counts = counts })
+  pub time : IsTimeOf piece.layout.now.unit counts.count answer.time
+  pub begins : IsInput piece given answer.input
+  pub says : input_in piece given answer.input ≡ input_text piece.layout.now.from piece.layout.now.unit counts.input
+  pub answers : AnswersAt piece.zones.now answer.file answer.time.second (shown_in answer.state)
+
+-- what a release answers a record as the row of a number, or the fault of its row
+abbrev pub IsAnswered : Piece → ℕ → Record → Result Answer RowKind → Type 0
+IsAnswered piece number given answer = MatchResult answer
+    (λ a. (fault_at piece number given ≡ None) × IsShownRow piece given a)
+    (λ kind. fault_at piece number given ≡ Some kind)
+
+-- the columns have the file of a record's zone, and what the tables answer, if anything
+pub record IsFoundIn (piece : Piece) (given : Record) (time : RowTime) (answers : Answers) (place : ℕ) : Type 0 where
+  pub zone : slice_index_or answers.zones place None ≡ zone_at piece given
+  pub known : HasState answers.states.states (slice_index_or answers.known place unknown).state (IsKnown piece given time (slice_index_or answers.known place unknown))
+
+-- the column of the first records of a batch
+pub record AreAnswers (piece : Piece) (records : List Record) (times : List RowTime) (count : ℕ) (answers : Answers) : Type 0 where
+  pub zones : take count answers.zones ≡ map (zone_at piece) (take count records)
+  pub known : (i : ℕ) → i < count → HasState answers.states.states (slice_index_or answers.known i unknown).state (IsKnown piece (slice_index_or records i blank) (slice_index_or times i blank_time) (slice_index_or answers.known i unknown))
+
+-- a piece with the zones of another release
+pub record IsOfPiece (piece other : Piece) : Type 0 where
+  pub layout : other.layout.now ≡ piece.layout.now
+  pub bytes : other.bytes.now ≡ piece.bytes.now
+  pub most : other.most ≡ piece.most
+
+-- the columns of the first records of a batch, with those of another release, if there is one
+pub record AreColumns (piece : Piece) (other : Option Piece) (batch : Batch) (count : ℕ) : Type 0 where
+  pub few : count ≤ BATCH
+  pub split : All (IsGiven piece) (take count batch.records)
+  pub answers : AreAnswers piece batch.records batch.times count batch.answers
+  pub others : IfSome other (λ o. AreAnswers o batch.records batch.times count batch.others)
+
+-- what they have of the record at a place
+pub record IsAt (piece : Piece) (other : Option Piece) (batch : Batch) (place : ℕ) : Type 0 where
+  pub within : place < BATCH
+  pub split : IsGiven piece (slice_index_or batch.records place blank)
+  pub answers : IsFoundIn piece (slice_index_or batch.records place blank) (slice_index_or batch.times place blank_time) batch.answers place
+  pub others : IfSome other (λ o. IsFoundIn o (slice_index_or batch.records place blank) (slice_index_or batch.times place blank_time) batch.others place)
+
+-- the row of a record with this answer or fault
+abbrev pub IsRowOf : Piece → Record → Result Answer RowKind → List ℕ → Type 0
+IsRowOf piece given answer row = MatchResult answer
+    (λ a. IsTextBy piece.layout.now piece.zones.now (record_of piece given) row)
+    (λ kind. row ≡ faulty_text piece.layout.now kind (record_of piece given))
+
+-- the text of this answer, or empty fields for a fault
+abbrev pub IsAnswerOf : Piece → Record → Result Answer RowKind → List ℕ → Type 0
+IsAnswerOf piece given answer text = MatchResult answer
+    (λ a. IsAnswerBy piece.layout.now piece.zones.now (record_of piece given) text)
+    (λ kind. text ≡ empty_fields piece.layout.now)
+
+-- the row of a record that is written only if it is answered differently by another release, with this text
+pub record IsMovedOf (piece : Piece) (given : Record) (answer : Result Answer RowKind) (other row : List ℕ) : Type 0 where
+  pub whole : List ℕ
+  pub is_row : IsRowOf piece given answer whole
+  pub own : List ℕ
+  pub is_own : IsAnswerOf piece given answer own
+  pub same : own ≡ other → row ≡ []
+  pub moved : (own ≡ other → ⊥) → row ≡ with_answer whole other
+
+-- what is written of a record
+abbrev pub IsWrittenOf : Written → Piece → Record → Result Answer RowKind → List ℕ → List ℕ → Type 0
+IsWrittenOf written.All piece given answer other row = IsRowOf piece given answer row
+IsWrittenOf written.Moved piece given answer other row = IsMovedOf piece given answer other row

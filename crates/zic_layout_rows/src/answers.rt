@@ -1,0 +1,257 @@
+//! What a release answers the records of a batch.
+
+ghost use Rattle.std.specs.Prelude.{◌≡◌, ◌<◌, ◌≤◌, All, IsTrue, map, take, IfOk, IfSome, OnOk, length};
+ghost use Rattle.zic_columns.specs.Record.{IsWithinPiece, field_text};
+ghost use Rattle.zic_columns.specs.declared.splits.TheConstants.{BATCH};
+ghost use Rattle.zic_rows.specs.Instant.{IsRowInstant};
+ghost use Rattle.zic_zones.specs.States.{HasState};
+ghost use Rattle.zic_zones.specs.Zones.{number_of};
+ghost use Rattle.zic_zones.specs.declared.limit.TheConstants.{UNKNOWN};
+ghost use Rattle.zic_layout_rows.specs.LayoutRows.{admits_stray};
+ghost use Rattle.zic_layout_rows.specs.code.Answer.{AreAnswers, AreTimes, IfTime, IsAdmitted, IsAnswered, IsFoundIn, IsInstantOf, IsKnown, IsOnlyInstant, IsReadTime};
+ghost use Rattle.zic_layout_rows.specs.code.Batch.{IsGiven, IsNamed, zone_at};
+
+use crate::answer::{Answer, Known};
+use crate::faulty::copy_field;
+use crate::piece::Piece;
+use crate::search::search;
+use crate::time::{NO_TIME, no_time};
+use std::alloc::{AllocError, Global};
+use zic_base::RowKind;
+use zic_columns::{BATCH, Field, Record, may_have};
+use zic_plan::{Quotes, TimeFrom, Unit, ZoneFrom};
+use zic_rows::{FIRST_INSTANT, LAST_INSTANT, RowTime};
+use zic_zones::{RowStates, RowZones, UNKNOWN};
+
+/// The place of a record in a batch, the time in its field, and the number of its row.
+#[derive(Clone, Copy, Drop)]
+pub(crate) struct Asked {
+    pub(crate) place: usize,
+    pub(crate) time: RowTime,
+    pub(crate) number: u64,
+}
+
+/// What a release answers records: the states that it shows, by number, the numbers of the records' files,
+/// and the answers that the tables have. A file is `None` if none has the name of a record's zone.
+#[derive(Drop)]
+pub(crate) struct Answers<'s> {
+    pub(crate) states: RowStates<'s>,
+    pub(crate) zones: [Option<usize>; BATCH],
+    pub(crate) known: [Known; BATCH],
+}
+
+impl<'s> Answers<'s> {
+    /// Returns a column without answers.
+    pub(crate) fn new(states: RowStates<'s>) -> Answers<'s> {
+        Answers {
+            states,
+            zones: [None; BATCH],
+            known: [unknown(); BATCH],
+        }
+    }
+
+    /// Finds the answers of a piece's zones to the first `count` records, whose fields have these times.
+    pub(crate) fn find(
+        &mut self,
+        alloc: Global,
+        piece: &Piece<'_, 's>,
+        records: &[Record; BATCH],
+        times: &[RowTime; BATCH],
+        count: usize,
+    ) -> Result<(), AllocError>
+        requires few { count ≤ BATCH }
+        requires split { All (IsGiven piece.now) (take count records.now) }
+        requires times { AreTimes piece.now count records.now times.now }
+        ensures { OnOk result (AreAnswers piece.now records.now times.now count self.new) }
+    {
+        find_zones(alloc, piece, records, count, &mut self.zones)?;
+        self.states = piece.zones.states();
+        for i in 0..count {
+            self.known[i] = known_at(piece, &self.states, &records[i], self.zones[i], times[i]);
+        }
+        Ok(())
+    }
+
+    /// Returns what the zones of a piece answer a record as the row of a number, or the fault of its row:
+    /// by the column, or by a search.
+    pub(crate) fn answer(
+        &self,
+        alloc: Global,
+        piece: &Piece<'_, 's>,
+        given: &Record,
+        asked: Asked,
+    ) -> Result<Result<Answer<'s>, RowKind>, AllocError>
+        requires within { asked.place < BATCH }
+        requires split { IsGiven piece.now given.now }
+        requires found { IsFoundIn piece.now given.now asked.time self.now asked.place }
+        ensures { IfOk result (IsAnswered piece.now asked.number given.now) }
+    {
+        let known = self.known[asked.place];
+        if known.state != UNKNOWN && asked.number <= piece.most {
+            return Ok(Ok(known.answer(&self.states, piece.layout, asked.time)));
+        }
+        search(alloc, piece, asked.number, given, self.zones[asked.place])
+    }
+}
+
+/// Returns an answer that the tables don't have.
+#[inline(always)]
+fn unknown() -> Known
+    ensures { result.state ≡ UNKNOWN }
+{
+    Known {
+        file: 0,
+        time: no_time(Unit::Second),
+        state: UNKNOWN,
+    }
+}
+
+/// Finds the files of the zones of records.
+fn find_zones(
+    alloc: Global,
+    piece: &Piece<'_, '_>,
+    records: &[Record; BATCH],
+    count: usize,
+    zones: &mut [Option<usize>; BATCH],
+) -> Result<(), AllocError>
+    requires few { count ≤ BATCH }
+    requires split { All (IsGiven piece.now) (take count records.now) }
+    ensures { OnOk result
+        (take count zones.new ≡ map (zone_at piece.now) (take count records.now)) }
+{
+    let named = match &piece.layout.zone {
+        ZoneFrom::Field(_) => None,
+        ZoneFrom::Name(name) => piece.zones.find(name.as_bytes()),
+    };
+    for i in 0..count {
+        zones[i] = file_of(alloc, piece, &records[i], named)?;
+    }
+    Ok(())
+}
+
+/// Returns the number of the file of a record's zone, if there is one. Where all rows are in one zone,
+/// `named` is the number of its file.
+#[inline(always)]
+fn file_of(
+    alloc: Global,
+    piece: &Piece<'_, '_>,
+    given: &Record,
+    named: Option<usize>,
+) -> Result<Option<usize>, AllocError>
+    requires split { IsGiven piece.now given.now }
+    requires named { IsNamed piece.now.layout.now.zone piece.now.zones.now named }
+    ensures { IfOk result (λ file. file ≡ zone_at piece.now given.now) }
+{
+    match &piece.layout.zone {
+        ZoneFrom::Field(_) => find_field(alloc, piece, given.zone),
+        ZoneFrom::Name(_) => Ok(named),
+    }
+}
+
+/// Returns the number of the file that a field of a piece names, if there is one.
+#[inline(always)]
+fn find_field(
+    alloc: Global,
+    piece: &Piece<'_, '_>,
+    field: Field,
+) -> Result<Option<usize>, AllocError>
+    requires { IsWithinPiece piece.now.bytes.now field }
+    ensures { IfOk result (λ file. file ≡ number_of piece.now.zones.now
+        (field_text piece.now.layout.now.delimiter piece.now.bytes.now field)) }
+{
+    match field {
+        Field::Plain(span) => Ok(piece.zones.find_at(piece.bytes, span.start, span.end)),
+        Field::Quoted(_) => {
+            let name = copy_field(alloc, piece, field)?;
+            Ok(piece.zones.find(&name))
+        }
+    }
+}
+
+/// Returns whether a record may have a stray double quote, or has none.
+#[inline(always)]
+pub(crate) fn admits_stray(quotes: Quotes, stray: bool) -> bool
+    ensures { result ≡ admits_stray quotes stray }
+{
+    match quotes {
+        Quotes::Strict => !stray,
+        Quotes::Lenient => true,
+    }
+}
+
+/// Returns whether a record has as many bytes and fields as it may have, and the right double quotes.
+#[inline(always)]
+fn is_admitted(piece: &Piece<'_, '_>, given: &Record) -> bool
+    requires { IsGiven piece.now given.now }
+    ensures { IsTrue result → IsAdmitted piece.now given.now }
+{
+    given.count > 0
+        && piece.layout.count.admits(given.count)
+        && admits_stray(piece.layout.quotes, given.stray)
+        && may_have(piece.layout.max_record, given.own.of(piece.bytes).len())
+}
+
+/// Returns what the tables answer a record whose zone has this file and whose field has this time, if
+/// they have it and its row has no fault.
+#[inline(always)]
+fn known_at(
+    piece: &Piece<'_, '_>,
+    states: &RowStates<'_>,
+    given: &Record,
+    zone: Option<usize>,
+    time: RowTime,
+) -> Known
+    requires files { states.now.files ≡ piece.now.zones.now }
+    requires split { IsGiven piece.now given.now }
+    requires zone { zone ≡ zone_at piece.now given.now }
+    requires time { IfTime time (IsReadTime piece.now given.now) }
+    ensures { HasState states.now.states result.state (IsKnown piece.now given.now time result) }
+{
+    let Some(file) = zone else {
+        return unknown();
+    };
+    if time.second == NO_TIME || !is_admitted(piece, given) {
+        return unknown();
+    }
+    let Some(instant) = instant_of(piece, file, time) else {
+        return unknown();
+    };
+    Known {
+        file,
+        time: instant,
+        state: states.number(file, instant.second),
+    }
+}
+
+/// Returns the time of the instant that the time in a record's field means by a file, where the tables
+/// have it.
+#[inline(always)]
+fn instant_of(piece: &Piece<'_, '_>, file: usize, time: RowTime) -> Option<RowTime>
+    requires within { file < length piece.now.zones.now }
+    requires may { IsRowInstant time.second }
+    ensures { IfSome result (IsInstantOf piece.now file time) }
+{
+    match piece.layout.from {
+        TimeFrom::Count | TimeFrom::Rfc3339 => Some(time),
+        TimeFrom::Local(_) => only_instant(piece.zones, file, time),
+    }
+}
+
+/// Returns the time of the only instant of a local time, where the tables have it, and a row may have
+/// it.
+#[inline(always)]
+fn only_instant(zones: &RowZones<'_>, file: usize, local: RowTime) -> Option<RowTime>
+    requires within { file < length zones.now }
+    requires may { IsRowInstant local.second }
+    ensures { IfSome result (IsOnlyInstant zones.now file local) }
+{
+    let second = zones.only_instant(file, local.second)?.instant;
+    if second < FIRST_INSTANT || LAST_INSTANT < second {
+        return None;
+    }
+    Some(RowTime {
+        second,
+        fraction: local.fraction,
+        unit: local.unit,
+    })
+}
