@@ -28,9 +28,9 @@ has() {
     return 1
 }
 
-# plain NAME: builds $work/NAME from bench/NAME.rs, in plain Rust.
+# plain NAME: builds a program in plain Rust from bench/NAME.rs, with the last part of the name in $work.
 plain() {
-    rustc --edition 2021 -C opt-level=3 -o "$work/$1" "bench/$1.rs"
+    rustc --edition 2021 -C opt-level=3 -o "$work/${1##*/}" "bench/$1.rs"
 }
 
 # best COMMAND...: prints the nanoseconds that a command takes, the best of five runs.

@@ -1,7 +1,7 @@
 #!/bin/sh
-# Times `pzic convert` beside two other converters, each by 1 and 4 workers: the plain Rust of
-# `convert.rs`, which goes through batches of records column by column, and Debian's C++ date library
-# with a cache of spans (`convert.cpp`).
+# Times `pzic convert` beside two other converters of the folder peers, each by 1 and 4 workers: the
+# plain Rust of `convert.rs`, which goes through batches of records column by column, and Debian's C++
+# date library with a cache of spans (`convert.cpp`).
 #
 # usage: convert.sh [ROWS] | convert.sh options [ROWS] | convert.sh others [ROWS] |
 #        convert.sh stream [ROWS]
@@ -93,7 +93,7 @@ convert() {
     convert.cpp:wide) set -- "$work/library" "$2" append ;;
     convert.cpp:*) set -- "$work/library" "$2" ;;
     convert.go:*) set -- env ZONEINFO="$work/tree" "$work/go" "$2" ;;
-    convert.py:*) set -- env PYTHONTZPATH="$work/tree" "$python" bench/convert.py "$few" ;;
+    convert.py:*) set -- env PYTHONTZPATH="$work/tree" "$python" bench/peers/convert.py "$few" ;;
     esac
     command time -f '%M %R' -o "$work/usage" "$@"
 }
@@ -191,7 +191,7 @@ if [ "$mode" = options ]; then
 fi
 
 has /usr/include/date/tz.h libhowardhinnant-date-dev
-g++ -std=c++17 -O2 -DUSE_OS_TZDB=1 -pthread -o "$work/library" bench/convert.cpp -ldate-tz
+g++ -std=c++17 -O2 -DUSE_OS_TZDB=1 -pthread -o "$work/library" bench/peers/convert.cpp -ldate-tz
 
 # ------------------------------------------------------------------ other languages
 
@@ -229,7 +229,7 @@ time_others() {
 
 if [ "$mode" = others ]; then
     command -v go >/dev/null || has /usr/bin/go golang-go
-    go build -o "$work/go" bench/convert.go
+    go build -o "$work/go" bench/peers/convert.go
     rows=${1:-2000000}
     sample=$rows
     few=$((rows / 20))
@@ -241,7 +241,7 @@ fi
 
 # ------------------------------------------------------------------ the table's rows compared
 
-plain convert
+plain peers/convert
 rows=${1:-10000000}
 sample=$((rows < 1000000 ? rows : 1000000))
 for kind in random rising footer quoted; do

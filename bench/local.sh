@@ -1,6 +1,6 @@
 #!/bin/sh
-# Times `pzic convert --from local` beside its other direction and beside other converters of local
-# times, by 1 and 4 workers: Go's `time.Date` (`local.go`), `convert` of cctz and `local_info` of the C++
+# Times `pzic convert --from local` beside its other direction and beside other converters of the folder
+# peers, by 1 and 4 workers: Go's `time.Date` (`local.go`), `convert` of cctz and `local_info` of the C++
 # date library (`local.cpp`), and zoneinfo of Python (`local.py`), which tells a twentieth of the rows.
 #
 # usage: local.sh [ROWS]
@@ -28,15 +28,15 @@ plain column
 # The converters that are there, each with its numbers of workers.
 converters='instants:1 instants:4 pzic:1 pzic:4 local.py:1'
 if command -v go >/dev/null || has /usr/bin/go golang-go; then
-    go build -o "$work/go" bench/local.go
+    go build -o "$work/go" bench/peers/local.go
     converters="$converters local.go:1 local.go:4"
 fi
 if command -v g++ >/dev/null && has /usr/include/date/tz.h libhowardhinnant-date-dev; then
-    g++ -std=c++17 -O2 -DUSE_OS_TZDB=1 -pthread -o "$work/date" bench/local.cpp -ldate-tz
+    g++ -std=c++17 -O2 -DUSE_OS_TZDB=1 -pthread -o "$work/date" bench/peers/local.cpp -ldate-tz
     converters="$converters date:1 date:4"
 fi
 if command -v g++ >/dev/null && has /usr/include/cctz/time_zone.h libcctz-dev; then
-    g++ -std=c++17 -O2 -DCCTZ -pthread -o "$work/cctz" bench/local.cpp -lcctz
+    g++ -std=c++17 -O2 -DCCTZ -pthread -o "$work/cctz" bench/peers/local.cpp -lcctz
     converters="$converters cctz:1 cctz:4"
 fi
 
@@ -45,7 +45,7 @@ convert() {
     case $1 in
     instants) "$program" convert --workers "$2" "$release" <"$work/instants.csv" ;;
     pzic) "$program" convert --workers "$2" --from local --ambiguous compatible "$release" <"$work/local.csv" ;;
-    local.py) PYTHONTZPATH="$work/tree" "$python" bench/local.py "$few" <"$work/local.csv" ;;
+    local.py) PYTHONTZPATH="$work/tree" "$python" bench/peers/local.py "$few" <"$work/local.csv" ;;
     local.go) ZONEINFO="$work/tree" "$work/go" "$2" <"$work/local.csv" ;;
     date) "$work/date" "$2" <"$work/local.csv" ;;
     cctz) TZDIR="$work/tree" "$work/cctz" "$2" <"$work/local.csv" ;;

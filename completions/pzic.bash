@@ -19,103 +19,67 @@ _pzic_zones() {
 }
 
 _pzic() {
-    local current=${COMP_WORDS[COMP_CWORD]} previous=${COMP_WORDS[COMP_CWORD - 1]}
-    local options='--help'
+    local current=${COMP_WORDS[COMP_CWORD]} previous=${COMP_WORDS[COMP_CWORD - 1]} options='' takes=''
     COMPREPLY=()
+    # made by tools/options: bash-commands
+    local commands='check build verify diff convert show dump explain'
+    # made by hand again
     if [ "$COMP_CWORD" -eq 1 ]; then
-        # shellcheck disable=SC2207
-        COMPREPLY=($(compgen -W "$([[ $current = -* ]] && echo --help --version || echo check build verify diff convert show dump explain)" -- "$current"))
+        if [[ $current = -* ]]; then takes='--help --version'; else takes=$commands; fi
+        _pzic_offer "$takes"
         return
     fi
+    # What the command takes, and what the option before the current word takes.
     case ${COMP_WORDS[1]} in
+    # made by tools/options: bash-options
     check) options='--workers --zone-piece --explain --help' ;;
-    verify) options='--strict --release --tables --workers --zone-piece --explain --help' ;;
     build) options='--links --sync --release --tables --workers --zone-piece --explain --help' ;;
+    verify) options='--strict --release --tables --workers --zone-piece --explain --help' ;;
     diff) options='--trees --from --to --ignore --summary --now --show-release --workers --zone-piece --explain --help' ;;
-    convert) options='--workers --zone-piece --row-piece --max-rows --max-bytes --max-record --tree --against --against-tree --header --skip-header --zone --zone-field --time-field --delimiter --unit --from --ambiguous --style --records --quotes --append --keep-going --faults --faults-with --rejects --max-faults --progress --show-release --explain --help' ;;
+    convert) options='--tree --against --against-tree --workers --zone-piece --row-piece --max-rows --max-bytes --max-record --header --skip-header --zone --zone-field --time-field --delimiter --unit --from --ambiguous --style --records --quotes --append --keep-going --faults --faults-with --rejects --max-faults --progress --show-release --explain --help' ;;
     show) options='--local --explain --help' ;;
     dump) options='--from --to --explain --help' ;;
-    explain)
-        if [[ $current != -* ]]; then
-            # shellcheck disable=SC2207
-            COMPREPLY=($(compgen -W "$(pzic explain | cut -d : -f 1 | grep -v ' ')" -- "$current"))
-            return
-        fi
-        ;;
+    explain) options='--help' ;;
+    # made by hand again
     *) return ;;
     esac
-    case $previous in
-    --workers)
-        # shellcheck disable=SC2207
-        COMPREPLY=($(compgen -W '1 2 4 8 16 32 64' -- "$current"))
-        return
+    case ${COMP_WORDS[1]}:$previous in
+    # made by tools/options: bash-words
+    *:--links) takes='copy hard symlink' ;;
+    *:--release) takes='from-source' ;;
+    *:--tables | *:--tree | *:--against-tree) takes='folders' ;;
+    diff:--from | dump:--from | *:--to | *:--now | *:--zone-piece | *:--row-piece | *:--max-rows | *:--max-bytes | *:--max-record | *:--zone-field | *:--time-field | *:--max-faults) takes='none' ;;
+    *:--ignore) takes='daylight abbreviation daylight,abbreviation' ;;
+    *:--against | *:--faults | *:--rejects) takes='files' ;;
+    *:--workers) takes='1 2 4 8 16 32 64' ;;
+    *:--zone) takes='zones' ;;
+    *:--delimiter) takes='tab' ;;
+    *:--unit) takes='s ms us ns' ;;
+    convert:--from) takes='count rfc3339 local' ;;
+    *:--ambiguous) takes='reject earlier later compatible' ;;
+    *:--style) takes='fields iso' ;;
+    *:--records) takes='csv lines' ;;
+    *:--quotes) takes='strict lenient' ;;
+    *:--faults-with) takes='line value line,value' ;;
+    # made by hand again
+    *)
+        if [[ $current = -* ]]; then takes=$options; elif [ "${COMP_WORDS[1]}" = explain ]; then takes=errors; else takes=files; fi
         ;;
-    --links)
-        # shellcheck disable=SC2207
-        COMPREPLY=($(compgen -W 'copy hard symlink' -- "$current"))
-        return
-        ;;
-    --ignore)
-        # shellcheck disable=SC2207
-        COMPREPLY=($(compgen -W 'daylight abbreviation daylight,abbreviation' -- "$current"))
-        return
-        ;;
-    --unit)
-        # shellcheck disable=SC2207
-        COMPREPLY=($(compgen -W 's ms us ns' -- "$current"))
-        return
-        ;;
-    --style)
-        # shellcheck disable=SC2207
-        COMPREPLY=($(compgen -W 'fields iso' -- "$current"))
-        return
-        ;;
-    --records)
-        # shellcheck disable=SC2207
-        COMPREPLY=($(compgen -W 'csv lines' -- "$current"))
-        return
-        ;;
-    --quotes)
-        # shellcheck disable=SC2207
-        COMPREPLY=($(compgen -W 'strict lenient' -- "$current"))
-        return
-        ;;
-    --from)
-        if [ "${COMP_WORDS[1]}" = convert ]; then
-            # shellcheck disable=SC2207
-            COMPREPLY=($(compgen -W 'count rfc3339 local' -- "$current"))
-        fi
-        return
-        ;;
-    --ambiguous)
-        # shellcheck disable=SC2207
-        COMPREPLY=($(compgen -W 'reject earlier later compatible' -- "$current"))
-        return
-        ;;
-    --faults-with)
-        # shellcheck disable=SC2207
-        COMPREPLY=($(compgen -W 'line value line,value' -- "$current"))
-        return
-        ;;
-    --tree | --against-tree | --tables)
-        # shellcheck disable=SC2207
-        COMPREPLY=($(compgen -d -- "$current"))
-        return
-        ;;
-    --zone)
-        # shellcheck disable=SC2207
-        COMPREPLY=($(compgen -W "$(_pzic_zones)" -- "$current"))
-        return
-        ;;
-    --zone-field | --time-field | --delimiter) return ;;
-    --zone-piece | --row-piece | --max-rows | --max-bytes | --max-record | --to) return ;;
     esac
-    if [[ $current = -* ]]; then
-        # shellcheck disable=SC2207
-        COMPREPLY=($(compgen -W "$options" -- "$current"))
-    else
-        # shellcheck disable=SC2207
-        COMPREPLY=($(compgen -f -- "$current"))
-    fi
+    _pzic_offer "$takes"
+}
+
+# Offers the words that begin as the current one does, of these, or of what one of these words stands for.
+_pzic_offer() {
+    local current=${COMP_WORDS[COMP_CWORD]} how=-W words=$1
+    case $words in
+    none) words='' ;;
+    files) how=-f ;;
+    folders) how=-d ;;
+    zones) words=$(_pzic_zones) ;;
+    errors) words=$(pzic explain | cut -d : -f 1 | grep -v ' ') ;;
+    esac
+    # shellcheck disable=SC2207
+    if [ $how = -W ]; then COMPREPLY=($(compgen -W "$words" -- "$current")); else COMPREPLY=($(compgen $how -- "$current")); fi
 }
 complete -o filenames -F _pzic pzic

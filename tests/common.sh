@@ -19,10 +19,7 @@ changed() {
 # build CRATE...: proves and builds crates, where that isn't done yet. tests/run reads these lines of all
 # tests that it runs, and has their crates built before the first.
 build() {
-    local crate lacks=()
-    for crate in "$@"; do [ -e "$BUILT/$crate" ] || lacks+=("$crate"); done
-    [ "${#lacks[@]}" = 0 ] || tools/prove "${lacks[@]}" || exit
-    for crate in "${lacks[@]}"; do : >"$BUILT/$crate"; done
+    tools/prove "$@" || exit
 }
 
 # has WHAT COMMAND...: returns whether all these commands are there. If not, says that this part of the

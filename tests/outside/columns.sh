@@ -14,10 +14,10 @@ changed >"$work/old.zi"
 "$program" build "$work/old" "$work/old.zi"
 zic -b fat -d "$work/fat" "$release"
 zic -b slim -d "$work/slim" "$release"
-python3 tests/outside/columns.py "$program" "$release" "$work" | sed 's/^/columns: /'
-python3 tests/outside/layouts.py "$program" "$release" "$work" | sed 's/^/columns: /'
+python3 tests/outside/columns/columns.py "$program" "$release" "$work" | sed 's/^/columns: /'
+python3 tests/outside/columns/layouts.py "$program" "$release" "$work" | sed 's/^/columns: /'
 mkdir "$work/lines"
-python3 tests/outside/lines.py "$program" "$work/lines" | sed 's/^/columns: /'
-python3 tests/outside/local_times.py "$program" "$work" | sed 's/^/columns: /'
-python3 tests/outside/local_columns.py "$program" "$release" "$work" crates/probe/out/probe | sed 's/^/columns: /'
-python3 tests/outside/tree_columns.py "$program" "$release" "$work" | sed 's/^/columns: /'
+python3 tests/outside/columns/lines.py "$program" "$work/lines" | sed 's/^/columns: /'
+python3 tests/outside/columns/local_times.py "$program" "$work" | sed 's/^/columns: /'
+python3 tests/outside/columns/local_columns.py "$program" "$release" "$work" crates/probe/out/probe | sed 's/^/columns: /'
+python3 tests/outside/columns/tree_columns.py "$program" "$release" "$work" | sed 's/^/columns: /'

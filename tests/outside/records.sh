@@ -6,7 +6,7 @@ set -euo pipefail
 cd "$(dirname "${BASH_SOURCE[0]}")/../.."
 . tests/common.sh
 build zic_main
-columns=$PWD/tests/outside/records.py
+columns=$PWD/tests/outside/columns/records.py
 enter
 printf '%s\n' 'Rule US 2007 max - Mar Sun>=8 2:00 1:00 D' 'Rule US 2007 max - Nov Sun>=1 2:00 0 S' 'Zone Z/NY -5:00 US E%sT' \
     'Zone Etc/UTC 0 - UTC' 'Zone Z/I 5:30 - %z' >eastern

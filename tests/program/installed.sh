@@ -2,9 +2,9 @@
 # Makes the Debian package, installs it into a folder of its own, and tries what was installed.
 # It makes the package twice, and checks that the bytes are the same. It installs it as root by `dpkg --root`, over a list of packages
 # that has only libc6, else by `dpkg-deb -x`, and removes it at the end. It tries each command, the manual page, the completions, the
-# library from C and from Python, the notices, and the links of the pages. As root the program runs by `chroot`, with nothing there
-# but the package and the files of libc6 that the program is linked with.
-# Needs: tzdata, dpkg-deb, cc, pkg-config. Parts need: root, man, zsh
+# library from C and from Python, the notices, the links of the pages, and what lintian says. As root the program runs by `chroot`, with
+# nothing there but the package and the files of libc6 that the program is linked with.
+# Needs: tzdata, dpkg-deb, cc, pkg-config. Parts need: root, man, zsh, lintian
 set -euo pipefail
 cd "$(dirname "${BASH_SOURCE[0]}")/../.."
 . tests/common.sh
@@ -30,6 +30,7 @@ expect() {
 # ------------------------------------------------------------------ installing
 
 mkdir "$work/again" "$root"
+export DEBFULLNAME='The maintainers' DEBEMAIL=maintainers@pzic.example.org
 package=$(./make-package "$work")
 cmp "$package" "$(./make-package "$work/again")" >&2 || differ 'two packages of the same tree differ'
 # Images of containers often configure dpkg to leave out documents.
@@ -53,7 +54,13 @@ else
     pzic=(env -i "$root/usr/bin/pzic")
 fi
 share=$root/usr/share
-cmp crates/zic_main/out/zic_main "$root/usr/bin/pzic" >&2 || differ 'the package has another program'
+# Of the program only the table of symbols is left out, which isn't loaded.
+strip --strip-unneeded -o "$work/stripped" crates/zic_main/out/zic_main
+cmp "$work/stripped" "$root/usr/bin/pzic" >&2 || differ 'the package has another program'
+# The file of notices has each licence in full, so that a package that is unpacked has them too.
+full=copyright-file-contains-full-apache-2-license,copyright-not-using-common-license-for-apache2
+! has 'what lintian says of the package' lintian ||
+    expect '' lintian --no-user-dirs --allow-root --suppress-tags "$full" "$package"
 
 # ------------------------------------------------------------------ the program
 

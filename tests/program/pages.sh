@@ -6,8 +6,9 @@
 #   comment `<!-- needs: COMMAND.. -->` is skipped if one of the commands is missing;
 # - tries each example of docs/errors.txt, and compares docs/ERRORS.md and the texts of `explain`
 #   with what is made of it;
-# - looks for each command and option of docs/help in the manual page and in the completions, and
-#   tries the completions in bash and zsh;
+# - compares the pages of help, the completions, the manual page and USING with what tools/options
+#   makes, gives the program each option with each of its words, and tries the completions in bash and
+#   zsh;
 # - prints the index of promises and public functions, and looks for functions without an edit or a
 #   test;
 # - checks links, the length of README.md, and the names in docs/PROOF.md.
@@ -168,7 +169,7 @@ try_errors() (
     while IFS= read -r line; do
         eval "$line"
         try_entry
-    done < <("$repository/docs/errors.py" examples)
+    done < <("$repository/tools/errors.py" examples)
     echo "pages: the examples of $examples entries of errors.txt are tried"
 )
 
@@ -180,10 +181,10 @@ for page in README.md docs/USING.md docs/ZIC.md docs/SCALE.md; do
 done
 try_errors &
 for part in "${parts[@]}" $!; do wait "$part" || differ 'a page or the examples were not run to their end'; done
-cmp -s <(docs/errors.py page) docs/ERRORS.md || differ 'docs/ERRORS.md is not what docs/errors.py makes'
+cmp -s <(tools/errors.py page) docs/ERRORS.md || differ 'docs/ERRORS.md is not what tools/errors.py makes'
 for part in source other; do
     file=crates/zic_explain/src/${part}_texts.rt
-    cmp -s <(docs/errors.py "$part") "$file" || differ "$file is not what docs/errors.py makes"
+    cmp -s <(tools/errors.py "$part") "$file" || differ "$file is not what tools/errors.py makes"
 done
 for page in docs/errors.txt docs/help/*.txt; do
     awk 'length > 79 { print; bad = 1 } END { exit bad }' "$page" >&2 ||
@@ -200,7 +201,7 @@ done
 while IFS= read -r name; do
     "$pzic" explain "$name" >"$work/explained" 2>"$work/told" || differ "$name is not explained"
     [ ! -s "$work/told" ] || differ "explain $name says '$(cat "$work/told")'"
-    docs/errors.py explain "$name" | cmp -s - "$work/explained" || differ "$name is explained otherwise than in docs/errors.txt"
+    tools/errors.py explain "$name" | cmp -s - "$work/explained" || differ "$name is explained otherwise than in docs/errors.txt"
 done < <(sed -n 's/^## //p' docs/errors.txt)
 # Each name of an error in the sources of the program has an entry.
 kinds=(crates/zic_base/src/fault.rt crates/zic_base/src/row_fault.rt crates/zic_tzif/src/reason.rt)
@@ -214,7 +215,12 @@ options_of() {
     grep -oE -- '--[a-z][a-z-]*' "docs/help/$1.txt" | sort -u
 }
 
-sed 's/\\-/-/g' man/pzic.1 >"$work/manual"
+tools/options --check >"$work/lacks" || differ "$(cat "$work/lacks")"
+# The parser takes each option: what it refuses is the word after it.
+while read -ra call; do
+    "$pzic" "${call[@]}" --frobnicate >"$work/out" 2>"$work/told" && status=0 || status=$?
+    [ "$status" = 2 ] && grep -qF "unexpected argument '--frobnicate'" "$work/told" || differ "pzic ${call[*]} --frobnicate says '$(cat "$work/told")'"
+done < <(tools/options calls)
 for page in docs/help/*.txt; do
     name=$(basename "$page" .txt)
     if [ "$name" = version ]; then
@@ -230,14 +236,7 @@ for page in docs/help/*.txt; do
             [ "$status" = 2 ] && [ ! -s "$work/out" ] && cmp -s "$work/told" "$page" || differ "pzic $name $word prints another page"
         done
     fi
-    for file in "$work/manual" completions/pzic.bash completions/_pzic; do
-        [ "$name" = pzic ] || grep -qw -- "$name" "$file" ||
-            differ "${file##*/} doesn't have the command $name"
-        for option in $(options_of "$name"); do
-            grep -qE -- "$option([^a-z-]|$)" "$file" ||
-                differ "${file##*/} doesn't have $option of $name"
-        done
-    done
+    grep -qx -- "\.B $name" man/pzic.1 || [[ $name = @(pzic|version) ]] || differ "man/pzic.1 doesn't tell of the command $name"
 done
 if has 'how man shows the manual page' man; then
     man --warnings -l man/pzic.1 >"$work/page" 2>"$work/warnings" ||
@@ -308,10 +307,10 @@ check_links() {
     done
 }
 
-docs/make-index.py >"$work/index" || differ 'docs/make-index.py can not print the index'
+tools/make-index.py >"$work/index" || differ 'tools/make-index.py can not print the index'
 for page in README.md docs/*.md; do check_links "$page" "$(dirname "$page")"; done
 check_links "$work/index" docs
-docs/make-index.py --check >"$work/lacks" || differ "docs/make-index.py finds: $(cat "$work/lacks")"
+tools/make-index.py --check >"$work/lacks" || differ "tools/make-index.py finds: $(cat "$work/lacks")"
 # PROOF.md names only definitions that exist, and describes every crate.
 find crates/*/specs -name '*.antt' -exec cat {} + | grep -oE '[A-Z][A-Za-z]+' | sort -u >"$work/definitions"
 verbs='Is|Are|Writes|Converts|Answers|Reads|Goes|Gives|Shows|Means|Spells|Counts|Takes|Yields|Columns|Reports'

@@ -2,11 +2,14 @@
 # Checks that what is proved once is proved again only where its contents changed, and that a run that is ended leaves nothing.
 # Scripts that note each call stand for `rt` and its kit, and a few small crates for those of the program. It looks too at what is
 # copied, at large pages of memory, and at what the launcher says.
+# Needs: ar
 set -euo pipefail
 cd "$(dirname "${BASH_SOURCE[0]}")/../.."
 . tests/common.sh
 work=${work:?}
-mkdir -p "$work"/{bin,tmp,kit/bin,house/docs}
+# Here nothing counts as built.
+unset BUILT
+mkdir -p "$work"/{bin,tmp,kit/bin,kit/c,house/docs}
 cp -r pzic tools "$work/house"
 cp -r docs/help "$work/house/docs"
 printf '%s 1\n' low zic_main >"$work/house/tools/first-build.txt"
@@ -47,8 +50,12 @@ END
 cat >kit/bin/rattle <<'END'
 #!/bin/sh
 while [ "$1" != -o ]; do shift; done
-cat src/lib.rt >"$2"
+cp src/lib.rt lib.o
+ar rcsD "$2" lib.o
+rm lib.o
 END
+echo 'of the heap' >heap.pic.o
+ar rcsD kit/c/liblibc_c.a heap.pic.o
 chmod +x bin/rt kit/bin/rattle
 echo 'Handles allowed: none.' >house/HANDLES
 printf '%s\n' '# Crates.' 'low:' 'zic_main may_wait=1: low csv' 'probe: low' 'calls staticlib: low' 'other:' >house/crates.txt
@@ -124,7 +131,8 @@ shows 'of zic_main'
 run 0 1 house/tools/prove zic_main probe calls
 tells 'tools/prove: 2 of 3 crates to prove, about 1 minute on .*'
 [ "$(house/crates/probe/out/probe)" = "$(cat house/crates/probe/src/main.rt)" ] || differ 'the program probe is another'
-cmp house/crates/calls/src/lib.rt house/crates/calls/out/libcalls.a || differ 'the static library is another'
+ar p house/crates/calls/out/libcalls.a lib.o heap.pic.o | cmp - <(cat house/crates/calls/src/lib.rt heap.pic.o) ||
+    differ 'the static library is another'
 run 0 0 house/tools/prove calls probe
 run 126 0 house/tools/prove zic_main nothing
 

@@ -7,7 +7,7 @@ set -euo pipefail
 cd "$(dirname "${BASH_SOURCE[0]}")/../.."
 . tests/common.sh
 build zic_main
-columns=$PWD/tests/outside/records.py
+columns=$PWD/tests/outside/columns/records.py
 enter
 utc=Etc/UTC,0,1970-01-01T00:00:00,+00:00:00,0,UTC
 echo 'Zone Etc/UTC 0 - UTC' >plain

@@ -42,7 +42,7 @@ with the definition that states it. [PROOF.md](PROOF.md) explains the promises, 
   files of rows ([TESTING.md](TESTING.md#tables-of-calls)).
 - A function with neither an edit nor a test stands in [index-exceptions.txt](index-exceptions.txt) with the reason.
 
-`docs/make-index.py` prints this page. It looks names up in the sources."""
+`tools/make-index.py` prints this page. It looks names up in the sources."""
 
 # The rows, of which each file has calls of a module of crates/probe/src/rows.
 ROWS = CRATES.parent / 'tests/worked'

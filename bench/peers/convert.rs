@@ -10,53 +10,29 @@
 //!
 //! usage: convert TREE WORKERS
 
-#[path = "convert/batch.rs"]
 mod batch;
-#[path = "convert/calendar.rs"]
 mod calendar;
-#[path = "convert/converter.rs"]
 mod converter;
-#[path = "convert/crew.rs"]
 mod crew;
-#[path = "convert/cutter.rs"]
 mod cutter;
-#[path = "convert/footer.rs"]
 mod footer;
-#[path = "convert/footer_text.rs"]
 mod footer_text;
-#[path = "convert/footer_years.rs"]
 mod footer_years;
-#[path = "convert/general.rs"]
 mod general;
-#[path = "convert/input.rs"]
 mod input;
-#[path = "convert/instants.rs"]
 mod instants;
-#[path = "convert/line_ends.rs"]
 mod line_ends;
-#[path = "convert/local_time_types.rs"]
 mod local_time_types;
-#[path = "convert/lookup.rs"]
 mod lookup;
-#[path = "convert/names.rs"]
 mod names;
-#[path = "convert/plain.rs"]
 mod plain;
-#[path = "convert/quick_hash.rs"]
 mod quick_hash;
-#[path = "convert/rows.rs"]
 mod rows;
-#[path = "convert/slots.rs"]
 mod slots;
-#[path = "convert/tables.rs"]
 mod tables;
-#[path = "convert/text.rs"]
 mod text;
-#[path = "convert/tree.rs"]
 mod tree;
-#[path = "convert/vectors.rs"]
 mod vectors;
-#[path = "convert/zone.rs"]
 mod zone;
 
 use crew::Crew;

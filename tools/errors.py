@@ -15,15 +15,15 @@ import sys
 from dataclasses import dataclass, field
 from pathlib import Path
 
-HERE = Path(__file__).resolve().parent
-SOURCES = HERE.parent / 'crates/zic_explain/src'
+ROOT = Path(__file__).resolve().parent.parent
+DOCS, SOURCES = ROOT / 'docs', ROOT / 'crates/zic_explain/src'
 # The number of entries in one constant: the prover writes it out whole.
 GROUP = 6
 WORDS = ('says', 'expected', 'wrong', 'prints', 'right', 'meant', 'setup')
 
 INTRODUCTION = (
     'Every error by name: what it means, what is expected, and the cause. `pzic explain NAME` also prints an example that '
-    'causes it and a correct one, and `pzic explain` a list. `docs/errors.py` makes this page of [errors.txt](errors.txt), '
+    'causes it and a correct one, and `pzic explain` a list. `tools/errors.py` makes this page of [errors.txt](errors.txt), '
     'and the tests run the examples.'
 )
 
@@ -47,7 +47,7 @@ class Entry:
 def entries():
     """Returns the parts and errors of errors.txt in their order."""
     found, word = [], None
-    for number, line in enumerate((HERE / 'errors.txt').read_text().splitlines(), 1):
+    for number, line in enumerate((DOCS / 'errors.txt').read_text().splitlines(), 1):
         heading = re.fullmatch('(##?) (.+)', line)
         if line.startswith(';') or not line:
             continue
@@ -165,7 +165,7 @@ def main():
     if sys.argv[1:]:
         sys.stdout.write(made[sys.argv[1]])
         return
-    (HERE / 'ERRORS.md').write_text(made['page'])
+    (DOCS / 'ERRORS.md').write_text(made['page'])
     (SOURCES / 'source_texts.rt').write_text(made['source'])
     (SOURCES / 'other_texts.rt').write_text(made['other'])
 
