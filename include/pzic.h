@@ -458,12 +458,12 @@ typedef struct pzic_row_fault {
  * instant, local time, the UT offset, the daylight flag and the abbreviation. Instants of rows are from
  * -62,135,510,400 to 253,402,214,399, the years 1 to 9999 but for their first and last day. A
  * column may be given in pieces that end with a line end outside quotes; each is a column of its own.
- * It may have 100,000,000 rows. What `rows` held before is freed first.
+ * It may have 100,000,000 rows and 4,294,967,296 bytes. What `rows` held before is freed first.
  *
  * PZIC_OK         `rows` holds the rows
  * PZIC_BAD_ROW    *fault is the first row that has a fault, and `rows` holds the rows before it
  * PZIC_NO_HANDLE  `files` holds no files; `rows` holds nothing
- * PZIC_NO_MEMORY  `rows` holds nothing
+ * PZIC_NO_MEMORY  memory is refused, or the column has more bytes; `rows` holds nothing
  *
  * *fault is written by PZIC_BAD_ROW alone.
  */
@@ -500,7 +500,16 @@ enum { PZIC_FAULT_ENDS = 0, PZIC_FAULT_GOES_ON = 1, PZIC_FAULT_REJECTS = 2 };
 /* A row has local time and the UT offset in two fields, or in one, as 2007-03-11T03:00:00-04:00. */
 enum { PZIC_STYLE_FIELDS = 0, PZIC_STYLE_ISO = 1 };
 
-/* How a column is read, and what its rows are, as the options of `pzic convert` say. */
+/*
+ * How a column is read, and what its rows are, as options of `pzic convert` say: --zone-field and
+ * --time-field, by numbers, --from with --ambiguous, --unit, --delimiter, --records, --header and
+ * --skip-header, --append, --keep-going, --rejects, --style, --quotes and --max-record.
+ *
+ * These options have no counterpart here. --against: convert by the files of both releases and compare
+ * the rows. Fields by their names in a header. --faults-with: a fault has its row and its kind, and not
+ * the line or the value. --max-rows, --max-bytes and --max-faults. --explain and --show-release. A call
+ * works on the calling thread, without --workers and --progress.
+ */
 typedef struct pzic_layout {
     /* The numbers, from 0, of the fields of the zone's name and of the time. */
     size_t zone;

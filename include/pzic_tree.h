@@ -1,13 +1,12 @@
 /*
  * pzic_tree.h: zones by name from a folder of TZif files, such as /usr/share/zoneinfo. Needs POSIX.
+ * It compiles as standard C too, as by -std=c11.
  */
 #ifndef PZIC_TREE_H
 #define PZIC_TREE_H
 
 #include <errno.h>
 #include <fcntl.h>
-#include <limits.h>
-#include <stdio.h>
 #include <stdlib.h>
 #include <string.h>
 #include <sys/stat.h>
@@ -21,6 +20,13 @@ extern "C" {
 
 /* The most bytes of a file of a zone. */
 enum { PZIC_MOST_BYTES = 1048576 };
+
+/* The C library's headers leave out O_CLOEXEC where only standard C is asked for, as by -std=c11. */
+#ifdef O_CLOEXEC
+#define PZIC_CLOEXEC_ O_CLOEXEC
+#else
+#define PZIC_CLOEXEC_ __O_CLOEXEC
+#endif
 
 /*
  * Reads the zone of a name from a folder of TZif files. What the handle held before is freed first.
@@ -55,7 +61,7 @@ static inline int pzic_is_name_(const char *name) {
 static inline int32_t pzic_load_(const char *path, uint8_t *bytes, size_t *length) {
     struct stat about;
     ssize_t got = 1;
-    int why, file = open(path, O_RDONLY | O_NONBLOCK | O_NOCTTY | O_CLOEXEC);
+    int why, file = open(path, O_RDONLY | O_NONBLOCK | O_NOCTTY | PZIC_CLOEXEC_);
     *length = 0;
     if (file < 0)
         return errno == ENOENT || errno == ENOTDIR || errno == ENAMETOOLONG || errno == ELOOP ||
@@ -82,17 +88,20 @@ static inline int32_t pzic_load_(const char *path, uint8_t *bytes, size_t *lengt
 
 static inline int32_t pzic_tree_zone(const char *folder, const char *name, pzic_handle *zone,
                                      uint32_t *reason) {
-    char path[PATH_MAX];
+    size_t folder_length = strlen(folder), name_length = strlen(name), length;
     uint8_t *bytes;
-    size_t length;
+    char *path;
     int32_t status;
-    int count, why;
+    int why;
     pzic_free(zone);
     if (!pzic_is_name_(name)) return PZIC_NO_SUCH;
-    count = snprintf(path, sizeof path, "%s/%s", folder, name);
-    if (count < 0 || (size_t)count >= sizeof path) return PZIC_NO_SUCH;
-    bytes = (uint8_t *)malloc(PZIC_MOST_BYTES + 1);
+    /* The bytes of the file, and after them its path. */
+    bytes = (uint8_t *)malloc(PZIC_MOST_BYTES + 1 + folder_length + 1 + name_length + 1);
     if (bytes == NULL) return PZIC_NO_MEMORY;
+    path = (char *)bytes + PZIC_MOST_BYTES + 1;
+    memcpy(path, folder, folder_length);
+    path[folder_length] = '/';
+    memcpy(path + folder_length + 1, name, name_length + 1);
     status = pzic_load_(path, bytes, &length);
     if (status == PZIC_OK) status = pzic_zone_read(bytes, length, zone, reason);
     why = errno;

@@ -11,10 +11,8 @@ columns = tree.convert_columns(names, instants)
 print(columns.offsets, columns.abbreviations)
 print(columns.local)
 
-print(instants.dt.tz_localize("UTC").dt.tz_convert(tree["Asia/Tokyo"].to_zoneinfo())[0])
-
 """Prints:
 [    0 32400  3600] ['GMT' 'JST' 'IST']
-['2024-01-01T00:00:00' '2024-07-03T09:00:00' '2024-07-03T01:00:00']
-2024-01-01 09:00:00+09:00
+['2024-01-01T00:00:00.000000000' '2024-07-03T09:00:00.000000000'
+ '2024-07-03T01:00:00.000000000']
 """

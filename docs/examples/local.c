@@ -1,4 +1,5 @@
 #include <pzic_tree.h>
+#include <stdio.h>
 
 int main(int count, char **words) {
     pzic_handle zone = PZIC_HANDLE_INIT;

@@ -14,6 +14,8 @@ The library is looked for under the path that the variable ``PZIC_LIBRARY`` name
 package, and then where the system has its libraries.
 """
 
+from typing import TYPE_CHECKING
+
 from pzic._array import (
     DAYLIGHT,
     FOLD,
@@ -21,15 +23,29 @@ from pzic._array import (
     OPEN,
     OUT_OF_RANGE,
     UNSPECIFIED,
-    Columns,
 )
+from pzic._columns import NO_ZONE, Columns
 from pzic._diff import DiffOptions
 from pzic._errors import BadFile, BadName, BadRow, BadSource, NoInstant, NoSuchZone
 from pzic._library import MAX_INSTANT, MIN_INSTANT
+from pzic._plot import plot, plot_diff
 from pzic._rows import Layout, RowFault, Rows
 from pzic._timezone import TimeZone
 from pzic._tree import Compiled, Files, Tree
 from pzic._zone import Gap, Instants, Span, State, Zone
+
+if TYPE_CHECKING:
+    from pzic._zoneinfo import ZoneInfo
+else:
+
+    def __getattr__(name: str) -> object:
+        """Load Python's zoneinfo when it is wanted."""
+        if name == "ZoneInfo":
+            from pzic._zoneinfo import ZoneInfo
+
+            return ZoneInfo
+        raise AttributeError(f"module {__name__!r} has no attribute {name!r}")
+
 
 __version__ = "0.1.0"
 
@@ -39,6 +55,7 @@ __all__ = [
     "GAP",
     "MAX_INSTANT",
     "MIN_INSTANT",
+    "NO_ZONE",
     "OPEN",
     "OUT_OF_RANGE",
     "UNSPECIFIED",
@@ -62,4 +79,7 @@ __all__ = [
     "TimeZone",
     "Tree",
     "Zone",
+    "ZoneInfo",
+    "plot",
+    "plot_diff",
 ]

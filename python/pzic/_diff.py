@@ -4,12 +4,13 @@ from __future__ import annotations
 
 import time
 from operator import index
-from typing import NamedTuple, Optional, Tuple
+from typing import NamedTuple, Optional, Sequence
 
 from pzic import _library as c
 from pzic._handle import Owned
+from pzic._words import Part
 
-_PARTS = ("daylight", "abbreviation")
+_PARTS: Sequence[Part] = ("daylight", "abbreviation")
 #: The first instant that is looked at, by whether it is for a summary, and the last.
 _FIRST = {False: -2208988800, True: -62135510400}
 _LAST = 16725225600
@@ -26,7 +27,7 @@ class DiffOptions(NamedTuple):
 
     first: Optional[int] = None
     last: Optional[int] = None
-    ignore: Tuple[str, ...] = ()
+    ignore: Sequence[Part] = ()
     summary: bool = False
     now: Optional[int] = None
 

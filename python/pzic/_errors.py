@@ -2,6 +2,13 @@
 
 from __future__ import annotations
 
+from typing import Optional
+
+
+def _at(row: Optional[int]) -> str:
+    """Return the words before an error of a row."""
+    return "" if row is None else f"row {row}: "
+
 
 class BadFile(ValueError):
     """Bytes that are no TZif file. ``reason`` names the first check that they fail, and ``footer``
@@ -19,16 +26,18 @@ class BadFile(ValueError):
 
 
 class NoSuchZone(KeyError):
-    """No file has the name ``key``."""
+    """No file has the name ``key``. Of a column ``row`` is the first row with the name, counted from 0, and
+    else ``None``."""
 
     __module__ = "pzic"
 
-    def __init__(self, key: object) -> None:
-        super().__init__(key)
+    def __init__(self, key: object, row: Optional[int] = None) -> None:
+        super().__init__(key, row)
         self.key = key
+        self.row = row
 
     def __str__(self) -> str:
-        return f"no zone has the name {self.key!r}"
+        return _at(self.row) + f"no zone has the name {self.key!r}"
 
 
 class BadName(NoSuchZone, ValueError):
@@ -36,21 +45,25 @@ class BadName(NoSuchZone, ValueError):
 
     __module__ = "pzic"
 
+    def __str__(self) -> str:
+        return _at(self.row) + f"no zone can have the name {self.key!r}"
+
 
 class NoInstant(ValueError):
     """No instant is meant by the local time ``local``, in seconds from 1970-01-01T00:00:00 on the zone's
     clocks. ``reason`` is ``"Gap"`` or ``"Fold"``, where that was refused, or ``"Unspecified"`` where
-    the file leaves local time open."""
+    the file leaves local time open. Of an array ``row`` is the index of the local time, and else ``None``."""
 
     __module__ = "pzic"
 
-    def __init__(self, local: int, reason: str) -> None:
-        super().__init__(local, reason)
+    def __init__(self, local: int, reason: str, row: Optional[int] = None) -> None:
+        super().__init__(local, reason, row)
         self.local = local
         self.reason = reason
+        self.row = row
 
     def __str__(self) -> str:
-        return f"no instant of the local time {self.local}: {self.reason}"
+        return _at(self.row) + f"no instant of the local time {self.local}: {self.reason}"
 
 
 class BadSource(ValueError):

@@ -1,4 +1,5 @@
-/* The classes of _cache.py in C, with the same answers. What isn't cached yet, they look up in their subclasses. */
+/* The classes of _cache.py and the functions of _calls.py in C, with the same answers. What isn't cached yet, the classes look
+   up in their subclasses. The functions are given the addresses of the library's calls. */
 #define PY_SSIZE_T_CLEAN
 #include <Python.h>
 #include <datetime.h>
@@ -435,6 +436,180 @@ static PyType_Spec spans_spec = {
     .slots = spans_slots,
 };
 
+/* ------------------------------------------------------------------ calls of the library */
+
+/* The statuses of pzic.h that say nothing of what a call was given, or that there is nothing to tell. */
+enum { OK = 0, NO_MEMORY = 2, NO_HANDLE = 4, LENGTHS = 5, OUT_OF_RANGE = 9 };
+/* The most items that a call is given at once: an interrupt waits for one call. */
+enum { PIECE = 1 << 17 };
+/* The arrays that a call has. */
+enum { FEWEST = 3, MOST = 4 };
+
+typedef struct {
+    void *at;
+    uint32_t kind;
+} Handle;
+
+typedef struct {
+    int64_t first, last, change;
+    int32_t before, after;
+    uint32_t count;
+} LocalTime;
+
+typedef int32_t Change(Handle *, int64_t, int64_t *);
+typedef int32_t Instants(Handle *, int64_t, LocalTime *);
+typedef int32_t Meant(Handle *, uint32_t, const void *, size_t, void *, size_t, void *, size_t);
+typedef int32_t Three(Handle *, const void *, size_t, void *, size_t, void *, size_t);
+typedef int32_t Four(Handle *, const void *, size_t, const void *, size_t, void *, size_t, void *, size_t);
+
+/* A call of the library, and a handle of its own. */
+typedef struct {
+    void *address;
+    Handle handle;
+} Call;
+
+static PyObject *at_name, *kind_name;
+
+/* Reads the address of a call, and the object that owns a handle. Returns 0, or -1 with an error. */
+static int read_call(PyObject *address, PyObject *owned, Call *call) {
+    PyObject *at = PyObject_GetAttr(owned, at_name), *kind = at ? PyObject_GetAttr(owned, kind_name) : NULL;
+    if (kind) {
+        call->address = PyLong_AsVoidPtr(address);
+        call->handle.at = PyLong_AsVoidPtr(at);
+        call->handle.kind = (uint32_t)PyLong_AsUnsignedLong(kind);
+    }
+    Py_XDECREF(at);
+    Py_XDECREF(kind);
+    return PyErr_Occurred() ? -1 : 0;
+}
+
+/* Returns 0, or -1 with an error, for a status of a call. */
+static int look(int32_t status) {
+    if (status == NO_MEMORY)
+        PyErr_NoMemory();
+    else if (status == NO_HANDLE || status == LENGTHS)
+        PyErr_Format(PyExc_RuntimeError, "libpzic answers %d", (int)status);
+    return PyErr_Occurred() ? -1 : 0;
+}
+
+/* Reads the words of a call and a number. Returns 0, or -1 with an error. */
+static int read_number(PyObject *const *words, Py_ssize_t count, Call *call, long long *number) {
+    if (count < 3) {
+        PyErr_SetString(PyExc_TypeError, "an address, a handle and a number are wanted");
+        return -1;
+    }
+    *number = PyLong_AsLongLong(words[count - 1]);
+    return PyErr_Occurred() ? -1 : read_call(words[0], words[1], call);
+}
+
+static PyObject *fast_change(PyObject *module, PyObject *const *words, Py_ssize_t count) {
+    Call call;
+    long long instant;
+    int64_t change;
+    (void)module;
+    if (read_number(words, count, &call, &instant) < 0)
+        return NULL;
+    int32_t status = ((Change *)call.address)(&call.handle, instant, &change);
+    if (look(status) < 0)
+        return NULL;
+    if (status != OK)
+        Py_RETURN_NONE;
+    return PyLong_FromLongLong(change);
+}
+
+static PyObject *fast_local_time(PyObject *module, PyObject *const *words, Py_ssize_t count) {
+    Call call;
+    long long local;
+    LocalTime found;
+    (void)module;
+    if (read_number(words, count, &call, &local) < 0)
+        return NULL;
+    int32_t status = ((Instants *)call.address)(&call.handle, local, &found);
+    if (look(status) < 0)
+        return NULL;
+    if (status == OUT_OF_RANGE)
+        Py_RETURN_NONE;
+    return Py_BuildValue("(ILLLii)", (unsigned)found.count, (long long)found.first, (long long)found.last,
+                         (long long)found.change, (int)found.before, (int)found.after);
+}
+
+static PyObject *fast_meant(PyObject *module, PyObject *const *words, Py_ssize_t count) {
+    Call call;
+    long long number;
+    (void)module;
+    if (count != 4) {
+        PyErr_SetString(PyExc_TypeError, "meant() takes 4 arguments");
+        return NULL;
+    }
+    unsigned long choice = PyLong_AsUnsignedLong(words[2]);
+    if (read_number(words, count, &call, &number) < 0)
+        return NULL;
+    int64_t local = number, instant = 0;
+    uint8_t told = 0;
+    if (look(((Meant *)call.address)(&call.handle, (uint32_t)choice, &local, 1, &instant, 1, &told, 1)) < 0)
+        return NULL;
+    return Py_BuildValue("(Li)", (long long)instant, (int)told);
+}
+
+/* Asks for some items from one on, of arrays that have items of these sizes. Returns the status. */
+static int32_t ask_piece(Call *call, long long choice, char *const *at, int arrays, size_t n) {
+    if (choice >= 0)
+        return ((Meant *)call->address)(&call->handle, (uint32_t)choice, at[0], n, at[1], n, at[2], n);
+    if (arrays == FEWEST)
+        return ((Three *)call->address)(&call->handle, at[0], n, at[1], n, at[2], n);
+    return ((Four *)call->address)(&call->handle, at[0], n, at[1], n, at[2], n, at[3], n);
+}
+
+/* Has a call read and write arrays in pieces. Returns 0, or -1 with an error. */
+static int ask_pieces(Call *call, long long choice, const Py_buffer *buffers, int arrays, size_t count) {
+    for (size_t start = 0; start < count; start += PIECE) {
+        size_t n = count - start < PIECE ? count - start : PIECE;
+        char *at[MOST];
+        int32_t status;
+        for (int i = 0; i < arrays; i++)
+            at[i] = (char *)buffers[i].buf + start * ((size_t)buffers[i].len / count);
+        Py_BEGIN_ALLOW_THREADS
+        status = ask_piece(call, choice, at, arrays, n);
+        Py_END_ALLOW_THREADS
+        if (look(status) < 0 || PyErr_CheckSignals() < 0)
+            return -1;
+    }
+    return 0;
+}
+
+static PyObject *fast_ask(PyObject *module, PyObject *const *words, Py_ssize_t number) {
+    Call call;
+    Py_buffer buffers[MOST];
+    int arrays = (int)number - 4, held = 0, failed = 1;
+    (void)module;
+    if (arrays != FEWEST && arrays != MOST) {
+        PyErr_SetString(PyExc_TypeError, "ask() takes 7 or 8 arguments");
+        return NULL;
+    }
+    long long choice = PyLong_AsLongLong(words[2]), count = PyLong_AsLongLong(words[3]);
+    if (PyErr_Occurred() || read_call(words[0], words[1], &call) < 0)
+        return NULL;
+    while (held < arrays && PyObject_GetBuffer(words[4 + held], &buffers[held], PyBUF_SIMPLE) == 0)
+        held++;
+    if (held == arrays)
+        failed = ask_pieces(&call, choice, buffers, arrays, (size_t)count);
+    while (held > 0)
+        PyBuffer_Release(&buffers[--held]);
+    if (failed)
+        return NULL;
+    Py_RETURN_NONE;
+}
+
+#define BY_PLACE(call) (PyCFunction)(void (*)(void))(call), METH_FASTCALL
+
+static PyMethodDef module_functions[] = {
+    {"change", BY_PLACE(fast_change), PyDoc_STR("Return the change that a call tells, or None.")},
+    {"local_time", BY_PLACE(fast_local_time), PyDoc_STR("Return what a call tells of a local time, or None.")},
+    {"meant", BY_PLACE(fast_meant), PyDoc_STR("Return the instant of a local time, and its status.")},
+    {"ask", BY_PLACE(fast_ask), PyDoc_STR("Have a call read and write arrays.")},
+    {NULL, NULL, 0, NULL},
+};
+
 /* ------------------------------------------------------------------ the module */
 
 /* Adds a class to the module. Returns 0, or -1 with an error. */
@@ -454,6 +629,10 @@ static int make_module(PyObject *module) {
         return -1;
     }
     datetime_type = PyDateTimeAPI->DateTimeType;
+    at_name = at_name ? at_name : PyUnicode_InternFromString("_at");
+    kind_name = kind_name ? kind_name : PyUnicode_InternFromString("_kind");
+    if (!at_name || !kind_name)
+        return -1;
     if (add_class(module, "Years", &years_spec, PyDateTimeAPI->TZInfoType) < 0)
         return -1;
     return add_class(module, "Spans", &spans_spec, &PyBaseObject_Type);
@@ -467,7 +646,8 @@ static PyModuleDef_Slot module_slots[] = {
 static struct PyModuleDef module = {
     PyModuleDef_HEAD_INIT,
     .m_name = "pzic._fast",
-    .m_doc = "The classes of _cache.py in C.",
+    .m_doc = "The classes of _cache.py and the functions of _calls.py in C.",
+    .m_methods = module_functions,
     .m_slots = module_slots,
 };
 

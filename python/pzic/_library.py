@@ -14,8 +14,8 @@ OK, UNSPECIFIED, NO_MEMORY, BAD_FILE, NO_HANDLE, LENGTHS, BAD_SOURCE, NO_SUCH, B
 OUT_OF_RANGE, GAP, FOLD = range(9, 12)
 BAD_NAME, UNFIT, TAKEN = range(13, 16)
 
-#: The numbers of what to take for a local time in a gap or in a fold.
-CHOICES = {"reject": 0, "earlier": 1, "later": 2, "compatible": 3}
+#: Why no instant is meant by a local time, by the status.
+REASONS = {GAP: "Gap", FOLD: "Fold", UNSPECIFIED: "Unspecified"}
 
 #: The shared library whose calls are these.
 _NAME = "libpzic.so.0"

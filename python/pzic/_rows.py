@@ -3,19 +3,30 @@
 from __future__ import annotations
 
 import ctypes
-from typing import List, NamedTuple, Optional, Tuple
+import re
+from typing import TYPE_CHECKING, Any, Callable, Iterator, List, NamedTuple, Optional, Tuple, TypeVar
 
 from pzic import _library as c
 from pzic._errors import BadRow
 from pzic._handle import Owned, bytes_of
+from pzic._progress import Progress, teller
+from pzic._words import AMBIGUOUS, QUOTES, RECORDS, STYLES, UNITS, Ambiguous, Quotes, Records, Source, Style, Unit, number_of
+
+if TYPE_CHECKING:
+    from typing_extensions import Concatenate, ParamSpec
+
+    _Words = ParamSpec("_Words")
+
+_Answer = TypeVar("_Answer")
 
 _SOURCES = {"count": 0, "rfc3339": 1}
-_UNITS = {"s": 0, "ms": 1, "us": 2, "ns": 3}
-_RECORDS = {"csv": 0, "lines": 1}
-_STYLES = {"fields": 0, "iso": 1}
-_QUOTES = {"strict": 0, "lenient": 1}
 #: The most bytes of a column.
 MOST_BYTES = 1 << 32
+#: The least bytes of a piece of a longer column.
+PIECE = 1 << 20
+#: A byte order mark, and what may be before the first record.
+_MARK = b"\xef\xbb\xbf"
+_BEFORE_RECORDS = re.compile(b"(?:" + _MARK + rb")?[\r\n]*")
 
 
 class RowFault(NamedTuple):
@@ -46,19 +57,19 @@ class Layout(NamedTuple):
     zone: Optional[str] = None
     zone_field: Optional[int] = None
     time_field: Optional[int] = None
-    source: str = "count"
-    ambiguous: str = "reject"
-    unit: str = "s"
+    source: Source = "count"
+    ambiguous: Ambiguous = "reject"
+    unit: Unit = "s"
     delimiter: str = ","
-    records: str = "csv"
+    records: Records = "csv"
     fields: Optional[int] = None
     header: bool = False
     skip_header: bool = False
     append: bool = False
     keep_going: bool = False
-    style: str = "fields"
+    style: Style = "fields"
     max_record: Optional[int] = None
-    quotes: Optional[str] = None
+    quotes: Optional[Quotes] = None
 
     @property
     def time(self) -> int:
@@ -72,7 +83,9 @@ class Layout(NamedTuple):
         """The index of the field of the zone's name."""
         return 0 if self.zone_field is None else self.zone_field - 1
 
-    def _quotes(self) -> str:
+    @property
+    def own_quotes(self) -> Quotes:
+        """What stray double quotes are."""
         if self.quotes is not None:
             return self.quotes
         return "lenient" if self == Layout() else "strict"
@@ -95,7 +108,7 @@ class Layout(NamedTuple):
             raise ValueError("the most bytes of a record are 1 to 4,294,967,296")
         source = _SOURCES.get(self.source)
         if self.source == "local":
-            source = 2 + _number(self.ambiguous, _CHOICES, "ambiguous")
+            source = 2 + number_of(self.ambiguous, AMBIGUOUS, "ambiguous")
         if source is None:
             raise ValueError(f"no source {self.source!r}")
         return c.CLayout(
@@ -104,26 +117,46 @@ class Layout(NamedTuple):
             fields,
             int(more),
             source,
-            _number(self.unit, _UNITS, "unit"),
+            number_of(self.unit, UNITS, "unit"),
             ord(self.delimiter),
-            _number(self.records, _RECORDS, "records"),
+            number_of(self.records, RECORDS, "records"),
             1 if self.header else 2 if self.skip_header else 0,
             int(self.append),
             int(self.keep_going),
-            _number(self.style, _STYLES, "style"),
-            _number(self._quotes(), _QUOTES, "quotes"),
+            number_of(self.style, STYLES, "style"),
+            number_of(self.own_quotes, QUOTES, "quotes"),
             self.max_record or 0,
         )
 
 
-_CHOICES = c.CHOICES
+def words_of_rows(
+    zone: Optional[str] = None,
+    zone_field: Optional[int] = None,
+    time_field: Optional[int] = None,
+    source: Source = "count",
+    ambiguous: Ambiguous = "reject",
+    unit: Unit = "s",
+    delimiter: str = ",",
+    records: Records = "csv",
+    fields: Optional[int] = None,
+    header: bool = False,
+    skip_header: bool = False,
+    append: bool = False,
+    keep_going: bool = False,
+    style: Style = "fields",
+    max_record: Optional[int] = None,
+    quotes: Optional[Quotes] = None,
+    *,
+    progress: Progress = None,
+) -> None:
+    """Take the words of a method that makes rows: those of :class:`Layout`, and ``progress``."""
 
 
-def _number(word: str, numbers: "dict[str, int]", what: str) -> int:
-    number = numbers.get(word)
-    if number is None:
-        raise ValueError(f"no {what} {word!r}: it is one of {', '.join(numbers)}")
-    return number
+def takes_words_of(
+    words: Callable[_Words, None]
+) -> Callable[[Callable[..., _Answer]], Callable[Concatenate[Any, bytes, _Words], _Answer]]:
+    """Give a method of a column the types of these words."""
+    return lambda method: method
 
 
 class Rows(NamedTuple):
@@ -151,39 +184,93 @@ def _faults_of(rows: Owned) -> List[RowFault]:
     return [RowFault(found[i].row, fault_name(found[i].kind)) for i in range(count.value)]
 
 
-def rows_by(files: Owned, column: bytes, layout: Layout) -> Rows:
-    """Return the rows of a column by a layout, up to the first that ends the run."""
+def _cuts(column: bytes, layout: Layout) -> Iterator[Tuple[int, int]]:
+    """Yield the ends of pieces whose rows together are those of the column."""
+    start, end = 0, 0
+    # Only the start of a column may have a byte order mark, and the header is of the first piece.
+    least = _BEFORE_RECORDS.match(column).end()  # type: ignore[union-attr]
+    is_cut = layout.records == "lines" or b'"' not in column
+    while is_cut and len(column) - start > PIECE:
+        end = column.find(b"\n", max(start + PIECE, least)) + 1
+        while end and column[end : end + 1] == _MARK[:1]:
+            end = column.find(b"\n", end) + 1
+        if not end:
+            break
+        yield start, end
+        start = end
+    if start < len(column) or not column:
+        yield start, len(column)
+
+
+def _in_pieces(
+    make: Callable[[bytes, Layout], Rows], column: bytes, layout: Layout, progress: Progress
+) -> Rows:
+    """Return the rows of a column, which are made of one piece after another. An interrupt waits for a piece."""
     column = bytes_of(column)
     if len(column) > MOST_BYTES:
         raise ValueError("a column has at most 4,294,967,296 bytes")
+    tell = teller(progress)
+    texts: List[bytes] = []
+    faults: List[RowFault] = []
+    number, is_ended = 0, False
+    for start, end in _cuts(column, layout):
+        rows = make(column[start:end], layout)
+        texts.append(rows.text)
+        faults += [RowFault(fault.row + number, fault.kind) for fault in rows.faults]
+        number += rows.number
+        tell(end - start)
+        if rows.ended:
+            is_ended = True
+            break
+        layout = layout._replace(header=False, skip_header=False, quotes=layout.own_quotes)
+    return Rows(b"".join(texts), number, tuple(faults), is_ended)
+
+
+def rows_by(files: Owned, column: bytes, layout: Layout, progress: Progress = None) -> Rows:
+    """Return the rows of a column by a layout, up to the first that ends the run."""
+    return _in_pieces(lambda piece, own: _rows_of(files, piece, own), column, layout, progress)
+
+
+def _rows_of(files: Owned, column: bytes, layout: Layout) -> Rows:
     name = (layout.zone or "").encode("utf-8", "surrogateescape")
     handle = c.Handle()
     status = c.rows_by(files.lend(), layout.numbers(), name, len(name), column, len(column), handle)
     if status == c.NO_SUCH:
         raise ValueError(f"no layout: {layout}")
     rows = Owned(handle)
+    return Rows(_text_of(rows), _number_of_rows(rows), tuple(_faults_of(rows)), status == c.BAD_ROW)
+
+
+def _text_of(rows: Owned) -> bytes:
+    return c.text_of(c.rows_text, rows.lend())
+
+
+def _number_of_rows(rows: Owned) -> int:
     count = ctypes.c_uint64()
     c.require_ok(c.rows_len(rows.lend(), count))
-    text = c.text_of(c.rows_text, rows.lend())
-    return Rows(text, count.value, tuple(_faults_of(rows)), status == c.BAD_ROW)
+    return count.value
 
 
-def text_by(files: Owned, column: bytes, layout: Layout) -> bytes:
+def text_by(files: Owned, column: bytes, layout: Layout, progress: Progress = None) -> bytes:
     """Return the text of the rows of a column, or raise :class:`BadRow` at the row that ends the run."""
-    rows = rows_by(files, column, layout)
-    if rows.ended:
-        raise BadRow(rows.faults[-1].row, rows.faults[-1].kind, rows.text)
-    return rows.text
+    return _text_or_fault(rows_by(files, column, layout, progress))
 
 
-def text_of_column(files: Owned, column: bytes) -> bytes:
+def text_of_column(files: Owned, column: bytes, progress: Progress = None) -> bytes:
     """Return the rows of a column of zones' names and instants."""
-    column = bytes_of(column)
+    return _text_or_fault(_in_pieces(lambda piece, _: _plain_rows_of(files, piece), column, Layout(), progress))
+
+
+def _plain_rows_of(files: Owned, column: bytes) -> Rows:
     handle = c.Handle()
     fault = c.CRowFault()
     status = c.rows(files.lend(), column, len(column), handle, fault)
     rows = Owned(handle)
-    text = c.text_of(c.rows_text, rows.lend())
-    if status == c.BAD_ROW:
-        raise BadRow(fault.row, fault_name(fault.kind), text)
-    return text
+    faults = (RowFault(fault.row, fault_name(fault.kind)),) if status == c.BAD_ROW else ()
+    return Rows(_text_of(rows), _number_of_rows(rows), faults, status == c.BAD_ROW)
+
+
+def _text_or_fault(rows: Rows) -> bytes:
+    if rows.ended:
+        raise BadRow(rows.faults[-1].row, rows.faults[-1].kind, rows.text)
+    return rows.text

@@ -4,7 +4,7 @@ from __future__ import annotations
 
 import threading
 import weakref
-from datetime import datetime, timedelta, tzinfo
+from datetime import datetime, timedelta
 from typing import TYPE_CHECKING, Any, Dict, List, NamedTuple, Optional, Tuple, Type
 
 from pzic._cache import UT, Moved, Parts, Answer, Years
@@ -12,6 +12,7 @@ from pzic._library import MAX_INSTANT, MIN_INSTANT
 
 if TYPE_CHECKING:
     from pzic._zone import State, Zone
+    from pzic._zoneinfo import ZoneInfo
 
 _EPOCH = datetime(1970, 1, 1)
 _SECOND = timedelta(seconds=1)
@@ -72,6 +73,8 @@ class TimeZone(Years):
 
     Of each class, one object has the same bytes of a file and the same name, so dates and times of
     one zone are compared and subtracted as they are shown, also once they were copied or pickled.
+
+    pandas shows UT where it is given one, or raises: it knows :class:`ZoneInfo`.
     """
 
     __module__ = "pzic"
@@ -117,9 +120,8 @@ class TimeZone(Years):
     def __reduce__(self) -> Tuple[Any, ...]:
         return type(self), (self._zone, self._key)
 
-    def to_zoneinfo(self) -> tzinfo:
-        """Return a :class:`zoneinfo.ZoneInfo` of the same file and name, as
-        :meth:`Zone.to_zoneinfo` does."""
+    def to_zoneinfo(self) -> ZoneInfo:
+        """Return the :class:`ZoneInfo` of the same file and name, which pandas knows."""
         return self._zone.to_zoneinfo(self._key)
 
     def _parts(self, kind: int, year: int) -> Parts:

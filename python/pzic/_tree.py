@@ -10,16 +10,21 @@ import pickle
 import stat
 from functools import lru_cache
 from types import MappingProxyType
-from typing import Any, Dict, Iterable, Iterator, List, Mapping, Optional, Tuple, Type, TypeVar, Union
+from typing import TYPE_CHECKING, Any, Dict, Iterable, Iterator, List, Mapping, Optional, Sequence, Tuple, Type, TypeVar, Union
 
 from pzic import _library as c
-from pzic._array import NO_FILE, Columns, convert_columns
+from pzic._columns import NO_FILE, Columns, convert_columns
 from pzic._diff import DiffOptions, diff
 from pzic._errors import BadFile, BadName, BadSource, NoSuchZone
 from pzic._handle import Owned, bytes_of
-from pzic._rows import Layout, Rows, fault_name, rows_by, text_by, text_of_column
+from pzic._progress import Progress
+from pzic._rows import Layout, Rows, fault_name, rows_by, takes_words_of, text_by, text_of_column, words_of_rows
 from pzic._timezone import TimeZone
+from pzic._words import Errors, Part, word_of
 from pzic._zone import Zone, zone_named
+
+if TYPE_CHECKING:
+    from pzic._zoneinfo import ZoneInfo
 
 _Path = Union[str, "os.PathLike[str]"]
 _Self = TypeVar("_Self", bound="_InMemory")
@@ -36,6 +41,8 @@ class _Zones(Mapping[str, Zone]):
     def __init__(self) -> None:
         self._zones: Dict[str, Zone] = {}
         self._tzinfos: Dict[str, TimeZone] = {}
+        #: The numbers of the files that columns were converted by.
+        self._known: Dict[Any, int] = {}
 
     def _make(self, name: str) -> Zone:
         """Return the zone of a name, or raise :class:`NoSuchZone`."""
@@ -56,29 +63,74 @@ class _Zones(Mapping[str, Zone]):
         made = self._tzinfos.get(name)
         return self._tzinfos.setdefault(name, self[name].tzinfo()) if made is None else made
 
-    def convert_columns(self, names: Any, instants: Any) -> Columns:
+    def aliases(self, name: str) -> List[str]:
+        """Return the other names whose files have the same bytes, in order. Of a folder all files are
+        read."""
+        data = self.data(name)
+        return sorted(other for other in self if other != name and self.data(other) == data)
+
+    def canonical(self, name: str) -> str:
+        """Return the name of the Zone line that a name is linked to by the Link lines of the source: of
+        these texts, or of the file ``tzdata.zi`` of the folder, as distributions have it.
+
+        Raises :class:`NoSuchZone`, and :class:`LookupError` where there is no source.
+        """
+        self[name]
+        links = self._links()
+        seen = {name}
+        while name in links and links[name] not in seen:
+            name = links[name]
+            seen.add(name)
+        return name
+
+    def _links(self) -> Dict[str, str]:
+        """Return the target of each link."""
+        raise LookupError("these files have no source, which would tell their links")
+
+    def zoneinfo(self, name: str) -> ZoneInfo:
+        """Return the zone of a name for pandas, each time the same object."""
+        return self[name].to_zoneinfo()
+
+    def convert_columns(
+        self, names: Any, instants: Any, errors: Errors = "raise", progress: Progress = None
+    ) -> Columns:
         """Return local time at many instants, with a zone for each.
 
-        ``names`` are a pandas Series of texts or categories, a numpy array or a list, and
-        ``instants`` seconds from 1970 (``int64``) or ``datetime64``, of numpy or pandas. Raises
-        :class:`NoSuchZone` for a name that no file has or that is missing. Needs numpy.
+        ``names`` are a list, or a column of numpy or pandas, of texts or categories, and ``instants`` are of
+        the types that :meth:`Zone.convert_array` takes. Two columns of pandas have the same index.
+        Raises :class:`NoSuchZone` for the first name that no file has or that is missing, with its
+        row, and :class:`OverflowError` where local time hasn't room; by the ``errors`` ``"coerce"`` such rows
+        have no local time, and ``statuses`` tell why. ``progress`` is told how many more rows are done, every
+        65,536 rows: a function, or what has a method ``update``, as ``tqdm``. Needs numpy.
         """
-        return convert_columns(self, self._numbers, names, instants)
+        return convert_columns(self, names, instants, word_of(errors, Errors, "errors"), progress)
 
-    def diff(self, new: Union[Tree, Files, Compiled], **options: Any) -> bytes:
+    def diff(
+        self,
+        new: Union[Tree, Files, Compiled],
+        first: Optional[int] = None,
+        last: Optional[int] = None,
+        ignore: Sequence[Part] = (),
+        summary: bool = False,
+        now: Optional[int] = None,
+    ) -> bytes:
         """Return when the zones of another tree answer otherwise than these: the lines that ``pzic diff``
-        writes, and no bytes where none does. :class:`DiffOptions` has the words that may be given. Of a
-        folder all files are read, once. Other threads of Python can run in the meantime.
+        writes, and no bytes where none does. :class:`DiffOptions` tells of the words. Of a folder all
+        files are read, once. Other threads of Python can run in the meantime.
         """
-        return diff(self._held(), new._held(), DiffOptions(**options))
+        return diff(self._held(), new._held(), DiffOptions(first, last, ignore, summary, now))
 
     def _held(self) -> Owned:
         """Return all files, as the library holds them."""
         raise NotImplementedError
 
-    def _numbers(self, names: List[str]) -> Tuple[Owned, List[int]]:
-        """Return files, and of each name the number of its file, or ``NO_FILE`` where the library has
-        none for its zone. Raises :class:`NoSuchZone`."""
+    def _require(self, name: Any) -> object:
+        """Raise :class:`NoSuchZone` if no zone has the name."""
+        return self[name]
+
+    def _numbers(self, names: List[str]) -> Tuple[Owned, Mapping[Any, int]]:
+        """Return files, and the number of each name that is known so far and of these, or ``NO_FILE`` where
+        the files haven't the zone's."""
         raise NotImplementedError
 
 
@@ -109,25 +161,32 @@ class _InMemory(_Zones):
             raise NoSuchZone(name)
         return number.value
 
-    def _numbers(self, names: List[str]) -> Tuple[Owned, List[int]]:
-        return self._owned, [self._number(name) for name in names]
+    def _require(self, name: Any) -> object:
+        return self._number(name)
 
-    def convert(self, column: bytes, **layout: Any) -> bytes:
+    def _numbers(self, names: List[str]) -> Tuple[Owned, Mapping[Any, int]]:
+        self._known.update((name, self._number(name)) for name in names)
+        return self._owned, self._known
+
+    @takes_words_of(words_of_rows)
+    def convert(self, column: bytes, *words: Any, progress: Progress = None, **layout: Any) -> bytes:
         """Return the rows of a column, as ``pzic convert`` writes them. Each record of the column is
         a zone's name, a comma and an instant, or what :class:`Layout` says by the words that are given.
-        Other threads of Python can run in the meantime.
+        Other threads of Python can run in the meantime. ``progress`` is told how many more bytes of the column are
+        done, after each MiB: a function, or what has a method ``update``, as ``tqdm``.
 
         Raises :class:`BadRow` at the first row that has a fault (with ``keep_going`` such rows are
         written, without local time), and :class:`MemoryError`.
         """
-        if not layout:
-            return text_of_column(self._owned, column)
-        return text_by(self._owned, column, Layout(**layout))
+        if not words and not layout:
+            return text_of_column(self._owned, column, progress)
+        return text_by(self._owned, column, Layout(*words, **layout), progress)
 
-    def rows(self, column: bytes, **layout: Any) -> Rows:
+    @takes_words_of(words_of_rows)
+    def rows(self, column: bytes, *words: Any, progress: Progress = None, **layout: Any) -> Rows:
         """Return the rows of a column as :meth:`convert`, and how many there are, with their
         faults."""
-        return rows_by(self._owned, column, Layout(**layout))
+        return rows_by(self._owned, column, Layout(*words, **layout), progress)
 
     def __iter__(self) -> Iterator[str]:
         for number in range(len(self)):
@@ -187,12 +246,19 @@ class Tree(_Zones):
     def __init__(self, folder: _Path) -> None:
         super().__init__()
         self._folder = os.path.abspath(os.fsdecode(folder))
+        if not stat.S_ISDIR(os.stat(self._folder).st_mode):
+            raise NotADirectoryError(errno.ENOTDIR, os.strerror(errno.ENOTDIR), self._folder)
         #: All files, once they were wanted.
         self._all: Optional[Files] = None
+        #: The files that columns were converted by, and their numbers.
+        self._of_columns: Tuple[Optional[Files], Dict[Any, int]] = None, {}
 
     @classmethod
     def open(cls, folder: _Path) -> Tree:
-        """Return the zones of a folder, such as the system's ``/usr/share/zoneinfo``."""
+        """Return the zones of a folder, such as the system's ``/usr/share/zoneinfo``.
+
+        Raises :class:`FileNotFoundError` or :class:`NotADirectoryError` where there is none.
+        """
         return cls(folder)
 
     @staticmethod
@@ -216,14 +282,24 @@ class Tree(_Zones):
     @property
     def version(self) -> Optional[str]:
         """The release of the tz database that the folder is of, as ``"2025b"``: the first line of its
-        file ``+VERSION``, or ``None`` where there is no such file or it names none."""
+        file ``+VERSION``, or without that file what follows ``# version`` in the first line of its
+        ``tzdata.zi``, as distributions have it. ``None`` where there is no such file or it names none."""
+        line = self._first_line("+VERSION")
+        if line is None:
+            line = self._first_line("tzdata.zi")
+            start = "# version "
+            line = line[len(start) :] if line and line.startswith(start) else None
+        return line if line and len(line) <= 64 and all("!" <= c <= "~" for c in line) else None
+
+    def _first_line(self, name: str) -> Optional[str]:
+        """Return the first line of a file of the folder, an empty one if it has no end, or ``None`` without
+        the file."""
         try:
-            with open(os.path.join(self._folder, "+VERSION"), encoding="ascii", errors="replace", newline="\n") as file:
-                line = file.readline(66)
+            with open(os.path.join(self._folder, name), encoding="ascii", errors="replace", newline="\n") as file:
+                line = file.readline(100)
         except FileNotFoundError:
             return None
-        name = line[:-1]
-        return name if line.endswith("\n") and 1 <= len(name) <= 64 and all("!" <= c <= "~" for c in name) else None
+        return line[:-1] if line.endswith("\n") else ""
 
     def __repr__(self) -> str:
         return f"pzic.Tree({self._folder!r})"
@@ -242,15 +318,17 @@ class Tree(_Zones):
         when their zones were made. Raises :class:`NoSuchZone` for a name that no file has."""
         return Files({name: self.data(name) for name in (self if names is None else names)})
 
-    def convert(self, column: bytes, **layout: Any) -> bytes:
+    @takes_words_of(words_of_rows)
+    def convert(self, column: bytes, *words: Any, progress: Progress = None, **layout: Any) -> bytes:
         """Return the rows of a column, as :meth:`Compiled.convert`: by all files of the folder, which are
         read once, or by that of the one zone that is named. ``pzic convert --tree`` writes the same, and also finds names through folders that are links."""
-        return self._files_for(layout.get("zone")).convert(column, **layout)
+        return self._files_for(Layout(*words, **layout).zone).convert(column, *words, progress=progress, **layout)
 
-    def rows(self, column: bytes, **layout: Any) -> Rows:
+    @takes_words_of(words_of_rows)
+    def rows(self, column: bytes, *words: Any, progress: Progress = None, **layout: Any) -> Rows:
         """Return the rows of a column as :meth:`convert`, and how many there are, with their
         faults."""
-        return self._files_for(layout.get("zone")).rows(column, **layout)
+        return self._files_for(Layout(*words, **layout).zone).rows(column, *words, progress=progress, **layout)
 
     def _files_for(self, zone: Optional[str]) -> Files:
         if zone is not None:
@@ -262,13 +340,24 @@ class Tree(_Zones):
     def _held(self) -> Owned:
         return self._files_for(None)._owned
 
+    def _links(self) -> Dict[str, str]:
+        try:
+            with open(os.path.join(self._folder, "tzdata.zi"), "rb") as file:
+                return _links_of([file.read()])
+        except FileNotFoundError:
+            return super()._links()
+
     def _make(self, name: str) -> Zone:
         data = self._read(name)
         return zone_named(data, name, (zone_of_folder, (self._folder, name, checksum(data))))
 
-    def _numbers(self, names: List[str]) -> Tuple[Owned, List[int]]:
-        files = self.files(names)
-        return files._owned, [NO_FILE if name in files.left_out else files._number(name) for name in names]
+    def _numbers(self, names: List[str]) -> Tuple[Owned, Mapping[Any, int]]:
+        files, known = self._of_columns
+        if names or files is None:
+            files = self.files([*known, *names])
+            known = {name: NO_FILE if name in files.left_out else files._number(name) for name in [*known, *names]}
+            self._of_columns = files, known
+        return files._owned, known
 
     def _read(self, name: str) -> bytes:
         parts = name.split("/")
@@ -310,6 +399,13 @@ class Tree(_Zones):
         return True
 
 
+def _links_of(texts: Iterable[bytes]) -> Dict[str, str]:
+    """Return the target of each Link line of a source."""
+    lines = (line.partition("#")[0].split() for text in texts for line in text.decode("utf-8", "replace").split("\n"))
+    links = (words for words in lines if len(words) == 3 and "link".startswith(words[0].lower()))
+    return {name: target for _, target, name in links}
+
+
 def checksum(*parts: bytes) -> str:
     """Return a checksum of byte strings, each with its length."""
     made = hashlib.sha256()
@@ -334,12 +430,12 @@ def zone_of_folder(folder: str, name: str, wanted: Optional[str] = None) -> Zone
 def _tree_of_pickle(kind: Type[Tree], folder: str, read: Tuple[str, ...], whole: bool, wanted: str) -> Tree:
     """Return a tree of a pickle: its class, its folder, the names whose files were read, whether all files were
     read at once, and the checksum of these. Raises :class:`pickle.UnpicklingError` where the folder has other files."""
-    tree = kind(folder)
     try:
+        tree = kind(folder)
         if whole:
             tree._files_for(None)
         same = tree._checksum(read) == wanted
-    except (KeyError, BadFile):
+    except (KeyError, BadFile, FileNotFoundError, NotADirectoryError):
         same = False
     if not same:
         raise pickle.UnpicklingError(f"{folder} hasn't the files that were pickled")
@@ -360,6 +456,9 @@ class Compiled(_InMemory):
     def texts(self) -> Tuple[bytes, ...]:
         """The texts of the source."""
         return self._texts
+
+    def _links(self) -> Dict[str, str]:
+        return _links_of(self._texts)
 
     def __reduce__(self) -> Tuple[Type[Compiled], Tuple[bytes, ...]]:
         return type(self), self._texts

@@ -4,21 +4,24 @@ from __future__ import annotations
 
 import ctypes
 import datetime
-import io
-import sys
 from operator import index
-from typing import Any, Callable, List, NamedTuple, Optional, Tuple, Union
+from typing import TYPE_CHECKING, Any, Callable, List, NamedTuple, Optional, Tuple, Union
 
+from pzic import _calls as calls
 from pzic import _library as c
 from pzic._array import convert_array, instant_array
 from pzic._errors import BadFile, NoInstant
 from pzic._handle import Owned, bytes_of
+from pzic._ics import SINCE, vtimezone
 from pzic._cache import Spans
 from pzic._timezone import TimeZone
+from pzic._words import AMBIGUOUS, Ambiguous, Errors, number_of, word_of
+
+if TYPE_CHECKING:
+    from pzic._zoneinfo import ZoneInfo
 
 #: The most changes that are requested at once.
 _MOST_CHANGES = 256
-
 
 _EPOCH = datetime.datetime(1970, 1, 1)
 _SECOND = datetime.timedelta(seconds=1)
@@ -103,6 +106,12 @@ class Zone(Spans):
         return self._data
 
     @property
+    def posix(self) -> str:
+        """The ``TZ`` string at the end of the file, which tells of the time after its last transition, as
+        ``"GMT0IST,M3.5.0/1,M10.5.0"``. It is empty where the file leaves that time open."""
+        return self._data.rsplit(b"\n", 2)[1].decode("ascii")
+
+    @property
     def key(self) -> Optional[str]:
         """The name under which a tree has the zone."""
         return self._key
@@ -144,17 +153,11 @@ class Zone(Spans):
         A change is an instant at which the offset, the flag or the abbreviation isn't that of a second
         before, or local time begins or ceases to be left open.
         """
-        return self._change(c.zone_next_change, instant)
+        return calls.next_change(self._owned, _instant(instant))
 
     def previous_change(self, instant: int) -> Optional[int]:
         """Return the last change of local time before an instant, or ``None`` where there is none."""
-        return self._change(c.zone_previous_change, instant)
-
-    def _change(self, call: Any, instant: int) -> Optional[int]:
-        """Return the change that a call tells."""
-        change = ctypes.c_int64()
-        status = call(self._owned.lend(), _instant(instant), change)
-        return change.value if status == c.OK else None
+        return calls.previous_change(self._owned, _instant(instant))
 
     def changes(self, start: int, stop: int) -> List[int]:
         """Return the changes of local time from ``start`` to just before ``stop``, in order."""
@@ -170,70 +173,101 @@ class Zone(Spans):
             first = made[-1] if made else first
         return made
 
+    def vtimezone(self, since: int = SINCE, until: Optional[int] = None, key: Optional[str] = None) -> str:
+        """Return the zone as a component ``VTIMEZONE`` of iCalendar (RFC 5545), with ``\\r\\n`` at the ends of lines.
+
+        It has the observances from the instant ``since``, by default the start of 1601, up to just before
+        ``until``, each by its date. By ``None`` they go on for ever: after the last transition of the file by
+        an RRULE for each rule of its TZ string, whose days were compared with all changes of 400 years.
+        ``key`` is the TZID, by default the zone's name. Raises :class:`ValueError` where the file leaves local
+        time open, or no RRULE says what the TZ string does.
+        """
+        name = key or self._key
+        if name is None:
+            raise ValueError("a VTIMEZONE needs a name")
+        return vtimezone(self, _instant(since), None if until is None else _instant(until), name)
+
     def instants(self, local: Local) -> Instants:
         """Return the instants at which the zone's clocks show a local time, or the gap that it is in.
 
         ``local`` is a naive :class:`~datetime.datetime`, or seconds from 1970-01-01T00:00:00 on these
         clocks. Raises :class:`OverflowError` within 25:59:59 of an end of 64 bits.
         """
-        second = _local_second(local)
-        found = c.CLocalTime()
-        if c.zone_instants(self._owned.lend(), second, found) == c.OUT_OF_RANGE:
+        found = calls.local_time(self._owned, _local_second(local))
+        if found is None:
             raise OverflowError("an instant has 64 bits with a sign")
-        if found.count:
-            return Instants(found.count, found.first, found.last, None)
+        count, first, last, change, before, after = found
+        if count:
+            return Instants(count, first, last, None)
         # No change of the offset is from 0 to 0.
-        gap = Gap(found.change, found.before, found.after)
-        return Instants(0, None, None, gap if found.before != found.after else None)
+        return Instants(0, None, None, Gap(change, before, after) if before != after else None)
 
-    def instant(self, local: Local, ambiguous: str = "compatible") -> int:
+    def instant(self, local: Local, ambiguous: Ambiguous = "reject") -> int:
         """Return the instant that is meant by a local time.
 
         ``ambiguous`` says what to take in a gap or in a fold, as ``disambiguation`` of ECMAScript's
-        Temporal does. ``"earlier"`` and ``"later"`` are the first and the last instant of a fold; in a gap
-        the local time is read by the UT offset after it, and by the one before it.
-        ``"compatible"`` is the first of a fold, and ``"later"`` in a gap. ``"reject"`` raises
-        :class:`NoInstant` for both. So does each of them where the file leaves local time open.
+        Temporal does. ``"reject"`` raises :class:`NoInstant` for both. ``"earlier"`` and ``"later"`` are the
+        first and the last instant of a fold; in a gap the local time is read by the UT offset after
+        it, and by the one before it. ``"compatible"`` is the first of a fold, and ``"later"`` in a
+        gap. Where the file leaves local time open, each of them raises :class:`NoInstant`.
+
+        A datetime with ``fold=1`` is the last instant of a fold by ``"reject"`` and ``"compatible"``, and in a
+        gap it is read by the UT offset after it by ``"compatible"``: PEP 495.
         """
-        choice = _choice(ambiguous)
+        choice = number_of(ambiguous, AMBIGUOUS, "ambiguous")
         second = _local_second(local)
-        found = self.instants(second)
-        if found.number > 1 and choice == "reject":
-            raise NoInstant(second, "Fold")
-        if found.gap is not None:
-            if choice == "reject":
-                raise NoInstant(second, "Gap")
-            return second - (found.gap.after if choice == "earlier" else found.gap.before)
-        instant = found.last if choice == "later" else found.first
-        if instant is None:
-            raise NoInstant(second, "Unspecified")
+        folded = isinstance(local, datetime.datetime) and local.fold == 1
+        if folded and ambiguous in ("reject", "compatible"):
+            return self._folded(second, ambiguous)
+        instant, status = calls.meant(self._owned, choice, second)
+        if status != c.OK:
+            raise _no_instant(second, status)
+        return instant
+
+    def _folded(self, second: int, ambiguous: Ambiguous) -> int:
+        """Return the instant of a local time with ``fold=1``."""
+        instant, status = calls.meant(self._owned, AMBIGUOUS["reject"], second)
+        if status == c.FOLD:
+            instant, status = calls.meant(self._owned, AMBIGUOUS["later"], second)
+        elif status == c.GAP and ambiguous == "compatible":
+            instant, status = calls.meant(self._owned, AMBIGUOUS["earlier"], second)
+        if status != c.OK:
+            raise _no_instant(second, status)
         return instant
 
     def instant_array(
-        self, locals: Any, ambiguous: str = "compatible", instants: Any = None, statuses: Any = None
+        self,
+        locals: Any,
+        ambiguous: Ambiguous = "reject",
+        instants: Any = None,
+        statuses: Any = None,
+        errors: Errors = "coerce",
     ) -> Tuple[Any, Any]:
         """Return the instant that is meant by each of many local times, in any order, and its status.
 
-        ``locals`` are seconds on the zone's clocks or ``datetime64``, as :meth:`convert_array` takes
-        instants. Instants have items of 8 bytes with a sign, and are ``datetime64[s]`` for
-        ``datetime64``; statuses are single bytes: 0, or :data:`GAP`, :data:`FOLD`,
-        :data:`UNSPECIFIED` or :data:`OUT_OF_RANGE`, where the instant is 0, or ``NaT``. A missing local
-        time is :data:`UNSPECIFIED`. ``ambiguous`` is that of :meth:`instant`.
+        ``locals`` are of the types that :meth:`convert_array` takes, and have no time zone; a number is seconds
+        on the zone's clocks. Instants are ``datetime64`` in the unit that came, with fractions of a
+        second, or else seconds, of 8 bytes with a sign. Statuses are single bytes: 0, or :data:`GAP`,
+        :data:`FOLD`, :data:`UNSPECIFIED` or :data:`OUT_OF_RANGE`, where the instant is 0, or ``NaT``. A
+        missing local time is :data:`UNSPECIFIED`. ``ambiguous`` is that of :meth:`instant`, with the
+        ``fold`` of datetimes. By the ``errors`` ``"raise"`` the first local time that isn't missing and has no
+        instant raises :class:`NoInstant` with its row, or :class:`OverflowError`.
         """
-        choice = c.CHOICES[_choice(ambiguous)]
-        return instant_array(self._owned, choice, locals, instants, statuses)
+        number_of(ambiguous, AMBIGUOUS, "ambiguous")
+        return instant_array(self._owned, ambiguous, locals, instants, statuses, word_of(errors, Errors, "errors"))
 
     def convert_array(
         self, instants: Any, offsets: Any = None, flags: Any = None
     ) -> Tuple[Any, Any]:
         """Return the UT offset and the flags at each of many instants, in any order.
 
-        ``instants`` is whatever has the buffer protocol with items of 8 bytes with a sign, as an
-        :class:`array.array` of ``"q"`` or a numpy array of ``int64``, or a numpy array of
-        ``datetime64`` or a pandas Series of either. The offsets are written to ``offsets``, which
-        has items of 4 bytes with a sign, as a numpy array of ``int32``, and the flags to ``flags``,
-        of single bytes: 0, :data:`DAYLIGHT` or :data:`OPEN`. Each is made where it is left out.
-        A missing instant (``NaT``) has offset 0 and :data:`OPEN`.
+        ``instants`` are a list or another sequence, a buffer, an array of numpy, or a column or an
+        index of pandas: of integers of any size, floats of whole seconds, ``datetime64`` of any unit, or datetimes,
+        which are UT where they have no time zone. An item of numpy's gives two items. All but integers
+        need numpy. The offsets are written to ``offsets``, which has items of 4 bytes with a sign, as a
+        numpy array of ``int32``, and the flags to ``flags``, of single bytes: 0, :data:`DAYLIGHT` or
+        :data:`OPEN`. Each is made where it is left out. A missing instant (``NaT``, NaN, ``NA`` or
+        ``None``) has offset 0 and :data:`OPEN`.
 
         Other threads of Python can run in the meantime; none may write to the three. Raises
         :class:`TypeError` for items of another kind, and :class:`ValueError` where the three differ
@@ -246,14 +280,13 @@ class Zone(Spans):
         one in the tree."""
         return TimeZone(self, key)
 
-    def to_zoneinfo(self, key: Optional[str] = None) -> datetime.tzinfo:
+    def to_zoneinfo(self, key: Optional[str] = None) -> ZoneInfo:
         """Return a :class:`zoneinfo.ZoneInfo` of the same file, which is Python's own reading of
-        it, for what knows no other zones, as pandas. Needs Python 3.9."""
-        if sys.version_info >= (3, 9):
-            from zoneinfo import ZoneInfo
+        it, for what knows no other zones, as pandas: each time the same :class:`ZoneInfo`. Needs
+        Python 3.9."""
+        from pzic._zoneinfo import ZoneInfo
 
-            return ZoneInfo.from_file(io.BytesIO(self._data), key=key or self._key)
-        raise ImportError("zoneinfo comes with Python 3.9")
+        return ZoneInfo._of(self._data, key or self._key)
 
 
 def _instant(instant: int) -> int:
@@ -264,11 +297,11 @@ def _instant(instant: int) -> int:
     return instant
 
 
-def _choice(ambiguous: str) -> str:
-    """Return what to take in a gap or in a fold, if it is one of the words for it."""
-    if ambiguous not in c.CHOICES:
-        raise ValueError(f"ambiguous is one of {', '.join(sorted(c.CHOICES))}")
-    return ambiguous
+def _no_instant(second: int, status: int) -> Exception:
+    """Return the error of a local time that has this status."""
+    if status == c.OUT_OF_RANGE:
+        return OverflowError("an instant has 64 bits with a sign")
+    return NoInstant(second, c.REASONS[status])
 
 
 def _local_second(local: Local) -> int:

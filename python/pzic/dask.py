@@ -16,6 +16,7 @@ import sys
 from typing import Any, Dict, List, NamedTuple, Optional, Sequence, Tuple, Union
 
 from pzic import Compiled, Files, Tree, __version__
+from pzic._progress import Progress, teller
 from pzic._rows import Layout
 from pzic._tree import checksum
 
@@ -204,7 +205,7 @@ def convert(
     storage_options: Optional[Dict[str, Any]] = None,
     client: Any = None,
     blocksize: Union[int, str, None] = BLOCK,
-    progress: bool = False,
+    progress: Union[bool, Progress] = False,
     **layout: Any,
 ) -> Report:
     """Convert columns by the zones of a source or of a tree, and write a part for each block. Workers are sent a
@@ -216,7 +217,8 @@ def convert(
     with ``"csv"`` a file is one block. With ``header`` or ``skip_header`` each file has one. The parts are those of
     one call of ``pzic convert`` for each file, in order of their names. A run that is repeated makes
     only the parts that are missing. Without ``keep_going`` the report has the first fault, by the order of the
-    files and rows, whatever finished first; the block of a fault that ends a run has no part.
+    files and rows, whatever finished first; the block of a fault that ends a run has no part. ``progress`` is told
+    of each block that is done: a function, or what has a method ``update``, as ``tqdm``; by ``True`` Dask shows its own bar.
     """
     options = storage_options or {}
     words: Dict[str, Any] = {"records": "lines", **layout}
@@ -245,8 +247,12 @@ def convert(
             make = _dask.delayed(_make, pure=False)
             lazy = [make(tasks[n], given, by, jobs[n], into, options) for n in missing]
             futures = cluster.compute(lazy)
-            if progress:
+            if progress is True:
                 _distributed.progress(futures)
+            elif progress is not False:
+                tell = teller(progress)
+                for _ in _distributed.as_completed(futures):
+                    tell(1)
             for n, one in zip(missing, cluster.gather(futures)):
                 noted[n] = one
     finally:

@@ -79,7 +79,9 @@ def expect(what, got, wanted):
 
 def compare(what, program, zones, paths, into, client, told, options, layout):
     """Compare the parts of a run with runs of the program for each file, all of which go on after faults."""
-    report = pzic.dask.convert(told, paths, into, client=client, blocksize=BLOCK, **layout)
+    done = []
+    report = pzic.dask.convert(told, paths, into, client=client, blocksize=BLOCK, progress=done.append, **layout)
+    expect(f"{what}: progress", done, [1] * len(report.parts))
     header = int(layout.get("header", False))
     text, faults = b"", []
     for path in paths:

@@ -137,7 +137,7 @@ def refuse(tree):
     fixed = tree["Etc/UTC"]
     check(fixed.next_change(0) is None and fixed.previous_change(0) is None, "no change")
     check(fixed.changes(pzic.MIN_INSTANT, pzic.MAX_INSTANT + 1) == [], "no changes")
-    refuses(TypeError, zone.convert_array, array.array("i", [1]))
+    refuses(TypeError, zone.convert_array, array.array("q", [1]), array.array("h", [1]))
     refuses(TypeError, zone.convert_array, array.array("q", [1]), b"1234")
     refuses(ValueError, zone.convert_array, array.array("q", [1]), array.array("i"))
     check(zone.convert_array(array.array("q")) == (array.array("i"), bytearray()), "nothing")

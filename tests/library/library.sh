@@ -1,8 +1,8 @@
 #!/usr/bin/env bash
 # Tests the library from C, C++, Go, Python, Rust and SQLite, beside other readers.
-# It tests the headers as C99, C11 and C++17; the calls from C, under the sanitizers of addresses and of undefined behaviour and under
-# that of threads, beside the C library's own reader; the extension of SQLite; the Python package beside Python's zoneinfo, its
-# objects, its types, and as pip installs it; and the examples of docs/LIBRARY.md in each language.
+# It tests the headers as C99, C11, C17 and C++17; the calls from C, under the sanitizers of addresses and of undefined behaviour and under
+# that of threads, beside the C library's own reader, and from C++; the extension of SQLite; the Python package beside Python's zoneinfo, its
+# objects, its zones in pandas, its types, and as pip installs it; and the examples of docs/LIBRARY.md in each language.
 # Needs: tzdata, cc, c++, nm, pkg-config
 # Parts need: clang, sqlite3ext.h, sqlite3, valgrind, pandas, test_zoneinfo, mypy, python3.8, python3-config, pip, go, rustc
 set -euo pipefail
@@ -21,9 +21,7 @@ for header in pzic.h pzic_tree.h; do
     echo "#include \"$header\"" >"$work/alone.c"
     for compiler in cc clang; do
         has "the headers by $compiler" "$compiler" || continue
-        for standard in c99 c11; do
-            "$compiler" "-std=$standard" -D_POSIX_C_SOURCE=200809L "${strict[@]}" "$work/alone.c"
-        done
+        for standard in c99 c11 c17; do "$compiler" "-std=$standard" "${strict[@]}" "$work/alone.c"; done
     done
     c++ -std=c++17 "${strict[@]}" -x c++ "$work/alone.c"
 done
@@ -46,6 +44,11 @@ for tools in 'cc address,undefined' 'cc thread' 'clang thread'; do
     echo "library: C, $tools: $got"
 done
 
+# The calls from C++.
+c++ -std=c++17 -fno-exceptions -O1 -g -Wall -Wextra -Wshadow -Wconversion -Werror -fsanitize=address,undefined \
+    -fno-sanitize-recover=all -I include tests/library/library.cpp "$built/lib/libpzic.a" -o "$work/calls"
+"$work/calls" "$tree" | sed 's/^/library: C++: /'
+
 # The stack that each call uses.
 cc -std=gnu11 -O1 -Wall -Wextra -Wconversion -Werror -I include tests/library/library_stack.c "$built/lib/libpzic.a" -lpthread \
     -o "$work/stack"
@@ -62,7 +65,8 @@ python=python3
 if [ -x /usr/bin/python3 ]; then
     python=/usr/bin/python3
 fi
-"$python" -c 'import pandas' 2>"$work/log" || echo "skipped: arrays and columns of numpy and pandas: pandas isn't there"
+has_pandas=
+if "$python" -c 'import pandas' 2>"$work/log"; then has_pandas=1; else echo "skipped: arrays, columns and tables of numpy and pandas: pandas isn't there"; fi
 
 # add_c PYTHON: prints the folder of a copy of the package that has its part in C for this Python, or nothing without headers.
 add_c() {
@@ -93,6 +97,7 @@ in_both() {
 PZIC_PURE_PYTHON=1 "$python" tests/library/library.py "$tree" 8
 in_c "$python" tests/library/library.py "$tree"
 in_both "$python" tests/library/python_objects.py "$tree"
+if [ "$has_pandas" ]; then "$python" tests/library/pandas_day.py "$tree"; fi
 
 # The extension of SQLite, from Python, and from its own program under valgrind.
 extension=$built/lib/pzic_sqlite.so
@@ -123,12 +128,19 @@ tests='from test.test_zoneinfo import test_zoneinfo'
 for tester in "$python" python3 none; do
     ! "$tester" -c "$tests" 2>"$work/log" || break
 done
-if [ "$tester" = none ]; then echo "skipped: CPython's tests of zoneinfo: test_zoneinfo isn't there"; else in_both "$tester" tests/library/zoneinfo_tests.py; fi
+if [ "$tester" = none ]; then
+    echo "skipped: CPython's tests of zoneinfo: test_zoneinfo isn't there"
+else
+    in_both "$tester" tests/library/zoneinfo_tests.py TimeZone
+    "$tester" tests/library/zoneinfo_tests.py ZoneInfo
+fi
 
 # The types, for the oldest Python and for this one.
 if has 'the types of the Python package' mypy; then
     for version in 3.8 "$("$python" -c 'import sys; print("%d.%d" % sys.version_info[:2])')"; do
         mypy --strict --python-version "$version" --cache-dir "$work/mypy" python/pzic | sed 's/^/library: mypy: /'
+        MYPYPATH=python mypy --strict --python-version "$version" --cache-dir "$work/mypy" tests/library/typed_calls.py >"$work/log" ||
+            { cat "$work/log" >&2; exit 1; }
     done
 fi
 
@@ -139,15 +151,33 @@ for candidate in python3.8 "${PYENV_ROOT:-$HOME/.pyenv}"/versions/3.8.*/bin/pyth
 done
 if [ -n "$oldest" ]; then in_both "$oldest" tests/library/oldest.py "$tree"; else echo "skipped: the oldest Python: python3.8 isn't there"; fi
 
-# As pip installs it, from its folder and as a wheel, each into a new environment, without a network.
+# As pip installs it, from its folder, as a wheel and as a source distribution, each into a new environment, without a network.
 has_pip() {
     "$python" -c 'import setuptools, wheel, pip, ensurepip' 2>"$work/log"
 }
 in_venv() {
     env -u PZIC_LIBRARY -u PYTHONPATH "$work/$1/bin/python" -c "$2" "$tree"
 }
+offline=(--quiet --no-index --no-build-isolation)
+# Makes a source distribution, and a wheel of it with the library that is made of the sources in it.
+make_of_sources() {
+    local name sources
+    mkdir "$work/checkout"
+    for name in make-library crates.txt HANDLES crates tools include sqlite docs; do ln -s "$PWD/$name" "$work/checkout/"; done
+    cp -r python "$work/checkout/python"
+    (cd "$work/checkout/python" && "$python" setup.py -q sdist -d "$work/sdist") 2>"$work/log"
+    tar -xzf "$work"/sdist/pzic-*.tar.gz -C "$work/sdist"
+    sources=$(echo "$work"/sdist/pzic-*/source)
+    # They are what was proved, so they aren't proved once more.
+    mkdir -p "$sources/crates/pzic_c/out"
+    cp crates/pzic_c/out/libpzic_c.a "$sources/crates/pzic_c/out"
+    diff <(cd "$sources" && tools/sums pzic_c) <(tools/sums pzic_c)
+    env -u PZIC_LIBRARY "$python" -m pip wheel "${offline[@]}" --no-deps -w "$work/source_wheels" "${sources%/source}"
+    "$python" -m venv "$work/by_sources"
+    "$work/by_sources/bin/pip" install --quiet --no-index "$work"/source_wheels/pzic-*.whl
+}
 install_by_pip() {
-    local offline=(--quiet --no-index --no-build-isolation) name wheel got want is_fast
+    local name wheel got want is_fast
     cp -r python "$work/package"
     "$python" -m venv --system-site-packages "$work/by_folder"
     "$work/by_folder/bin/pip" install "${offline[@]}" "$work/package"
@@ -165,7 +195,8 @@ install_by_pip() {
     "$python" -m venv "$work/pure"
     "$work/by_wheel/bin/pip" install --quiet --no-index "$work/wheels/$wheel"
     "$work/pure/bin/pip" install --quiet --no-index "$work"/pure_wheels/pzic-*-py3-none-linux_*.whl
-    for name in by_folder by_wheel pure; do
+    make_of_sources
+    for name in by_folder by_wheel by_sources pure; do
         [ "$name" != pure ] || is_fast=False
         want="$(sed -n 's/^pzic //p' docs/help/version.txt) True 3600 $is_fast"
         got=$(in_venv "$name" '

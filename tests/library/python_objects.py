@@ -8,20 +8,26 @@ import array
 import copy
 import ctypes
 import gc
+import inspect
 import multiprocessing
 import os
 import pickle
 import random
+import signal
 import subprocess
 import sys
 import tempfile
 import threading
+import time
+import types
 import weakref
 import zoneinfo
-from datetime import date, datetime, time, timedelta, timezone
+from typing import get_args
+from datetime import date, datetime, timedelta, timezone
+from datetime import time as time_of_day
 
 import pzic
-from pzic import _cache
+from pzic import _cache, _calls, _rows, _words
 from pzic import _library as c
 
 UTC = timezone.utc
@@ -335,6 +341,12 @@ def tell_releases():
             with open(f"{folder}/+VERSION", "wb") as file:
                 file.write(text)
             check(made.version == wanted, "release", text, made.version)
+        os.remove(f"{folder}/+VERSION")
+        for text, wanted in (b"# version 2025b\n# more\n", "2025b"), (b"# version 2025b", None), (b"# version \n", None), \
+                (b"# redo\n# version 2025b\n", None), (b"", None), (b"# version 2025b-dirty\n", "2025b-dirty"), (b"# version a b\n", None):
+            with open(f"{folder}/tzdata.zi", "wb") as file:
+                file.write(text)
+            check(made.version == wanted, "release by tzdata.zi", text, made.version)
 
 
 def list_trees(tree):
@@ -353,9 +365,32 @@ def list_trees(tree):
         check(not any(name in made for name in odd), "odd files")
     check(5 not in tree and None not in tree and tree.get(5) is None and tree.get("none", 1) == 1, "no names")
     refuses(KeyError, tree.__getitem__, ["Europe/Dublin"])
-    check(len(pzic.Tree("/no/such/folder")) == 0, "no folder")
+    for folder, error in ("/no/such/folder", FileNotFoundError), ("/dev/null", NotADirectoryError), ("/dev/null/a", NotADirectoryError):
+        check(refuses(error, pzic.Tree.open, folder).filename == folder, "no folder", folder)
     system = dict(pzic.Tree("/usr/share/zoneinfo"))
     check("Europe/Dublin" in system and not any(name.startswith("right/") for name in system), "the system's tree")
+
+
+def tell_links(tree):
+    """Names of the same bytes, names of Zone lines, and footers."""
+    source = b"Zone A 1 - AAA\nLink A B # C\nL B C\nZ D 1 - AAA\n# L A E\nli A Area/E\n"
+    made = pzic.Compiled(source)
+    check(made.aliases("A") == ["Area/E", "B", "C", "D"] and made.aliases("C") == ["A", "Area/E", "B", "D"], "aliases")
+    check([made.canonical(name) for name in ("A", "B", "C", "D", "Area/E")] == ["A", "A", "A", "D", "A"], "canonical")
+    refuses(pzic.NoSuchZone, made.aliases, "E")
+    refuses(pzic.NoSuchZone, made.canonical, "E")
+    files = pzic.Files({name: made.data(name) for name in made})
+    check(files.aliases("D") == ["A", "Area/E", "B", "C"], "aliases of files")
+    check("source" in str(refuses(LookupError, files.canonical, "A")), "no source")
+    refuses(LookupError, tree.canonical, "Europe/Dublin")
+    with tempfile.TemporaryDirectory() as folder:
+        for name, text in ("A", made.data("A")), ("B", made.data("A")), ("tzdata.zi", b"# version a\nL A B\nL B A\n"):
+            with open(f"{folder}/{name}", "wb") as file:
+                file.write(text)
+        own = pzic.Tree(folder)
+        check(own.aliases("A") == ["B"] and own.canonical("B") == "A", "links of a folder")
+    check(made["A"].posix == "AAA-1" and tree["Europe/Dublin"].posix == "IST-1GMT0,M10.5.0,M3.5.0/1", "footer", tree["Europe/Dublin"].posix)
+    check(pzic.Zone(open_until()).posix == "", "no footer")
 
 
 # ------------------------------------------------------------------ manners
@@ -364,7 +399,7 @@ def list_trees(tree):
 def keep_manners(tree, data):
     fixed, dublin = tree.tzinfo("Etc/GMT-5"), tree.tzinfo("Europe/Dublin")
     check((fixed.utcoffset(None), fixed.tzname(None), fixed.dst(None)) == (5 * HOUR, "+05", ZERO), "fixed")
-    check(time(1, tzinfo=fixed).isoformat() == "01:00:00+05:00", "a time of day")
+    check(time_of_day(1, tzinfo=fixed).isoformat() == "01:00:00+05:00", "a time of day")
     check((dublin.utcoffset(None), dublin.tzname(None), dublin.dst(None)) == (None, None, None), "not fixed")
     check(str(dublin) == "Europe/Dublin" and repr(dublin) == "pzic.TimeZone(key='Europe/Dublin')", "shown")
     bare = pzic.Zone(data).tzinfo()
@@ -376,7 +411,7 @@ def keep_manners(tree, data):
     mine = Mine(tree["Europe/Dublin"])
     check("Mine(key='Europe/Dublin')" in repr(mine) and mine is not dublin and type(copy.copy(mine)) is Mine, "subclass")
     refuses(AttributeError, setattr, dublin, "key", "Other")
-    for value in 5, "2024", None, date(2024, 1, 1), time(1, tzinfo=dublin):
+    for value in 5, "2024", None, date(2024, 1, 1), time_of_day(1, tzinfo=dublin):
         refuses(TypeError, dublin.fromutc, value)
         if value is not None:
             refuses(TypeError, dublin.utcoffset, value)
@@ -405,6 +440,21 @@ def days_of_2024():
     return [edge + timedelta(minutes=minutes) for edge in edges for minutes in (-1, 0, 30, 60)]
 
 
+def compare_words():
+    """The words that types name are those that have numbers."""
+    names = list(inspect.signature(_rows.words_of_rows).parameters.values())
+    check([name.name for name in names] == [*pzic.Layout._fields, "progress"], "words of rows")
+    check([name.default for name in names] == [*pzic.Layout(), None], "words of rows")
+    numbers = {_words.Ambiguous: _words.AMBIGUOUS, _words.Unit: _words.UNITS, _words.Records: _words.RECORDS,
+               _words.Style: _words.STYLES, _words.Quotes: _words.QUOTES}
+    for kind, numbered in numbers.items():
+        check(get_args(kind) == tuple(numbered), "words", kind)
+    for word in get_args(_words.Source):
+        check(pzic.Layout(source=word).numbers() is not None, "source", word)
+    for part in get_args(_words.Part):
+        check(pzic.DiffOptions(ignore=[part]).numbers() is not None, "part", part)
+
+
 def look_at_statuses(zone):
     """No status of the library goes unseen."""
     nothing, count, one = c.Handle(), ctypes.c_size_t(), ctypes.create_string_buffer(8)
@@ -412,6 +462,83 @@ def look_at_statuses(zone):
     refuses(RuntimeError, c.zone_span, nothing, 0, c.CState(), ctypes.c_int64(), ctypes.c_int64())
     refuses(RuntimeError, c.zone_offsets, zone._owned.lend(), ctypes.addressof(one), 1, ctypes.addressof(one), 0, ctypes.addressof(one), 0)
     refuses(RuntimeError, c.text_of, c.name_of_fault, 31)
+    owned, seconds = types.SimpleNamespace(_at=0, _kind=0, lend=c.Handle), array.array("q", [0])
+    for call, words in (_calls.next_change, [0]), (_calls.previous_change, [0]), (_calls.local_time, [0]), (_calls.meant, [0, 0]), \
+            (_calls.zone_offsets, [-1, 1, seconds, array.array("i", [0]), bytearray(1)]), \
+            (_calls.zone_instants_array, [0, 1, seconds, array.array("q", [0]), bytearray(1)]):
+        refuses(RuntimeError, call, owned, *words)
+        refuses(TypeError, call, owned)
+        refuses(AttributeError, call, None, *words)
+
+
+# ------------------------------------------------------------------ pieces
+
+
+def interrupt(what, call):
+    """An interrupt ends a call within a tenth of a second of processor time."""
+    def handle(number, frame):
+        raise KeyboardInterrupt
+
+    before = signal.signal(signal.SIGPROF, handle)
+    begun = time.process_time()
+    signal.setitimer(signal.ITIMER_PROF, 0.05)
+    try:
+        call()
+    except KeyboardInterrupt:
+        taken = time.process_time() - begun
+        check(taken < 0.15, "an interrupt", what, taken)
+    else:
+        check(time.process_time() - begun < 0.15, "no interrupt", what)
+    finally:
+        signal.setitimer(signal.ITIMER_PROF, 0)
+        signal.signal(signal.SIGPROF, before)
+
+
+def interrupt_calls(tree):
+    zone, many = tree["Europe/Dublin"], array.array("q", [INSTANT]) * 10_000_000
+    for instant in range(0, len(many), 1009):
+        many[instant] = instant * 300
+    interrupt("convert_array", lambda: zone.convert_array(many))
+    interrupt("instant_array", lambda: zone.instant_array(many))
+    files, column = tree.files(["Europe/Dublin"]), b"Europe/Dublin,1720000000\n" * 1_000_000
+    interrupt("convert", lambda: files.convert(column))
+    interrupt("rows", lambda: files.rows(column, records="lines", keep_going=True))
+    told = []
+    check(len(files.convert(column[:5_000_000], progress=told.append)) > 0 and sum(told) == 5_000_000 and len(told) == 5, "progress", told)
+    bar = types.SimpleNamespace(update=told.append)
+    files.rows(column[:50], progress=bar)
+    check(told[-1] == 50, "a bar of progress", told)
+
+
+def make_pieces(tree):
+    """Rows of pieces are those of the whole column."""
+    files, chance = tree.files(["Europe/Dublin", "Asia/Tokyo"]), random.Random(7)
+    mark, kept = b"\xef\xbb\xbf", _rows.PIECE
+    lines = [b"Europe/Dublin,0", b"Asia/Tokyo,1720000000", b"", b"Nowhere,5", b"Asia/Tokyo,x", b"Asia/Tokyo,1,more", mark + b"Asia/Tokyo,7", b'"Asia/Tokyo",8',
+             b'Asia/Tokyo,"9\n10"', b'Asia/"Tokyo,3', b"Europe/Dublin,12345678901234567890"]
+    layouts = [{}, {"keep_going": True}, {"records": "lines", "keep_going": True}, {"records": "lines"}, {"header": True, "keep_going": True, "append": True},
+               {"skip_header": True, "quotes": "strict"}, {"header": True, "records": "lines", "keep_going": True}, {"max_record": 16, "records": "lines", "keep_going": True},
+               {"time_field": 2, "keep_going": True, "fields": 2}]
+    for turn in range(120):
+        some = lines[:7] if turn % 2 else lines[:2]
+        words = layouts[turn % len(layouts)]
+        start = [b"", mark, b"\n\r\n", mark + b"\n\n"][turn % 4] + (b"zone,time\n" if "header" in words or "skip_header" in words else b"")
+        ends = [chance.choice([b"\n", b"\r\n", b"\r"] if turn % 5 else [b"\n"]) for _ in range(30)]
+        column = start + b"".join(chance.choice(some if turn % 3 else lines) + end for end in ends)
+        column = column if turn % 7 else column[:-1]
+        told = []
+        for piece in kept, 1, 20, 100:
+            _rows.PIECE = piece
+            told.append((files.rows(column, **words), shown_rows(files, column, words)))
+        _rows.PIECE = kept
+        check(all(one == told[0] for one in told), "pieces", words, column, told)
+
+
+def shown_rows(files, column, words):
+    try:
+        return files.convert(column, **words)
+    except pzic.BadRow as error:
+        return error.args
 
 
 # ------------------------------------------------------------------ arrays
@@ -421,8 +548,15 @@ def refuse_arrays(zone):
     instants = array.array("q", [0, INSTANT, 1])
     room = bytearray(64)
     refuses(TypeError, zone.convert_array, instants, memoryview(bytes(12)).cast("i"))
-    refuses(TypeError, zone.convert_array, memoryview(room)[:48].cast("d"))
-    refuses(TypeError, zone.convert_array, memoryview(instants)[::2])
+    for odd in b"text", bytearray(8), "text", ["text"], None, {1: 2}:
+        refuses(TypeError, zone.convert_array, odd)
+    refuses(OverflowError, zone.convert_array, [2**63])
+    error = refuses(TypeError, zone.convert_array, instants, array.array("d", [0] * 3))
+    check("offsets" in str(error) and "'d'" in str(error) and "int32" in str(error), "what came", error)
+    for given in [0, INSTANT, 1], (0, INSTANT, 1), range(3), array.array("i", [0, INSTANT, 1]), memoryview(instants)[::-2], memoryview(instants).toreadonly():
+        offsets, flags = zone.convert_array(given)
+        want = [zone.utcoffset(instant) for instant in given]
+        check((type(offsets), list(offsets), list(flags)) == (array.array, want, [0] * len(want)), "types", given)
     unaligned = memoryview(room)[1:25] if ctypes.addressof(ctypes.c_char.from_buffer(room)) % 8 == 0 else memoryview(room)[:24]
     refuses(ValueError, zone.convert_array, unaligned.cast("q"))
     refuses(ValueError, zone.convert_array, instants, memoryview(room)[2:14].cast("i"))
@@ -441,7 +575,7 @@ def compare_columns(tree, numpy, pandas):
     random.seed(2)
     names = random.sample(sorted(tree), 12)
     for name in names:
-        check(tree[name].to_zoneinfo().key == name == tree.tzinfo(name).to_zoneinfo().key, "to_zoneinfo")
+        check(tree[name].to_zoneinfo().key == name and tree.tzinfo(name).to_zoneinfo() is tree.zoneinfo(name), "to_zoneinfo")
     rows = [random.choice(names) for _ in range(20_000)]
     instants = numpy.random.default_rng(3).integers(-(2**31), 2**32, len(rows))
     got = tree.convert_columns(rows, instants)
@@ -454,16 +588,41 @@ def compare_columns(tree, numpy, pandas):
     times = instants.astype("datetime64[s]")
     series = pandas.Series(rows)
     stamps = pandas.Series(times.astype("datetime64[ns]"))
-    for column in rows, numpy.array(rows), numpy.array(rows, "object"), series, series.astype("category"):
+    for column in rows, tuple(rows), numpy.array(rows), numpy.array(rows, "object"), series, series.astype("category"), series.astype("string"), pandas.Index(rows):
         for moments in times, stamps, stamps.dt.tz_localize("UTC"), pandas.DatetimeIndex(stamps):
             for one, other in zip(tree.convert_columns(column, moments), got):
-                check((one == other).all() and one.dtype == other.dtype, "columns", type(column), type(moments))
-    check([len(part) for part in tree.convert_columns([], numpy.array([], "int64"))] == [0] * 4, "no rows")
-    refuses(pzic.NoSuchZone, tree.convert_columns, ["UTC", "No/Such"], instants[:2])
-    refuses(pzic.NoSuchZone, tree.convert_columns, pandas.Series(["UTC", None]), instants[:2])
+                check((one == other).all(), "columns", type(column), type(moments))
+    check([len(part) for part in tree.convert_columns([], numpy.array([], "int64"))] == [0] * 5, "no rows")
     refuses(ValueError, tree.convert_columns, ["UTC"], instants[:2])
-    refuses(TypeError, tree.convert_columns, ["UTC"], numpy.array([1.5]))
+    refuses(ValueError, tree.convert_columns, ["UTC"], numpy.array([1.5]))
+    refuses(ValueError, tree.convert_columns, series, pandas.Series(instants, index=range(len(rows) - 1, -1, -1)))
     refuses(OverflowError, tree.convert_columns, ["Asia/Tokyo"], numpy.array([pzic.MAX_INSTANT]))
+    tell_faults(tree, numpy, pandas)
+
+
+def tell_faults(tree, numpy, pandas):
+    """Rows without local time are refused, with their names and numbers, or told by their statuses."""
+    lost = ["No/Such", None, float("nan"), "../UTC", 5]
+    for name in lost:
+        error = refuses(pzic.NoSuchZone, tree.convert_columns, ["UTC"] * 70_000 + [name, "UTC"], range(70_002))
+        check(error.key is name and error.row == 70_000 and str(error).startswith("row 70000: "), "a row", error)
+    check(isinstance(error, pzic.NoSuchZone) and all(made.row == 70_000 for made in copies_of(error)), "copies")
+    missing = pandas.Series(["Asia/Tokyo", None, pandas.NA, "No/Such"])
+    far = numpy.array([0, 1, 2, 3])
+    for names in missing, missing.astype("category"), missing.astype("string"), missing.tolist():
+        check(refuses(pzic.NoSuchZone, tree.convert_columns, names, far).row == 1, "a missing name", names)
+        got = tree.convert_columns(names, far, errors="coerce")
+        check(got.statuses.tolist() == [0, pzic.NO_ZONE, pzic.NO_ZONE, pzic.NO_ZONE], "statuses", got)
+        check(got.flags.tolist() == [0, pzic.OPEN, pzic.OPEN, pzic.OPEN] and got.abbreviations.tolist() == ["JST", "", "", ""], "no zone", got)
+        check(numpy.isnat(got.local).tolist() == [False, True, True, True] and got.offsets.tolist() == [32400, 0, 0, 0], "no zone", got)
+    got = tree.convert_columns(["Asia/Tokyo"] * 3, [pzic.MAX_INSTANT, 0, pzic.MIN_INSTANT], errors="coerce")
+    check(got.statuses.tolist() == [pzic.OUT_OF_RANGE, 0, 0], "range", got)
+    check("row 1" in str(refuses(OverflowError, tree.convert_columns, ["Asia/Tokyo"] * 2, [0, pzic.MAX_INSTANT])), "range")
+    check(tree.convert_columns(["UTC"], pandas.Series([pandas.NaT])).statuses.tolist() == [pzic.UNSPECIFIED], "missing")
+    refuses(ValueError, lambda: tree.convert_columns(["UTC"], [0], errors="ignore"))
+    told = []
+    tree.convert_columns(["UTC"] * 150_000, range(150_000), progress=told.append)
+    check(sum(told) == 150_000 and len(told) > 2, "progress", told)
 
 
 def compare_files(tree, names, rows, instants, want, numpy):
@@ -476,14 +635,17 @@ def compare_files(tree, names, rows, instants, want, numpy):
             with open(os.path.join(folder, name), "wb") as file:
                 file.write(data)
         got = pzic.Tree(folder).convert_columns(["Open", "Dublin", "Open"], numpy.array([5000, INSTANT, 999]))
+        check(got.statuses.tolist() == [pzic.UNSPECIFIED, 0, 0], "an unfit file", got)
     check(got.offsets.tolist() == [0, 3600, 60] and got.flags.tolist() == [pzic.OPEN, 0, 0], "an unfit file", got)
     check(numpy.isnat(got.local).tolist() == [True, False, False], "an unfit file", got)
     check(got.local[1:].astype("int64").tolist() == [INSTANT + 3600, 1059], "an unfit file", got)
     check(got.abbreviations.tolist() == ["", "IST", "ABC"], "an unfit file", got)
     many = [a + b + c for a in "ABCDEFGHIJ" for b in "ABCDEFGHIJ" for c in "ABCDEFGHIJ"] + ["ABCDEFGHIJKLMNOP", "ABCDEFGHIJKLMNOQ"]
     source = "".join(f"Zone {name} -1 - {name}\n" for name in many).encode()
-    got = pzic.Compiled(source).convert_columns(many, numpy.zeros(len(many), "int64"))
-    check(got.abbreviations.tolist() == many and set(got.offsets.tolist()) == {-3600}, "many abbreviations")
+    for rows in many, many * 9:
+        # Of so many some have the same hash.
+        got = pzic.Compiled(source).convert_columns(rows, numpy.zeros(len(rows), "int64"))
+        check(got.abbreviations.tolist() == rows and set(got.offsets.tolist()) == {-3600}, "many abbreviations")
     refuses(pzic.NoSuchZone, pzic.Compiled(SOURCE).convert_columns, ["None"], numpy.array([1]))
     refuses(pzic.NoSuchZone, pzic.Compiled(SOURCE).convert_columns, numpy.array([1]), numpy.array([1]))
 
@@ -500,6 +662,7 @@ def convert_by_pandas(zone, numpy, pandas):
         check(moved or offsets.tolist() == want, "times", instants, offsets)
     half = numpy.array([-500_000_000], "datetime64[ns]")
     check(zone.convert_array(half)[0].tolist() == [3600], "half a second before")
+    take_types(zone, numpy, pandas)
     missing = numpy.array(["2024-07-03", "NaT"], "datetime64[s]")
     for instants in missing, pandas.Series(missing.astype("datetime64[ns]")):
         offsets, flags = zone.convert_array(instants, None, bytearray(2))
@@ -509,6 +672,70 @@ def convert_by_pandas(zone, numpy, pandas):
     shown = stamps.dt.tz_localize("UTC").dt.tz_convert(python)
     check(shown.map(str).tolist()[1] == "2024-07-03 10:46:40+01:00", "to_zoneinfo", shown)
     check(pandas.Timestamp(INSTANT, unit="s", tz=python).utcoffset() == HOUR, "to_zoneinfo")
+
+
+def take_types(zone, numpy, pandas):
+    """All array calls take the same types."""
+    whole = numpy.array([INSTANT, 0, 86400])
+    aware = [datetime.fromtimestamp(int(i), timezone(HOUR)) for i in whole]
+    naive = [moment.astimezone(UTC).replace(tzinfo=None) for moment in aware]
+    columns = [whole, whole[::-1][::-1], numpy.repeat(whole, 2)[::2], whole.astype("uint64"), whole.astype("int32"), whole.astype(">i8"),
+               whole.astype("float64"), whole.astype("object"), pandas.Series(whole), pandas.array(whole, "Int64"), pandas.Series(whole, dtype="UInt32"),
+               pandas.array(whole, "Float64"), whole.tolist(), naive, numpy.array(naive, "object"), pandas.Series(naive), pandas.DatetimeIndex(naive), list(map(float, whole))]
+    columns += [whole.astype("datetime64[s]").astype(f"datetime64[{unit}]") for unit in ("s", "ms", "us", "ns", "25s")]
+    files = pzic.Files({"Dublin": zone.data})
+    for column in columns:
+        check(list(zone.convert_array(column)[0]) == [3600] * 3, "types", column)
+        check(files.convert_columns(["Dublin"] * 3, column).offsets.tolist() == [3600] * 3, "types of columns", column)
+        instants, statuses = zone.instant_array(column)
+        seconds = instants.astype("datetime64[s]").astype("int64") if getattr(instants, "dtype", None) is not None else instants
+        check([second + 3600 for second in seconds] == whole.tolist() and not any(statuses), "types of local times", column)
+    for column in aware, numpy.array(aware, "object"), pandas.Series(aware):
+        check(list(zone.convert_array(column)[0]) == [3600] * 3, "types", column)
+        refuses(ValueError, zone.instant_array, column)
+    for column in pandas.array([None, INSTANT], "Int64"), numpy.array([numpy.nan, INSTANT]), [None, INSTANT], [pandas.NaT, naive[0]], pandas.Series([pandas.NA, INSTANT], dtype="Int64"):
+        check([list(part) for part in zone.convert_array(column)] == [[0, 3600], [pzic.OPEN, 0]], "missing", column)
+        check(list(zone.instant_array(column)[1]) == [pzic.UNSPECIFIED, 0], "missing", column)
+        check(files.convert_columns(["Dublin"] * 2, column).statuses.tolist() == [pzic.UNSPECIFIED, 0], "missing", column)
+    for one in numpy.datetime64(INSTANT, "s"), numpy.int64(INSTANT), naive[0], pandas.Timestamp(INSTANT, unit="s"):
+        offset, flag = zone.convert_array(one)
+        check((offset, flag, offset.shape) == (3600, 0, ()), "an item", one)
+    for column, error in (numpy.array([0.5]), ValueError), (numpy.array([numpy.inf]), OverflowError), (numpy.array([2**63], "uint64"), OverflowError), \
+            (numpy.array([1], "timedelta64[s]"), TypeError), (numpy.array([True]), TypeError), (numpy.zeros((2, 2), "int64"), TypeError), \
+            (numpy.array(["2024"]), TypeError), ([INSTANT, naive[0]], TypeError), ([date(2024, 1, 1)], TypeError), (numpy.array([3 * 10**11], "datetime64[Y]"), OverflowError):
+        for call in zone.convert_array, zone.instant_array, lambda given: files.convert_columns(["Dublin"] * len(given), given):
+            refuses(error, call, column)
+    check("timedelta64" in str(refuses(TypeError, zone.convert_array, numpy.array([1], "timedelta64[s]"))), "what came")
+    keep_fractions(zone, files, numpy, pandas)
+
+
+def keep_fractions(zone, files, numpy, pandas):
+    """Fractions of a second and units are kept, and so is the fold of datetimes."""
+    for unit in "ms", "us", "ns":
+        shown = numpy.array(["1969-12-31T23:59:59.875", "2024-07-03T10:00:00.125", "NaT"], f"datetime64[{unit}]")
+        hour = numpy.timedelta64(3600, "s")
+        for column in [shown] + [pandas.Series(shown)] * (unit == "ns"):
+            instants, statuses = zone.instant_array(column)
+            check(instants.dtype == shown.dtype and (instants[:2] == shown[:2] - hour).all() and numpy.isnat(instants[2]), "fractions", instants)
+            local = files.convert_columns(["Dublin"] * 3, column).local
+            check(local.dtype == shown.dtype and (local[:2] == shown[:2] + hour).all() and numpy.isnat(local[2]), "fractions", local)
+        refuses(ValueError, zone.instant_array, shown, "reject", numpy.empty(3, "int64"))
+    folds = [TWICE.replace(fold=1, microsecond=5), TWICE, NEVER.replace(fold=1), datetime(2024, 7, 3, fold=1)]
+    for ambiguous in "reject", "compatible", "earlier", "later":
+        instants, statuses = zone.instant_array(folds, ambiguous)
+        for shown, instant, status in zip(folds, instants, statuses):
+            try:
+                want = zone.instant(shown, ambiguous)
+            except pzic.NoInstant as error:
+                want, status = None, {pzic.FOLD: "Fold", pzic.GAP: "Gap"}[status] == error.reason
+            else:
+                status = status == 0 and seconds(instant.astype(datetime)) == want and instant.astype(datetime).microsecond == shown.microsecond
+            check(status, "fold", ambiguous, shown, instant)
+    error = refuses(pzic.NoInstant, lambda: zone.instant_array([datetime(2024, 7, 3), None, TWICE], errors="raise"))
+    check((error.row, error.reason, error.local) == (2, "Fold", seconds(TWICE)) and str(error).startswith("row 2: "), "a row", error)
+    check(all((made.row, str(made)) == (2, str(error)) for made in copies_of(error)), "copies")
+    check(list(zone.instant_array([None, 0], errors="raise")[1]) == [pzic.UNSPECIFIED, 0], "missing")
+    refuses(OverflowError, lambda: zone.instant_array([0, pzic.MAX_INSTANT], errors="raise"))
 
 
 # ------------------------------------------------------------------ local times
@@ -525,18 +752,27 @@ def tell_local_times(tree):
     check(dublin.instants(TWICE) == (2, 1729989000, 1729992600, None), "fold", dublin.instants(TWICE))
     check(dublin.instants(NEVER) == (0, None, None, (1711846800, 0, 3600)), "gap", dublin.instants(NEVER))
     check(dublin.instants(seconds(TWICE)) == dublin.instants(TWICE), "seconds")
-    check(dublin.instant(TWICE) == dublin.instant(TWICE, "earlier") == 1729989000, "earlier")
+    check(dublin.instant(TWICE, "compatible") == dublin.instant(TWICE, "earlier") == 1729989000, "earlier")
     check(dublin.instant(TWICE, ambiguous="later") == 1729992600, "later")
-    check(dublin.instant(NEVER) == dublin.instant(NEVER, "later") == 1711848600, "after a gap")
+    check(dublin.instant(NEVER, "compatible") == dublin.instant(NEVER, "later") == 1711848600, "after a gap")
     check(dublin.instant(NEVER, "earlier") == 1711845000, "before a gap")
+    twice, never = TWICE.replace(fold=1), NEVER.replace(fold=1)
+    check(dublin.instant(twice) == dublin.instant(twice, "compatible") == dublin.instant(twice, "later") == 1729992600, "fold=1")
+    check(dublin.instant(twice, "earlier") == 1729989000 and dublin.instant(never, "later") == 1711848600, "fold=1")
+    check(dublin.instant(never, "compatible") == dublin.instant(never, "earlier") == 1711845000, "fold=1 in a gap")
+    check(dublin.instant(datetime(2024, 7, 3, fold=1)) == dublin.instant(datetime(2024, 7, 3)), "fold=1")
+    check(refuses(pzic.NoInstant, dublin.instant, never).reason == "Gap", "fold=1 in a gap")
     for shown, reason in (TWICE, "Fold"), (NEVER, "Gap"):
-        error = refuses(pzic.NoInstant, dublin.instant, shown, "reject")
+        error = refuses(pzic.NoInstant, dublin.instant, shown)
+        check(str(error) == str(refuses(pzic.NoInstant, dublin.instant, shown, "reject")), "reject by default")
         check(error.reason == reason and error.local == seconds(shown), "reject", error)
         check(all(made.args == error.args for made in copies_of(error)), "copies of an error")
     refuses(ValueError, dublin.instant, TWICE, "first")
     refuses(ValueError, dublin.instants, TWICE.replace(tzinfo=UTC))
     refuses(OverflowError, dublin.instants, pzic.MIN_INSTANT)
     refuses(OverflowError, dublin.instants, 2**63)
+    for number in pzic.MIN_INSTANT, pzic.MAX_INSTANT, 2**63:
+        refuses(OverflowError, dublin.instant, number)
     refuses(TypeError, dublin.instants, 0.5)
     unknown = pzic.Zone(open_until())
     check(unknown.instants(5000) == (0, None, None, None), "unspecified", unknown.instants(5000))
@@ -545,7 +781,8 @@ def tell_local_times(tree):
     instants, statuses = dublin.instant_array(locals, "reject")
     check(list(instants) == [0, 0, INSTANT], "array", instants)
     check(list(statuses) == [pzic.FOLD, pzic.GAP, 0], "array", statuses)
-    check(list(dublin.instant_array(locals)[0]) == [1729989000, 1711848600, INSTANT], "array")
+    check(list(dublin.instant_array(locals, "compatible")[0]) == [1729989000, 1711848600, INSTANT], "array")
+    check(dublin.instant_array(locals) == dublin.instant_array(locals, "reject"), "reject by default")
     check(list(dublin.instant_array(array.array("q", [pzic.MAX_INSTANT]))[1]) == [pzic.OUT_OF_RANGE], "range")
     refuses(ValueError, dublin.instant_array, locals, "first")
     refuses(ValueError, dublin.instant_array, locals, "reject", locals)
@@ -589,7 +826,7 @@ def use_pandas(tree):
     instants, statuses = tree["Europe/Dublin"].instant_array(locals, "reject")
     check(numpy.isnat(instants).all() and statuses.tolist() == [pzic.FOLD, pzic.UNSPECIFIED, pzic.GAP], "NaT", instants)
     instants, statuses = tree["Europe/Dublin"].instant_array(locals, "later")
-    check(instants[[0, 2]].astype("int64").tolist() == [1729992600, 1711848600], "datetime64", instants)
+    check(instants[[0, 2]].astype("datetime64[s]").astype("int64").tolist() == [1729992600, 1711848600], "datetime64", instants)
     given = bytearray(3)
     instants, statuses = tree["Europe/Dublin"].instant_array(locals, "later", statuses=given)
     check(statuses is given and list(given) == [0, pzic.UNSPECIFIED, 0], "statuses in bytes", given)
@@ -617,10 +854,14 @@ def main():
     use_interpreters(folder)
     list_trees(tree)
     tell_releases()
+    tell_links(tree)
     keep_manners(tree, data)
     compare_arithmetic(tree)
+    compare_words()
     look_at_statuses(tree["Europe/Dublin"])
     refuse_arrays(tree["Europe/Dublin"])
+    interrupt_calls(tree)
+    make_pieces(tree)
     tell_local_times(tree)
     form = "in Python" if pzic.Zone.at is _cache.PureSpans.at else "in C"
     print(f"library: Python's objects, {use_pandas(tree)}, what is kept {form}")

@@ -1,10 +1,12 @@
 """Tests the extension of SQLite: `sqlite_local.py TREE EXTENSION`, by Python's sqlite3 and beside Python's zoneinfo.
 
-Zones of a folder and of a source, each function, NULLs, errors, several connections in several threads, and one
+Zones of a folder and of a source, each function, NULLs, errors, indexes over two releases, several connections in several threads, and one
 connection in several.
 """
 
+import os
 import random
+import shutil
 import sqlite3
 import sys
 import tempfile
@@ -20,8 +22,8 @@ NAMES = ["Europe/Dublin", "America/New_York", "Australia/Lord_Howe", "Asia/Kathm
          "America/Nuuk", "Pacific/Apia", "Antarctica/Troll", "Asia/Tokyo", "Etc/UTC"]
 
 
-def connect(path=tree, **words):
-    made = sqlite3.connect(":memory:", **words)
+def connect(path=tree, file=":memory:", **words):
+    made = sqlite3.connect(file, **words)
     made.enable_load_extension(True)
     made.load_extension(extension)
     if path is not None:
@@ -137,6 +139,90 @@ def try_sources():
     made.close()
 
 
+def make_tree(folder, release, zones):
+    """Make a folder of zones, each with the file of another name of the tree."""
+    os.mkdir(folder)
+    for name, other in zones.items():
+        shutil.copy(f"{tree}/{other}", f"{folder}/{name}")
+    if release:
+        with open(f"{folder}/+VERSION", "w") as file:
+            file.write(f"{release}\n")
+    return folder
+
+
+def try_releases():
+    """Try an index and a stored column over a release and a later one, in which the zone X is another."""
+    with tempfile.TemporaryDirectory() as folder:
+        first = make_tree(f"{folder}/1", "2024a", {"X": "Europe/Dublin", "Y": "Asia/Tokyo", "Z": "Etc/UTC"})
+        second = make_tree(f"{folder}/2", "2025b", {"X": "Asia/Tokyo", "Y": "Asia/Tokyo", "W": "Etc/UTC"})
+        untold = make_tree(f"{folder}/3", None, {"X": "Europe/Dublin"})
+        file = f"{folder}/times"
+        made = connect(first, file=file)
+        made.execute("CREATE TABLE e (zone, t, local AS (pzic_local(zone, t)) STORED, release DEFAULT (pzic_release()))")
+        made.execute("CREATE INDEX i ON e (pzic_local(zone, t))")
+        expect_error(made, "pzic_open(?, '2025b')", first, says="the release is 2024a, and not 2025b")
+        try:
+            made.execute("CREATE INDEX j ON e (pzic_release())")
+            sys.exit("sqlite: an index of releases")
+        except sqlite3.OperationalError as error:
+            expect("non-deterministic" in str(error), True, error)
+        made.executemany("INSERT INTO e (zone, t) VALUES ('X', ?)", [(i * 86400,) for i in range(100)])
+        expect(ask(made, "group_concat(DISTINCT release) FROM e"), "2024a", "the release of rows")
+        made.commit()
+        made.close()
+        # The same release may be opened, and no other without a word.
+        made = connect(None, file=file)
+        expect_error(made, "pzic_open(?)", second, says="keeps local times")
+        expect_error(made, "pzic_open(?, (SELECT release FROM e))", second, says="the release is 2025b, and not 2024a")
+        expect_error(made, "pzic_open(?, NULL)", second, says="the release is 2025b, and not unknown")
+        expect_error(made, "pzic_open(?, '2024a')", untold, says="the release is unknown, and not 2024a")
+        expect(ask(made, "pzic_open(?, (SELECT release FROM e))", first), first, "the same release")
+        expect(ask(made, "pzic_release()"), "2024a", "the release")
+        made.close()
+        made = connect(None, file=file)
+        expect(ask(made, "pzic_open(?1, pzic_release(?1))", second), second, "another release, with a word")
+        asked = "SELECT count(*) FROM e {} WHERE pzic_local(zone, t) = '1970-01-01 09:00:00'"
+        expect(made.execute(asked.format("")).fetchone()[0], 0, "a stale index")
+        expect(made.execute(asked.format("NOT INDEXED")).fetchone()[0], 1, "without the index")
+        made.execute("REINDEX")
+        made.execute("UPDATE e SET zone = zone, release = pzic_release()")
+        expect(made.execute(asked.format("")).fetchone()[0], 1, "after REINDEX")
+        expect(ask(made, "count(*) FROM e WHERE local = pzic_local(zone, t) AND release = '2025b'"), 100, "the stored column")
+        expect(ask(made, "group_concat(integrity_check) FROM pragma_integrity_check"), "ok", "the database")
+        made.close()
+        made = connect(untold)
+        expect(ask(made, "pzic_release()"), None, "a tree without a release")
+        expect(ask(made, "pzic_release(?)", f"{folder}/none"), None, "no tree")
+        expect(ask(made, "pzic_open(?, NULL)", untold), untold, "a tree without a release")
+        try_changes(made, first, second)
+        made.close()
+
+
+def try_changes(made, first, second):
+    """Try which zones differ between two trees, and between two sources."""
+    changed = "pzic_zone_changed(?1, ?2, ?3, ?4)"
+    for old, new, name, since, want in (
+            (first, second, "X", 0, 1), (first, second, "Y", 0, 0), (first, second, "Z", 0, 1), (first, second, "W", 0, 1),
+            (first, first, "X", -(2**63), 0), (first, second, "X", None, None), (first, None, "X", 0, None)):
+        expect(ask(made, changed, old, new, name, since), want, (old, new, name, since))
+    expect_error(made, changed, first, second, "V", 0, says="no such zone")
+    expect_error(made, changed, first, second, "../1/X", 0, says="no such zone")
+    expect_error(made, changed, first, second, "+VERSION", 0, says="no TZif file")
+    expect_error(made, changed, first, second, "X", 0.5, says="whole number")
+    expect_error(made, changed, first, "/no/such", "X", 0, says="a folder")
+    with tempfile.TemporaryDirectory() as folder:
+        old, new = f"{folder}/old.zi", f"{folder}/new.zi"
+        for path, until in (old, "2000"), (new, "2001"):
+            with open(path, "w") as file:
+                file.write(f"# version {until}\nZone A 0 - XXX {until}\n1 - YYY\nZone B 0 - XXX\n")
+        # Their local times differ for the year from 2000-01-01 on.
+        for since, want in (-(2**63), 1), (946684800, 1), (978307199, 1), (978307200, 0), (2**63 - 1, 0):
+            expect(ask(made, changed, old, new, "A", since), want, since)
+        expect(ask(made, "group_concat(column1) FROM (VALUES ('A'), ('B')) WHERE pzic_zone_changed(?, ?, column1, 0)", old, new), "A",
+               "zones of sources")
+        expect(ask(made, "pzic_release(?)", new), "2001", "the release of a source")
+
+
 def in_threads(count, work):
     failed = []
 
@@ -175,6 +261,7 @@ try_texts(made)
 try_refusals(made)
 compare(made, 0, 1000)
 try_sources()
+try_releases()
 in_threads(8, in_own_connection)
 shared = connect(check_same_thread=False)
 if sqlite3.threadsafety >= 3 or ask(made, "sqlite_compileoption_used('THREADSAFE=1')"):

@@ -1,6 +1,6 @@
-"""Runs CPython's own tests of zoneinfo over the Python package, by a class that has the constructors of
-zoneinfo.ZoneInfo: `zoneinfo_tests.py`. What is left out stands in LEFT_OUT and PARTS_LEFT_OUT,
-with the reason.
+"""Runs CPython's own tests of zoneinfo over the Python package: `zoneinfo_tests.py TimeZone` by a class over
+pzic.TimeZone that has the constructors of zoneinfo.ZoneInfo, and `zoneinfo_tests.py ZoneInfo` by pzic.ZoneInfo. What is left
+out stands in LEFT_OUT and PARTS_LEFT_OUT, with the reason.
 """
 
 import re
@@ -26,13 +26,13 @@ LEFT_OUT = {
     r"PickleTest\.test_(pickle_after_)?from_file$": "a zone of bytes is pickled by them, and not refused",
 }
 
-#: Parts of tests that are left out, as unittest shows them, and why.
+#: Parts of tests of TimeZone that are left out, as unittest shows them, and why.
 PARTS_LEFT_OUT = {
     r"test_invalid_tzstr .*tzstr='[^']*:\d\D": "minutes and seconds of a footer may have one digit",
     r"test_no_tz_str .*dt=datetime.datetime\(2001": "without a footer, local time is open after the last transition",
 }
 
-#: The names of the zones that were made.
+#: The names of the zones of the package that were made.
 made = set()
 
 
@@ -59,6 +59,16 @@ class ZoneInfo(pzic.TimeZone):
     @classmethod
     def from_file(cls, file, /, key=None):
         return cls(pzic.Zone(file.read()), key)
+
+
+class Recorded(pzic.ZoneInfo):
+    """pzic.ZoneInfo under its name, which notes what is made."""
+
+    __module__, __qualname__ = "zoneinfo", "ZoneInfo"
+
+    def __new__(cls, key):
+        made.add(key)
+        return super().__new__(cls, key)
 
 
 def give_header(tests):
@@ -97,9 +107,13 @@ def tests_of(suite):
 
 def main():
     module = Module("zoneinfo")
-    module.ZoneInfo = ZoneInfo
-    module.ZoneInfoNotFoundError = pzic.NoSuchZone
-    test_zoneinfo.TZStrTest.populate_tzstr_header = classmethod(give_header)
+    if sys.argv[1] == "TimeZone":
+        module.ZoneInfo = ZoneInfo
+        module.ZoneInfoNotFoundError = pzic.NoSuchZone
+        test_zoneinfo.TZStrTest.populate_tzstr_header = classmethod(give_header)
+    else:
+        module.ZoneInfo = Recorded
+        PARTS_LEFT_OUT.clear()
     kept, left = unittest.TestSuite(), Counter()
     for test in tests_of(unittest.defaultTestLoader.loadTestsFromModule(test_zoneinfo)):
         type(test).module = module
@@ -115,7 +129,7 @@ def main():
     passed = count - len(result.skipped)
     if not made:
         sys.exit("library: Python: the tests made no zone of the package")
-    print(f"library: {passed} tests of CPython's zoneinfo pass, without {result.parts} parts of them; "
+    print(f"library: {passed} tests of CPython's zoneinfo pass by {sys.argv[1]}, without {result.parts} parts of them; "
           f"{sum(left.values())} are left out, {len(result.skipped)} skipped")
     sys.exit(not result.wasSuccessful())
 

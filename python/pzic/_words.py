@@ -1,0 +1,44 @@
+"""The words that calls may be given."""
+
+from __future__ import annotations
+
+from typing import Any, Dict, Literal, get_args
+
+#: What to take for a local time in a gap or in a fold.
+Ambiguous = Literal["reject", "earlier", "later", "compatible"]
+#: What the field of a time is.
+Source = Literal["count", "rfc3339", "local"]
+#: What a count of time is of.
+Unit = Literal["s", "ms", "us", "ns"]
+#: What ends a record.
+Records = Literal["csv", "lines"]
+#: How local time is written.
+Style = Literal["fields", "iso"]
+#: What stray double quotes are.
+Quotes = Literal["strict", "lenient"]
+#: A part of local time that isn't compared.
+Part = Literal["daylight", "abbreviation"]
+#: What becomes of a row that has no answer.
+Errors = Literal["raise", "coerce"]
+
+#: The numbers of the words, as the library has them.
+AMBIGUOUS: Dict[str, int] = {"reject": 0, "earlier": 1, "later": 2, "compatible": 3}
+UNITS: Dict[str, int] = {"s": 0, "ms": 1, "us": 2, "ns": 3}
+RECORDS: Dict[str, int] = {"csv": 0, "lines": 1}
+STYLES: Dict[str, int] = {"fields": 0, "iso": 1}
+QUOTES: Dict[str, int] = {"strict": 0, "lenient": 1}
+
+
+def number_of(word: str, numbers: Dict[str, int], what: str) -> int:
+    """Return the number of a word, or raise :class:`ValueError`."""
+    number = numbers.get(word)
+    if number is None:
+        raise ValueError(f"no {what} {word!r}: it is one of {', '.join(numbers)}")
+    return number
+
+
+def word_of(word: str, kind: Any, what: str) -> str:
+    """Return a word that a type has, or raise :class:`ValueError`."""
+    if word not in get_args(kind):
+        raise ValueError(f"no {what} {word!r}: it is one of {', '.join(get_args(kind))}")
+    return word

@@ -1,0 +1,25 @@
+"""Calls of the Python package, for mypy alone: each error that is ignored here must be one."""
+
+from typing import List
+
+import pzic
+
+tree = pzic.Tree.open("zones")
+zone: pzic.Zone = tree["Europe/Dublin"]
+instant: int = zone.instant(0, "later")
+rows: bytes = tree.convert(b"", unit="ms", keep_going=True)
+told: pzic.Rows = pzic.Compiled().rows(b"", source="local", ambiguous="compatible")
+lines: bytes = tree.diff(tree, ignore=["daylight"], summary=True)
+names: List[str] = tree.aliases("Europe/Dublin")
+of_pandas: pzic.ZoneInfo = tree.zoneinfo("Europe/Dublin")
+
+zone.instant(0, "rejct")  # type: ignore[arg-type]
+zone.instant_array([0], ambiguous="first")  # type: ignore[arg-type]
+tree.convert(b"", unit="h")  # type: ignore[arg-type]
+tree.convert(b"", uint="ms")  # type: ignore[call-arg]
+tree.rows("", keep_going=True)  # type: ignore[arg-type]
+pzic.Compiled().rows(b"", ambiguous="rejct")  # type: ignore[arg-type]
+pzic.Layout(style="isso")  # type: ignore[arg-type]
+pzic.Layout(records="rows", quotes="none", source="time")  # type: ignore[arg-type]
+tree.diff(tree, ignore=["offset"])  # type: ignore[list-item]
+tree.diff(tree, year=1900)  # type: ignore[call-arg]
