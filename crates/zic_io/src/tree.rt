@@ -9,7 +9,7 @@ use crate::list_file::folder_of;
 use crate::sources::path_in;
 use std::alloc::{AllocError, AllocFailed, Global};
 use std::collections::HashSet;
-use std::fs::{self, File, Files as FileSystem, Metadata, OpenFile};
+use std::fs::{self, File, Files as FileSystem, OpenFile};
 use std::io::{self, ErrorKind, Read, Write};
 use std::os::unix::fs::{MetadataExt, symlink};
 
@@ -108,18 +108,7 @@ pub enum Durability {
     Synced,
 }
 
-/// Whose a file is, and who may read and write it.
-#[derive(Clone, Copy, PartialEq, Eq)]
-struct Rights {
-    user: u32,
-    group: u32,
-    mode: u32,
-}
-
 /// A tree in a file system, about whose files and links no contract says anything.
-///
-/// A file that has the bytes already is left as it is, unless the run would make it another user's or
-/// give it other permissions. The first file of a run is always made, and shows which these are.
 ///
 /// Several runs may place files in one tree at the same time: each file is that of one of them, and
 /// whole. Each run has temporary names of its own. What a run that was ended left is removed
@@ -132,8 +121,6 @@ pub struct Disk<'a, F> {
     /// The number in temporary names.
     number: u64,
     durability: Durability,
-    /// The rights of a file that the run made. `None` before the first.
-    rights: Option<Rights>,
     /// The folders that were entered.
     folders: HashSet<String>,
     /// The folders in which names are to be synced.
@@ -169,7 +156,6 @@ impl<'a, F: FileSystem> Disk<'a, F> {
             system,
             number,
             durability,
-            rights: None,
             folders: HashSet::new(alloc),
             unsynced: HashSet::new(alloc),
         }
@@ -297,38 +283,6 @@ impl<'a, F: FileSystem> Disk<'a, F> {
         Err(Unplaced::Refused)
     }
 
-    /// Returns whether a file of these bytes has the path, as the run would make it.
-    fn has(&self, path: &str, bytes: &[u8]) -> bool {
-        match fs::symlink_metadata(self.system, path) {
-            Ok(found) if found.is_file() && Some(rights_of(&found)) == self.rights => {
-                self.holds(path, bytes).unwrap_or(false)
-            }
-            _ => false,
-        }
-    }
-
-    /// Returns whether a file holds these bytes and no others. Has the system write it to its disk if
-    /// files are synced.
-    fn holds(&self, path: &str, bytes: &[u8]) -> io::Result<bool> {
-        let mut file = File::open(self.system, path)?;
-        if !gives(&mut file, bytes)? {
-            return Ok(false);
-        }
-        if self.durability == Durability::Synced {
-            file.sync_all()?;
-        }
-        Ok(true)
-    }
-
-    /// Takes note of the rights of a file that the run made, if it is the first.
-    fn note_rights(&mut self, path: &str) {
-        if self.rights.is_none() {
-            if let Ok(made) = fs::symlink_metadata(self.system, path) {
-                self.rights = Some(rights_of(&made));
-            }
-        }
-    }
-
     /// Writes the bytes under the temporary name, and then renames that to the path.
     fn write(&self, temporary: &str, path: &str, bytes: &[u8]) -> io::Result<Written> {
         let file = match File::create_new(self.system, temporary) {
@@ -402,41 +356,12 @@ impl<'a, F: FileSystem> Disk<'a, F> {
 
 impl<'a, F: FileSystem> Tree for Disk<'a, F> {
     fn place(&mut self, path: &str, bytes: &[u8]) -> Result<(), Unplaced> {
-        if self.has(path, bytes) {
-            return self.enter(parent(path));
-        }
-        self.make(path, Content::Bytes(bytes))?;
-        self.note_rights(path);
-        Ok(())
+        self.make(path, Content::Bytes(bytes))
     }
 
     fn link(&mut self, kind: LinkKind, target: &str, path: &str) -> Result<(), Unplaced> {
         self.make(path, Content::Link(kind, target))
     }
-}
-
-/// Returns the rights of a file.
-fn rights_of(file: &Metadata) -> Rights {
-    Rights {
-        user: file.uid(),
-        group: file.gid(),
-        mode: file.mode(),
-    }
-}
-
-/// Returns whether a reader gives these bytes and no others.
-fn gives<R: Read>(reader: &mut R, bytes: &[u8]) -> io::Result<bool> {
-    let mut block = [0; BLOCK];
-    let mut rest = bytes;
-    for _ in 0..u64::MAX {
-        let count = reader.read(&mut block)?;
-        match rest.strip_prefix(&block[..count]) {
-            Some(_) if count == 0 => return Ok(rest.is_empty()),
-            Some(left) => rest = left,
-            None => return Ok(false),
-        }
-    }
-    Ok(false)
 }
 
 /// Returns what came of a file or a link that can't be made for this reason.
