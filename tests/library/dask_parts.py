@@ -173,8 +173,8 @@ def of_another_release(source, work):
     except ImportError:
         return
     folder = f"{work}/changing"
-    tree = pzic.Tree(folder)
     os.mkdir(folder)
+    tree = pzic.Tree(folder)
     compiled = pzic.Tree.compile(source)
 
     def place(like):
