@@ -190,7 +190,7 @@ def _seconds_of(text: Optional[str]) -> int:
 
 
 def _days_of(text: str, shift: int) -> List[_Days]:
-    """Return the days that are so many days after those of a rule, as ``M10.4.4``, ``J60`` or ``59``."""
+    """Return the days that are this number of days after those of a rule, as ``M10.4.4``, ``J60`` or ``59``."""
     if text.startswith("M"):
         month, week, weekday = map(int, text[1:].split("."))
         return _days_of_month(month, week, (weekday + shift) % 7, shift)
@@ -200,7 +200,7 @@ def _days_of(text: str, shift: int) -> List[_Days]:
     if shift == 0:
         date = datetime.date(2001, 1, 1) + datetime.timedelta(days=day - 1)
         return [_Days(date.month, (date.day,), None)]
-    # February 29 isn't counted: later days are so many before the end of the year.
+    # February 29 isn't counted: later days are counted from the end of the year.
     return [_year_day(day + shift) if day < 60 else _Days(None, (day - 366 + shift + (day + shift >= 366),), None)]
 
 
@@ -210,7 +210,7 @@ def _year_day(number: int) -> _Days:
 
 
 def _days_of_month(month: int, week: int, weekday: int, shift: int) -> List[_Days]:
-    """Return the days that are so many days after those of a week of a month. The weekday is that of these days."""
+    """Return the days that are this number of days after those of a week of a month, and have this weekday."""
     by_month: Dict[int, List[int]] = {}
     following, earlier = month % 12 + 1, (month - 2) % 12 + 1
     if week == 5:

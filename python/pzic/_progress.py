@@ -9,7 +9,7 @@ class HasUpdate(Protocol):
     """What has a bar of progress, as ``tqdm``."""
 
     def update(self, n: int) -> Any:
-        """Take that so many more are done."""
+        """Note that this number more are done."""
 
 
 #: Told, after each piece, how many more are done: a function, or a bar of progress.
