@@ -4,7 +4,7 @@
 use crate::samples::{expect_text, must};
 use zic_base::{Kind, RowKind};
 use zic_explain::{entries, expectation, shown_word};
-use zic_places::{QuotedLines, RecordForm, line_place, nearest_zone, quote_place, row_place};
+use zic_failures::{QuotedLines, RecordForm, line_place, nearest_zone, quote_place, row_place};
 use zic_plan::{TimeFrom, Unit};
 
 /// Two fields with a comma between them: the name of a zone and seconds.

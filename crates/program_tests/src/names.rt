@@ -51,7 +51,7 @@ fn names_among_other_bytes_are_found(rt: HostRuntime) {
             expect(&rt, 4 <= end && end <= bytes.len(), "the bytes");
             expect(
                 &rt,
-                ready.find_at(&bytes, 4, end) == *want,
+                ready.find_at(&bytes, 4, end, usize::MAX) == *want,
                 "the number of a file",
             );
         }

@@ -76,6 +76,7 @@ fn push(
                 time,
                 state,
                 style: Style::Fields,
+                delimiter: b',',
             };
             must(rt, text.push_row(bytes, start, end, &rest));
             return;
@@ -142,10 +143,29 @@ fn what_is_no_quick_time(rt: HostRuntime) {
 }
 
 #[test]
-fn commas_make_way_for_another_delimiter(rt: HostRuntime) {
+fn rows_with_another_delimiter(rt: HostRuntime) {
+    let state = StateText::new(State {
+        offset: 19_800,
+        daylight: false,
+        name: b"IST",
+    });
     let mut text = RowText::new(rt.alloc());
-    must(&rt, text.push(b"a,b;c\nd,e;f\n"));
-    let second_line = text.len().min(6);
-    text.exchange(second_line, b';');
-    expect_text(&rt, text.bytes(), b"a,b;c\nd;e,f\n", "the second line");
+    for style in [Style::Fields, Style::Iso] {
+        if let Some(time) = quick_time(b"951782400", 0, 9, Unit::Second) {
+            let rest = RowRest {
+                time,
+                state: &state,
+                style,
+                delimiter: b';',
+            };
+            must(&rt, text.push_field(b"Asia/Kolkata", 0, 12, b';'));
+            must(&rt, text.push_row(b"951782400", 0, 9, &rest));
+        }
+    }
+    expect_text(
+        &rt,
+        text.bytes(),
+        b"Asia/Kolkata;951782400;2000-02-29T05:30:00;+05:30:00;0;IST\nAsia/Kolkata;951782400;2000-02-29T05:30:00+05:30;0;IST\n",
+        "rows with semicolons",
+    );
 }

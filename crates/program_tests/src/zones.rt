@@ -80,7 +80,7 @@ fn push(rt: &impl Abort, text: &mut RowText, files: &Files, zones: &RowZones<'_>
     let comma = record.iter().take_while(|byte| **byte != b',').count();
     let (start, end) = (comma.saturating_add(1), record.len());
     if comma <= end && start <= end {
-        let found = zones.find_at(record, 0, comma);
+        let found = zones.find_at(record, 0, comma, usize::MAX);
         let time = quick_time(record, start, end, Unit::Second);
         if let (Some(file), Some(time)) = (found, time) {
             if file < files.len() {
@@ -89,6 +89,7 @@ fn push(rt: &impl Abort, text: &mut RowText, files: &Files, zones: &RowZones<'_>
                         time,
                         state,
                         style: Style::Fields,
+                        delimiter: b',',
                     };
                     must(rt, text.push_row(record, 0, end, &rest));
                     return;

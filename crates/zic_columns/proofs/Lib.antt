@@ -26,7 +26,6 @@ pub mod RecordCounts
 pub mod Passing
 pub mod QuoteFacts
 pub mod FieldFacts
-pub mod Exchanges
 pub mod OwnFacts
 pub mod OwnLens
 pub mod PieceRecords

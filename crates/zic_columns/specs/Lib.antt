@@ -1,7 +1,6 @@
 pub mod Column
 pub mod Record
 pub mod Round
-pub mod Exchange
 pub mod Own
 pub mod Quotes
 pub mod Lines

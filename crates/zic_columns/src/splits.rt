@@ -12,7 +12,7 @@ use std::marker::Model;
 use zic_plan::Delimiter;
 
 /// The most records that are split together.
-pub const BATCH: usize = 256;
+pub const BATCH: usize = 64;
 
 /// Divides a piece into records, some at a time. Clauses see the delimiter, the bytes of the piece, the
 /// fields that rows need, and the records to come.

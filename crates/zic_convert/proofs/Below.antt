@@ -82,9 +82,9 @@ module _ (layout : Layout) (releases : Releases) (most : ℕ) (limit : Option �
   ends_below stop.LogFailed w = lines_below stop.LogFailed w
 
 -- one of the two lines of a header has no byte
-one_line : (start : RowStart) (names : List ℕ) (header : Header) (d : ℕ) (line own : List ℕ) → (names_of start header line ≡ []) ⊎ (header_of start names d own ≡ [])
-one_line starts.Fields names header d line own = inr refl
-one_line starts.Record names header d line own = inl refl
+one_line : (start : RowStart) (names : List ℕ) (header : Header) (line own : List ℕ) → (names_of start header line ≡ []) ⊎ (header_of start names own ≡ [])
+one_line starts.Fields names header line own = inr refl
+one_line starts.Record names header line own = inl refl
 
 -- ---- below the line of names
 
@@ -125,7 +125,7 @@ module _ (layout : Layout) (releases : Releases) (most : ℕ) (limit : Option �
 
     lines_after_names : EndsAfterLines layout releases most limit (own_line layout column) row_records why (output mid new log last)
         → EndsAfterLines layout releases most limit (header_text layout column) row_records why (output old new log last)
-    lines_after_names w = elim (one_line layout.start (names_added layout) layout.header layout.delimiter _ _) [
+    lines_after_names w = elim (one_line layout.start (names_added layout) layout.header _ _) [
       | inl none ↦ no_names (names_line layout) (own_line layout column) begun none w
       | inr none ↦ no_own (names_line layout) (own_line layout column) begun none w
     ]

@@ -1,6 +1,6 @@
 -- What can stand between fields is no double quote and ends no line.
 use Rattle.std.proofs.Common.{◌≡◌, ◌≢◌, ◌==◌, ℕ, Bool, true, false, not, refl}
-use Rattle.std.specs.Prelude.{nat_lt, ◌&&◌, ◌||◌}
+use Rattle.std.specs.Prelude.{◌||◌}
 use Rattle.std.proofs.lemmas.Bool.{and_parts, eqb-false}
 use Rattle.zic_columns.specs.Column.{CanDelimit}
 use Rattle.zic_plan.specs.Delimiter.{is_csv_byte, is_delimiter}

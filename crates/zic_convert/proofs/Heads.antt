@@ -1,12 +1,11 @@
 -- The header before rows, and the rows of a column after it.
-use Rattle.std.proofs.Common.{◌≡◌, ◌∙◌, ◌⊎◌, ℕ, true, List, [], ◌∷◌, Option, Some, None, drop, map, take, inl, inr, refl, sym, ap, ap₂, subst}
+use Rattle.std.proofs.Common.{◌≡◌, ◌∙◌, ◌⊎◌, ℕ, List, [], ◌∷◌, Option, Some, None, drop, take, inl, inr, refl, sym, ap, ap₂, subst}
 use Rattle.std.proofs.lemmas.List.{append-nil}
 use Rattle.std.specs.Io.{StartsWith}
 use Rattle.std.specs.Io.KnownBytes.{Appends}
 use Rattle.std.specs.Prelude.{IfErr, IfOk, IfSome, Result, Ok, Err, option_map}
 use Rattle.csv.specs.Reading.{strip_bom}
 use Rattle.csv.proofs.WriteFacts.{appends-none}
-use Rattle.zic_columns.specs.Lines.{records_by}
 use Rattle.zic_columns.specs.Own.{CsvRecord}
 use Rattle.zic_columns.specs.Round.{BeginsTooLong}
 use Rattle.zic_counted.specs.Counts.{Counts}
@@ -69,11 +68,11 @@ module _ {W : Type 0} (contents : W → Option (List ℕ)) where
   module _ (old new : Counts W) (layout : Layout) (files : List File) (known : Option (List ℕ)) where
     -- a header was not written whole
     pub halts_before : (own : List ℕ) → IfSome known (λ bytes. own ≡ header_read layout bytes) → IfSome known (λ bytes. fault_read layout files bytes ≡ None) → (why : RunStop)
-        → EndsAtHead contents old new (header_of layout.start (names_added layout) layout.delimiter own) why → HaltsAtHead contents old new layout files known (halt.Stop why)
+        → EndsAtHead contents old new (header_of layout.start (names_added layout) own) why → HaltsAtHead contents old new layout files known (halt.Stop why)
     halts_before own is none stop.WriteFailed fails = (
       fails.failed,
       if_some known _ (λ column e. (
-        subst (λ (l : List ℕ). FailsWithin contents old new (header_of layout.start (names_added layout) layout.delimiter l)) (for_some known _ column is e) fails,
+        subst (λ (l : List ℕ). FailsWithin contents old new (header_of layout.start (names_added layout) l)) (for_some known _ column is e) fails,
         for_some known _ column none e,
       )),
     )
@@ -204,7 +203,7 @@ module _ (layout : Layout) (most : ℕ) (limit : Option ℕ) (known inside : Opt
 
   -- the rest of a column was converted, once its header was written
   module _ (releases : Releases) (left : Option (List ℕ)) (old mid new : Option (List ℕ)) (log last : Option (List RowNote))
-      (begins : IfSome inside (λ bytes. BeginsRows layout bytes left)) (head : IfSome inside (λ bytes. Appends old mid (header_of layout.start (names_added layout) layout.delimiter (header_read layout bytes)))) where
+      (begins : IfSome inside (λ bytes. BeginsRows layout bytes left)) (head : IfSome inside (λ bytes. Appends old mid (header_of layout.start (names_added layout) (header_read layout bytes)))) where
     begun_as : (P : List CsvRecord → Type 0) (Q : List ℕ → List CsvRecord → Type 0)
         → ((column : List ℕ) (row_records : List CsvRecord) → Appends old mid (own_line layout column) → P row_records → Q column row_records)
         → IfSome left (λ bytes. P (records_left layout bytes)) → IfSome known (λ column. (row_records : List CsvRecord) × AreRowRecords layout column row_records × Q column row_records)

@@ -4,7 +4,6 @@ pub mod Delimited
 pub mod Ends
 pub mod Fronts
 pub mod Halts
-pub mod Headers
 pub mod HeaderFaults
 pub mod Heads
 pub mod InMemory

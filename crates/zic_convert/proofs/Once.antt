@@ -5,7 +5,6 @@ use Rattle.std.specs.Cmp.Lexicographic.{bytes_decides}
 use Rattle.std.proofs.lemmas.Bool.{cases_Bool}
 use Rattle.std.proofs.lemmas.List.Elements.{All-contains}
 use Rattle.std.proofs.lemmas.Option.{same_Some}
-use Rattle.zic_columns.specs.Exchange.{exchanged}
 use Rattle.zic_columns.specs.Own.{CsvRecord}
 use Rattle.zic_columns.specs.Laws.{RecordsAreOne}
 use Rattle.zic_tzif.specs.Answer.{Answers}
@@ -66,8 +65,8 @@ module _ (answers : FilesAnswerOnce) (files : List File) (sound : AreSoundFiles 
       let other = subst (λ (n : ℤ). Answers a.file.image.content (second_of layout.unit n) (Some b.state)) (sym count) there in
       let state = same_Some a.state b.state (answers.only a.file.image.octets a.file.image.content is.read (second_of layout.unit a.count) (Some a.state) (Some b.state) a.answers other) in
       let start : start_text layout row_record.own a.file.name a.input ≡ start_text layout row_record.own b.file.name b.input = rw (file, input) refl in
-      let rest : rest_by layout.style layout.from layout.unit a.count a.state ≡ rest_by layout.style layout.from layout.unit b.count b.state = rw (count, state) refl in
-      a.is ∙ ap₂ (λ (x y : List ℕ). x ++ exchanged layout.delimiter y) start rest ∙ sym b.is
+      let rest : rest_by layout.delimiter layout.style layout.from layout.unit a.count a.state ≡ rest_by layout.delimiter layout.style layout.from layout.unit b.count b.state = rw (count, state) refl in
+      a.is ∙ ap₂ (λ (x y : List ℕ). x ++ y) start rest ∙ sym b.is
 
   -- files answer a record once
   one_answer_by : (layout : Layout) (row_record : CsvRecord) (t u : List ℕ) → IsAnswerBy layout files row_record t → IsAnswerBy layout files row_record u → t ≡ u
@@ -81,8 +80,8 @@ module _ (answers : FilesAnswerOnce) (files : List File) (sound : AreSoundFiles 
       let there = subst (λ (f : File). Answers f.image.content (second_of layout.unit b.count) (Some b.state)) (sym file) b.answers in
       let other = subst (λ (n : ℤ). Answers a.file.image.content (second_of layout.unit n) (Some b.state)) (sym count) there in
       let state = same_Some a.state b.state (answers.only a.file.image.octets a.file.image.content is.read (second_of layout.unit a.count) (Some a.state) (Some b.state) a.answers other) in
-      let rest : rest_by layout.style layout.from layout.unit a.count a.state ≡ rest_by layout.style layout.from layout.unit b.count b.state = rw (count, state) refl in
-      a.is ∙ ap (exchanged layout.delimiter) rest ∙ sym b.is
+      let rest : rest_by layout.delimiter layout.style layout.from layout.unit a.count a.state ≡ rest_by layout.delimiter layout.style layout.from layout.unit b.count b.state = rw (count, state) refl in
+      a.is ∙ rest ∙ sym b.is
 
   one_answer : (layout : Layout) (fault : Option RowKind) (row_record : CsvRecord) (t u : List ℕ) → IsAnswerAt layout files fault row_record t → IsAnswerAt layout files fault row_record u → t ≡ u
   one_answer layout None row_record t u a b = one_answer_by layout row_record t u a b

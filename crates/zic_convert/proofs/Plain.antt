@@ -1,29 +1,22 @@
 -- Records of two plain fields, by a layout.
-use Rattle.zic_plan.specs.Delimiter.{exchange}
 use Rattle.std.proofs.Common.{◌≡◌, ◌+◌, ◌==◌, ℕ, ℤ, Bool, true, false, List, [], ◌∷◌, ◌++◌, length, Option, Some, None, Result, Ok, append_assoc, refl, sym, ap, subst, ◌∙◌, arith, drop}
 use Rattle.std.specs.Prelude.{◌↔◌, is_some, nat_le, option_map}
 use Rattle.std.specs.Fmt.{signed_decimal}
 use Rattle.std.proofs.Math.Bool.{and-true}
 use Rattle.std.proofs.lemmas.Bool.{eqb-true, ne_eqb}
-use Rattle.std.proofs.lemmas.List.{map-append}
 use Rattle.csv.specs.Reading.{strip_bom}
 use Rattle.zic_base.specs.Check.{check, first_failed}
 use Rattle.zic_base.specs.State.{Shown}
 use Rattle.zic_base.specs.declared.row_fault.RowKind.{RowKind}
 use Rattle.zic_base.specs.declared.row_fault.RowKind.TheVariants as kind
-use Rattle.zic_columns.proofs.Exchanges.{comma_exchanged}
 use Rattle.zic_columns.proofs.PieceRecords.{wholes_fields}
 use Rattle.zic_columns.specs.Column.{AreColumnRecords, column_records}
-use Rattle.zic_columns.specs.Exchange.{exchanged}
 use Rattle.zic_columns.specs.Laws.{ColumnRecordsAreRead, RecordsAreOne}
-use Rattle.zic_columns.specs.Lines.{records_by}
 use Rattle.zic_columns.specs.Own.{CsvRecord, csv_records}
 use Rattle.zic_files.specs.File.{File}
 use Rattle.zic_plan.specs.Layout.{HasPlainRows, records_before}
 use Rattle.zic_plan.specs.declared.layout.Header.TheVariants as header
 use Rattle.zic_plan.specs.declared.layout.Layout.{Layout}
-use Rattle.zic_plan.specs.declared.layout.Records.TheVariants as by
-use Rattle.zic_plan.specs.declared.layout.RowStart.TheVariants as starts
 use Rattle.zic_plan.specs.declared.layout.Style.TheVariants as styles
 use Rattle.zic_plan.specs.declared.layout.Unit.{Unit}
 use Rattle.zic_plan.specs.declared.layout.Written.{Written}
@@ -62,19 +55,17 @@ two_fields (a ∷ b ∷ []) e = (a, b, refl)
 two_fields (a ∷ b ∷ c ∷ rest) e = absurd (omega (arith, e))
 
 -- the text of a row, in the two parts in which it is written
-pub row_in_parts : (u : Unit) (name : List ℕ) (count : ℤ) (state : Shown) → (name ++ 44 ∷ signed_decimal count) ++ counted_rest_text styles.Fields u count state ≡ counted_row_text u name count state
+pub row_in_parts : (u : Unit) (name : List ℕ) (count : ℤ) (state : Shown) → (name ++ 44 ∷ signed_decimal count) ++ counted_rest_text 44 styles.Fields u count state ≡ counted_row_text u name count state
 unfolding counted_row_text
-row_in_parts u name count state = append_assoc name (44 ∷ signed_decimal count) (counted_rest_text styles.Fields u count state)
+row_in_parts u name count state = append_assoc name (44 ∷ signed_decimal count) (counted_rest_text 44 styles.Fields u count state)
 
 module _ (layout : Layout) (plain : HasPlainRows layout) (files : List File) where
   -- the text of a row that begins with a name and an instant, with commas
   plain_row_text : (own name : List ℕ) (count : ℤ) (state : Shown)
-      → start_text layout own name count ++ exchanged layout.delimiter (rest_by layout.style layout.from layout.unit count state) ≡ row_text name count state
+      → start_text layout own name count ++ rest_by layout.delimiter layout.style layout.from layout.unit count state ≡ row_text name count state
   plain_row_text own name count state =
       rw (plain.start, plain.style, plain.delimiter, plain.from, plain.unit)
-      (sym (map-append (exchange 44) (name ++ 44 ∷ signed_decimal count) (counted_rest_text styles.Fields unit.Second count state))
-      ∙ ap (exchanged 44) (row_in_parts unit.Second name count state)
-      ∙ comma_exchanged (counted_row_text unit.Second name count state) ∙ counted_seconds name count state)
+      (row_in_parts unit.Second name count state ∙ counted_seconds name count state)
 
   -- the count of a field is that of an instant
   plain_count : (file : Option File) (count : Option ℤ) → ok_count (time_by layout file count) ≡ count
@@ -142,7 +133,7 @@ module _ (layout : Layout) (plain : HasPlainRows layout) (files : List File) whe
         state = is.state;
         answers = subst (λ (t : ℤ). Answers is.file.image.content t (Some is.state)) (sym same) (rw (plain.unit, second_one is.count) at is.answers);
         is = is.is
-            ∙ ap (λ (t : ℤ). start_text layout row_record.own is.file.name is.input ++ exchanged layout.delimiter (rest_by layout.style layout.from layout.unit t is.state)) (sym same)
+            ∙ ap (λ (t : ℤ). start_text layout row_record.own is.file.name is.input ++ rest_by layout.delimiter layout.style layout.from layout.unit t is.state) (sym same)
             ∙ plain_row_text row_record.own is.file.name is.input is.state;
       }
 

@@ -1,7 +1,7 @@
 -- Rows by the files that are known, and by other files that may be.
 use Rattle.std.proofs.Common.{◌≡◌, ◌≢◌, ◌∙◌, ◌+◌, ℕ, ℤ, Bool, true, false, List, [], ◌∷◌, ◌++◌, map, Option, Some, None, Result, ap, ap₂, refl, sym, subst, arith}
 use Rattle.std.specs.Prelude.{All, AllPairs, Contains, bytes_eq, is_some, nat_le, option_map, length, if◌then◌else◌}
-use Rattle.std.proofs.lemmas.List.Elements.{All-contains, All-cons, All-head, All-tail}
+use Rattle.std.proofs.lemmas.List.Elements.{All-cons, All-head, All-tail}
 use Rattle.std.proofs.lemmas.Option.{same_Some}
 use Rattle.std.proofs.lemmas.Slice.Eq.{bytes_eq-Decides}
 use Rattle.zic_base.proofs.Elements.{contained_passes, get_contained, one_that_passes}
@@ -27,12 +27,12 @@ use Rattle.zic_plan.specs.declared.layout.Written.{Written}
 use Rattle.zic_plan.specs.declared.layout.Written.TheVariants as written
 use Rattle.zic_zones.specs.declared.releases.Releases.{Releases}
 use Rattle.zic_convert.proofs.Sounds.{old_agree}
-use Rattle.zic_zones.specs.Zones.{Agree, ReleasesAgree, field_at, is_named, number_of, zone_in}
+use Rattle.zic_zones.specs.Zones.{Agree, ReleasesAgree, is_named, number_of, zone_in}
 use Rattle.zic_layout_rows.specs.Rows.{is_closed, is_row_instant}
 use Rattle.zic_layout_rows.specs.LayoutRows.{RecordsConvertBy, IsAnswer, IsAnswerAt, IsAnswerBy, IsRowAt, IsRowBy, IsTextBy, IsWrittenAt, admits_stray, old_files, count_in, ending, ends_by, fault_by, faults_by, file_at, file_named, noted, time_by, ok_count, err_fault}
 use Rattle.zic_convert.specs.code.Row.{fields_of_all}
 use Rattle.zic_layout_rows.specs.PieceRows.{AreRowsOf, RowsOf}
-use Rattle.zic_layout_rows.proofs.PutBack.{among}
+use Rattle.zic_layout_rows.proofs.MadeTexts.{among}
 use Rattle.zic_layout_rows.proofs.RowFaults.{found, named, unnamed}
 
 both_or_none : (a b : Bool) → (a ≡ true → b ≡ true) → (b ≡ true → a ≡ true) → a ≡ b

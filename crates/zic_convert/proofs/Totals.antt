@@ -7,7 +7,6 @@ use Rattle.std.proofs.lemmas.List.{append-nil}
 use Rattle.std.proofs.lemmas.List.Elements.{All-contains}
 use Rattle.zic_base.specs.Check.{check, first_failed}
 use Rattle.zic_rows.specs.Count.{second_of}
-use Rattle.zic_columns.specs.Exchange.{exchanged}
 use Rattle.zic_columns.specs.Own.{CsvRecord}
 use Rattle.zic_columns.specs.Round.{may_have}
 use Rattle.zic_files.specs.File.{File}
@@ -23,7 +22,7 @@ use Rattle.zic_layout_rows.specs.Rows.{is_row_instant}
 use Rattle.zic_layout_rows.specs.LayoutRows.{RecordsConvertBy, IsAnswer, IsAnswerAt, IsRowAt, IsRowBy, IsTextBy, IsWrittenAt, empty_fields, old_files, with_answer, count_in, ends_by, fault_by, faulty_text, has_right_quotes, instant_by, rest_by, start_text, time_by, time_in, ok_count, err_fault}
 use Rattle.zic_layout_rows.specs.PieceRows.{AreRowsOf, RowsOf}
 use Rattle.zic_layout_rows.proofs.Coming.{come_after, come_more}
-use Rattle.zic_layout_rows.proofs.PutBack.{among}
+use Rattle.zic_layout_rows.proofs.MadeTexts.{among}
 use Rattle.zic_layout_rows.proofs.RowFaults.{found}
 use Rattle.zic_convert.proofs.Sounds.{IsKnown}
 
@@ -75,7 +74,7 @@ module _ (layout : Layout) (files : List File) (most : ℕ) (known : All IsKnown
       let (count, at) = the_count time says in
       let (input, said, means) = input_in row_record.fields n file count number got at in
       let (state, answers) = All-contains IsKnown files file known has (second_of layout.unit count) in (
-        start_text layout row_record.own file.name input ++ exchanged layout.delimiter (rest_by layout.style layout.from layout.unit count state),
+        start_text layout row_record.own file.name input ++ rest_by layout.delimiter layout.style layout.from layout.unit count state,
         record {
           file = file;
           among = has;
@@ -103,7 +102,7 @@ module _ (layout : Layout) (files : List File) (most : ℕ) (known : All IsKnown
     by_fault : (fault : Option RowKind) → fault_by layout files most number row_record ≡ fault → (answer : List ℕ) × IsAnswerAt layout files fault row_record answer
     by_fault None e =
         let (text, is) = have_text number row_record e in (
-          exchanged layout.delimiter (rest_by layout.style layout.from layout.unit is.count is.state),
+          rest_by layout.delimiter layout.style layout.from layout.unit is.count is.state,
           record {
             file = is.file;
             among = is.among;

@@ -1,9 +1,8 @@
 -- The rows of a column.
-use Rattle.std.specs.Prelude.{◌≡◌, ℕ, ◌+◌, min, codes, List, [], ◌∷◌, ◌++◌, drop, length, Option, None, option_map}
-use Rattle.std.specs.List.{concat}
+use Rattle.std.specs.Prelude.{◌≡◌, ℕ, ◌+◌, min, codes, List, [], ◌∷◌, ◌++◌, drop, length, map, Option, None, option_map}
+use Rattle.std.specs.List.{concat, flat_map}
 use Rattle.csv.specs.Reading.{strip_bom}
 use Rattle.zic_columns.specs.Column.{AreColumnRecords}
-use Rattle.zic_columns.specs.Exchange.{exchanged}
 use Rattle.zic_columns.specs.Lines.{records_by, texts_by}
 use Rattle.zic_columns.specs.Own.{CsvRecord, first_text}
 use Rattle.zic_columns.specs.Truncated.{truncated}
@@ -78,46 +77,42 @@ pub record ConvertsBy (releases : Releases) (layout : Layout) (most : ℕ) (colu
   pub are : AreRowRecords layout column row_records
   pub rows : RecordsConvertBy layout releases most 1 row_records texts fault
 
--- the names of the fields of rows that begin with a name and an instant, or a local time: own choice
-abbrev pub row_names : Style → TimeFrom → List ℕ
-row_names styles.Fields from.Count = codes "zone,instant,local,offset,daylight,abbreviation"
-row_names styles.Fields from.Rfc3339 = codes "zone,instant,local,offset,daylight,abbreviation"
-row_names styles.Fields (from.Local choice) = codes "zone,local,instant,offset,daylight,abbreviation"
-row_names styles.Iso from.Count = codes "zone,instant,local,daylight,abbreviation"
-row_names styles.Iso from.Rfc3339 = codes "zone,instant,local,daylight,abbreviation"
-row_names styles.Iso (from.Local choice) = codes "zone,local,instant,time,daylight,abbreviation"
+-- these names, each after a delimiter
+abbrev pub delimited : ℕ → List (List ℕ) → List ℕ
+delimited d names = flat_map (λ name. d ∷ name) names
+
+-- the name of the field that a row begins with after the zone's name: own choice
+abbrev pub time_name : TimeFrom → List ℕ
+time_name from.Count = codes "instant"
+time_name from.Rfc3339 = codes "instant"
+time_name (from.Local choice) = codes "local"
+
+-- the names of the fields that a row adds to its record: own choice
+abbrev pub added_names : Style → TimeFrom → List (List ℕ)
+added_names styles.Fields from.Count = codes "local" ∷ codes "offset" ∷ codes "daylight" ∷ codes "abbreviation" ∷ []
+added_names styles.Fields from.Rfc3339 = codes "local" ∷ codes "offset" ∷ codes "daylight" ∷ codes "abbreviation" ∷ []
+added_names styles.Fields (from.Local choice) = codes "instant" ∷ codes "offset" ∷ codes "daylight" ∷ codes "abbreviation" ∷ []
+added_names styles.Iso from.Count = codes "local" ∷ codes "daylight" ∷ codes "abbreviation" ∷ []
+added_names styles.Iso from.Rfc3339 = codes "local" ∷ codes "daylight" ∷ codes "abbreviation" ∷ []
+added_names styles.Iso (from.Local choice) = codes "instant" ∷ codes "time" ∷ codes "daylight" ∷ codes "abbreviation" ∷ []
+
+-- the names of the fields that another release answers, after all others, where rows are compared: own choice
+abbrev pub names_after : Written → Style → TimeFrom → List (List ℕ)
+names_after written.All style time = []
+names_after written.Moved style time = map (λ name. codes "old_" ++ name) (added_names style time)
+
+-- the names of all fields that a row by a layout adds to its record, each after the delimiter
+abbrev pub names_added : Layout → List ℕ
+names_added layout = delimited layout.delimiter (added_names layout.style layout.from ++ names_after layout.written layout.style layout.from)
+
+-- the line of the names of all fields of rows that begin with a zone's name
+abbrev pub row_names : Layout → List ℕ
+row_names layout = codes "zone" ++ layout.delimiter ∷ (time_name layout.from ++ (names_added layout ++ 10 ∷ []))
 
 -- the line, where a header is written and rows begin with names, and else nothing
 abbrev pub names_of : RowStart → Header → List ℕ → List ℕ
 names_of start.Fields header.First line = line
 names_of _ _ line = []
-
--- the names of the fields that a row adds to its record: own choice
-abbrev pub added_names : Style → TimeFrom → List ℕ
-added_names styles.Fields from.Count = codes ",local,offset,daylight,abbreviation"
-added_names styles.Fields from.Rfc3339 = codes ",local,offset,daylight,abbreviation"
-added_names styles.Fields (from.Local choice) = codes ",instant,offset,daylight,abbreviation"
-added_names styles.Iso from.Count = codes ",local,daylight,abbreviation"
-added_names styles.Iso from.Rfc3339 = codes ",local,daylight,abbreviation"
-added_names styles.Iso (from.Local choice) = codes ",instant,time,daylight,abbreviation"
-
--- the names of the fields that another release answers: own choice
-abbrev pub old_names : Style → TimeFrom → List ℕ
-old_names styles.Fields from.Count = codes ",old_local,old_offset,old_daylight,old_abbreviation"
-old_names styles.Fields from.Rfc3339 = codes ",old_local,old_offset,old_daylight,old_abbreviation"
-old_names styles.Fields (from.Local choice) = codes ",old_instant,old_offset,old_daylight,old_abbreviation"
-old_names styles.Iso from.Count = codes ",old_local,old_daylight,old_abbreviation"
-old_names styles.Iso from.Rfc3339 = codes ",old_local,old_daylight,old_abbreviation"
-old_names styles.Iso (from.Local choice) = codes ",old_instant,old_time,old_daylight,old_abbreviation"
-
--- the names after all others, where rows are compared
-abbrev pub names_after : Written → Style → TimeFrom → List ℕ
-names_after written.All style time = []
-names_after written.Moved style time = old_names style time
-
--- the names of all fields that a row by a layout adds to its record
-abbrev pub names_added : Layout → List ℕ
-names_added layout = added_names layout.style layout.from ++ names_after layout.written layout.style layout.from
 
 -- the own bytes of the header that is written, if one is, by those of all records
 abbrev pub own_header : Header → List (List ℕ) → List ℕ
@@ -130,21 +125,17 @@ abbrev pub header_read : Layout → List ℕ → List ℕ
 header_read layout bytes = own_header layout.header (texts_read layout bytes)
 
 -- a column's header with those names, where rows begin with their records; a record has a byte or more
-abbrev pub header_of : RowStart → List ℕ → ℕ → List ℕ → List ℕ
-header_of start.Record names delimiter (byte ∷ own) = (byte ∷ own) ++ (exchanged delimiter names ++ 10 ∷ [])
-header_of _ names delimiter _ = []
-
--- the line of names, with these after those of rows, or nothing
-abbrev pub names_with : Layout → List ℕ → List ℕ
-names_with layout names = names_of layout.start layout.header (exchanged layout.delimiter (row_names layout.style layout.from ++ (names ++ 10 ∷ [])))
+abbrev pub header_of : RowStart → List ℕ → List ℕ → List ℕ
+header_of start.Record names (byte ∷ own) = (byte ∷ own) ++ (names ++ 10 ∷ [])
+header_of _ names _ = []
 
 -- what is written before a column is read: the line of names, or nothing
 abbrev pub names_line : Layout → List ℕ
-names_line layout = names_with layout (names_after layout.written layout.style layout.from)
+names_line layout = names_of layout.start layout.header (row_names layout)
 
 -- and once its header was read
 abbrev pub own_line : Layout → List ℕ → List ℕ
-own_line layout column = header_of layout.start (names_added layout) layout.delimiter (header_read layout (read_by layout column))
+own_line layout column = header_of layout.start (names_added layout) (header_read layout (read_by layout column))
 
 -- the own bytes of the column's header, where there is one that is written and records are rejected, for the log of these
 abbrev pub rejects_header : Layout → List ℕ → List ℕ

@@ -392,7 +392,7 @@ fn begin_rows<Z: Zones, R: Read + Drop, W: Write, L: RowLog>(
     ensures head { IfOk result (λ _. IfSome (R.remaining reader) (λ bytes.
         Appends (W.contents writer.old.inner) (W.contents writer.new.inner)
         (header_of by.now.layout.now.start (names_added by.now.layout.now)
-        by.now.layout.now.delimiter (header_read by.now.layout.now bytes)))) }
+        (header_read by.now.layout.now bytes)))) }
     ensures grown { IfOk result (λ _. Z.grown zones.old zones.new) }
     ensures none { IfOk result (λ _. (releases : Releases) → Z.may_be zones.new releases
         → IfSome (R.remaining reader)

@@ -116,10 +116,6 @@ pub(crate) fn check_header<Z: Zones>(by: &ReadBy<'_>, zones: &mut Z, own: &[u8])
     ensures halt { IfErr result (HaltsAtCheck Z.grown Z.broken Z.may_be zones.old zones.new
         by.now.layout.now own.now) }
 {
-    if own.is_empty() {
-        // The zones would take it for a round.
-        return Ok(());
-    }
     // The delimiter is no double quote and ends no line.
     prove!(by.layout.delimiter.byte() <= u8::MAX);
     first_record_is_alone();

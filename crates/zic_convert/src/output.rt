@@ -1,78 +1,33 @@
 //! Writes rows.
 
 ghost use Rattle.std.specs.Prelude.{◌≡◌, ◌+◌, ◌^◌, ◌<◌, [], IfOk, OnOk, IfErr, IsErrOf};
-ghost use Rattle.zic_columns.specs.Exchange.{exchanged};
 ghost use Rattle.zic_counted.specs.Written.{FailsWithin};
 ghost use Rattle.zic_plan.specs.declared.layout.RowStart.TheVariants as start;
-ghost use Rattle.zic_convert.specs.Column.{added_names, header_of, names_added, names_after};
-ghost use Rattle.zic_convert.specs.Column.{names_line, names_of, names_with, old_names};
+ghost use Rattle.zic_convert.specs.Column.{header_of, names_added, names_line, names_of};
 ghost use Rattle.zic_convert.specs.code.Pieces.{joined};
 ghost use Rattle.zic_convert.specs.code.Written.{EndsAtHead, EndsInPieces, IsStopAt, Wrote, WroteRows};
 
 use crate::log::note_all;
+use crate::names::{Names, push_added, row_names};
 use std::alloc::AllocError;
 use std::io::Write;
 use zic_base::{RowKind, RunStop};
-use zic_columns::exchange;
 use zic_counted::{Counted, WriteFailed};
-use zic_layout_rows::{Rows, put_back};
-use zic_plan::{Header, Layout, RowLog, RowStart, Style, TimeFrom, Written};
+use zic_layout_rows::Rows;
+use zic_plan::{Header, Layout, RowLog, RowStart};
 
-/// Returns the names of the fields that a row adds to its record.
-fn added_names(style: Style, from: TimeFrom) -> &'static [u8]
-    ensures { result.now ≡ added_names style from }
-{
-    match (style, from) {
-        (Style::Fields, TimeFrom::Count | TimeFrom::Rfc3339) => {
-            b",local,offset,daylight,abbreviation"
-        }
-        (Style::Fields, TimeFrom::Local(_)) => b",instant,offset,daylight,abbreviation",
-        (Style::Iso, TimeFrom::Count | TimeFrom::Rfc3339) => b",local,daylight,abbreviation",
-        (Style::Iso, TimeFrom::Local(_)) => b",instant,time,daylight,abbreviation",
-    }
-}
-
-/// Returns the names of the fields that another release answers.
-fn old_names(style: Style, from: TimeFrom) -> &'static [u8]
-    ensures { result.now ≡ old_names style from }
-{
-    match (style, from) {
-        (Style::Fields, TimeFrom::Count | TimeFrom::Rfc3339) => {
-            b",old_local,old_offset,old_daylight,old_abbreviation"
-        }
-        (Style::Fields, TimeFrom::Local(_)) => {
-            b",old_instant,old_offset,old_daylight,old_abbreviation"
-        }
-        (Style::Iso, TimeFrom::Count | TimeFrom::Rfc3339) => {
-            b",old_local,old_daylight,old_abbreviation"
-        }
-        (Style::Iso, TimeFrom::Local(_)) => b",old_instant,old_time,old_daylight,old_abbreviation",
-    }
-}
-
-/// Returns the names after all others: those of another release's fields, where rows are compared.
-fn names_after(written: Written, style: Style, from: TimeFrom) -> &'static [u8]
-    ensures { result.now ≡ names_after written style from }
-{
-    match written {
-        Written::All => b"",
-        Written::Moved => old_names(style, from),
-    }
-}
-
-/// Adds the names of the fields that a row adds to its record, with the layout's delimiter, and a newline,
-/// to the own bytes of a header. Does nothing where there is no header.
+/// Adds the names of the fields that a row adds to its record, and a newline, to the own bytes of a
+/// header. Does nothing where there is no header.
 fn add_names(line: &mut Vec<u8>, layout: &Layout) -> Result<(), AllocError>
-    ensures { OnOk result (line.new.items ≡ header_of start.Record (names_added layout.now)
-        layout.now.delimiter line.old.items) }
+    ensures { OnOk result (line.new.items
+        ≡ header_of start.Record (names_added layout.now) line.old.items) }
 {
     if line.is_empty() {
         return Ok(());
     }
-    let own_len = line.len();
-    line.extend_from_slice(added_names(layout.style, layout.from))?;
-    line.extend_from_slice(names_after(layout.written, layout.style, layout.from))?;
-    put_back(line, own_len, layout.delimiter.byte());
+    let mut names = Names::new();
+    push_added(&mut names, layout);
+    line.extend_from_slice(names.as_slice())?;
     line.push(b'\n')?;
     Ok(())
 }
@@ -84,8 +39,8 @@ fn add_names(line: &mut Vec<u8>, layout: &Layout) -> Result<(), AllocError>
 ///
 /// Fails where memory is refused.
 fn header_line(layout: &Layout, own: Vec<u8>) -> Result<Vec<u8>, AllocError>
-    ensures { IfOk result (λ line. line.items ≡ header_of layout.now.start
-        (names_added layout.now) layout.now.delimiter own.items) }
+    ensures { IfOk result (λ line. line.items
+        ≡ header_of layout.now.start (names_added layout.now) own.items) }
 {
     let mut line = own;
     match layout.start {
@@ -134,104 +89,6 @@ fn names_of(start: RowStart, header: Header, line: &[u8]) -> &[u8]
     }
 }
 
-/// Writes this line, with the layout's delimiter, where the layout has a header and rows begin with
-/// names.
-///
-/// # Errors
-///
-/// `WriteFailed`.
-fn write_line<W: Write>(
-    writer: &mut Counted<W>,
-    layout: &Layout,
-    line: &mut [u8],
-) -> Result<(), RunStop>
-    ensures ok { OnOk result (Wrote W.contents writer.old writer.new (names_of layout.now.start
-        layout.now.header (exchanged layout.now.delimiter line.old))) }
-    ensures err { IfErr result (λ stop. (stop ≡ RunStop.WriteFailed)
-        × FailsWithin W.contents writer.old writer.new (names_of layout.now.start
-        layout.now.header (exchanged layout.now.delimiter line.old))) }
-{
-    exchange(line, layout.delimiter.byte());
-    write_all(writer, names_of(layout.start, layout.header, line))
-}
-
-/// Writes the line of names of rows that are compared with none, as [`write_names`] does.
-fn write_row_names<W: Write>(writer: &mut Counted<W>, layout: &Layout) -> Result<(), RunStop>
-    ensures ok { OnOk result (Wrote W.contents writer.old writer.new (names_with layout.now [])) }
-    ensures err { IfErr result (λ stop. (stop ≡ RunStop.WriteFailed)
-        × FailsWithin W.contents writer.old writer.new (names_with layout.now [])) }
-{
-    match (layout.style, layout.from) {
-        (Style::Fields, TimeFrom::Count) => {
-            let mut line = *b"zone,instant,local,offset,daylight,abbreviation\n";
-            write_line(writer, layout, &mut line)
-        }
-        (Style::Fields, TimeFrom::Rfc3339) => {
-            let mut line = *b"zone,instant,local,offset,daylight,abbreviation\n";
-            write_line(writer, layout, &mut line)
-        }
-        (Style::Fields, TimeFrom::Local(_)) => {
-            let mut line = *b"zone,local,instant,offset,daylight,abbreviation\n";
-            write_line(writer, layout, &mut line)
-        }
-        (Style::Iso, TimeFrom::Count) => {
-            let mut line = *b"zone,instant,local,daylight,abbreviation\n";
-            write_line(writer, layout, &mut line)
-        }
-        (Style::Iso, TimeFrom::Rfc3339) => {
-            let mut line = *b"zone,instant,local,daylight,abbreviation\n";
-            write_line(writer, layout, &mut line)
-        }
-        (Style::Iso, TimeFrom::Local(_)) => {
-            let mut line = *b"zone,local,instant,time,daylight,abbreviation\n";
-            write_line(writer, layout, &mut line)
-        }
-    }
-}
-
-/// Writes the line of names of rows that are compared with those of another release, as [`write_names`]
-/// does.
-fn write_moved_names<W: Write>(writer: &mut Counted<W>, layout: &Layout) -> Result<(), RunStop>
-    ensures ok { OnOk result (Wrote W.contents writer.old writer.new (names_with layout.now
-        (old_names layout.now.style layout.now.from))) }
-    ensures err { IfErr result (λ stop. (stop ≡ RunStop.WriteFailed)
-        × FailsWithin W.contents writer.old writer.new (names_with layout.now
-        (old_names layout.now.style layout.now.from))) }
-{
-    match (layout.style, layout.from) {
-        (Style::Fields, TimeFrom::Count) => {
-            let mut line =
-                *b"zone,instant,local,offset,daylight,abbreviation,old_local,old_offset,old_daylight,old_abbreviation\n";
-            write_line(writer, layout, &mut line)
-        }
-        (Style::Fields, TimeFrom::Rfc3339) => {
-            let mut line =
-                *b"zone,instant,local,offset,daylight,abbreviation,old_local,old_offset,old_daylight,old_abbreviation\n";
-            write_line(writer, layout, &mut line)
-        }
-        (Style::Fields, TimeFrom::Local(_)) => {
-            let mut line =
-                *b"zone,local,instant,offset,daylight,abbreviation,old_instant,old_offset,old_daylight,old_abbreviation\n";
-            write_line(writer, layout, &mut line)
-        }
-        (Style::Iso, TimeFrom::Count) => {
-            let mut line =
-                *b"zone,instant,local,daylight,abbreviation,old_local,old_daylight,old_abbreviation\n";
-            write_line(writer, layout, &mut line)
-        }
-        (Style::Iso, TimeFrom::Rfc3339) => {
-            let mut line =
-                *b"zone,instant,local,daylight,abbreviation,old_local,old_daylight,old_abbreviation\n";
-            write_line(writer, layout, &mut line)
-        }
-        (Style::Iso, TimeFrom::Local(_)) => {
-            let mut line =
-                *b"zone,local,instant,time,daylight,abbreviation,old_instant,old_time,old_daylight,old_abbreviation\n";
-            write_line(writer, layout, &mut line)
-        }
-    }
-}
-
 /// Writes the line of names before rows that begin with a name and an instant, or a local time, where
 /// the layout has a header. Doesn't flush.
 ///
@@ -243,10 +100,11 @@ pub(crate) fn write_names<W: Write>(writer: &mut Counted<W>, layout: &Layout) ->
     ensures err { IfErr result (λ stop. (stop ≡ RunStop.WriteFailed)
         × FailsWithin W.contents writer.old writer.new (names_line layout.now)) }
 {
-    match layout.written {
-        Written::All => write_row_names(writer, layout),
-        Written::Moved => write_moved_names(writer, layout),
-    }
+    let line = row_names(layout);
+    write_all(
+        writer,
+        names_of(layout.start, layout.header, line.as_slice()),
+    )
 }
 
 /// Writes the column's own header before rows that begin with their records, by the header's own bytes
@@ -261,9 +119,9 @@ pub(crate) fn write_header<W: Write>(
     own: Vec<u8>,
 ) -> Result<(), RunStop>
     ensures ok { OnOk result (Wrote W.contents writer.old writer.new (header_of layout.now.start
-        (names_added layout.now) layout.now.delimiter own.items)) }
+        (names_added layout.now) own.items)) }
     ensures err { IfErr result (EndsAtHead W.contents writer.old writer.new (header_of
-        layout.now.start (names_added layout.now) layout.now.delimiter own.items)) }
+        layout.now.start (names_added layout.now) own.items)) }
 {
     let Ok(line) = header_line(layout, own) else {
         return Err(RunStop::Memory);

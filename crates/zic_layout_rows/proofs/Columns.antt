@@ -1,9 +1,9 @@
 -- Columns of a batch, each filled by those before it.
-use Rattle.std.proofs.Common.{◌≡◌, ◌+◌, ◌<◌, ◌≤◌, ◌==◌, ◌∙◌, ℕ, suc, ℤ, List, [], ◌∷◌, ◌++◌, length, map, take, Option, Some, None, inl, inr, ap, ap₂, arith, subst, sym, length-take-le}
+use Rattle.std.proofs.Common.{◌≡◌, ◌+◌, ◌<◌, ◌≤◌, ◌==◌, ℕ, suc, ℤ, List, [], ◌∷◌, length, take, Option, Some, None, inl, inr, arith, subst, sym, length-take-le}
 use Rattle.std.specs.Prelude.{All, IfSome, bytes_eq, option_map, slice_get, slice_index_or}
 use Rattle.std.proofs.Math.ListN.{set}
 use Rattle.std.proofs.lemmas.Bool.{cases_Bool, cond_both, eqb-false, eqb-true}
-use Rattle.std.proofs.lemmas.List.{get_or-map, get_or-set_other, get_or-set_same, get_or-take, map-append, take_more, take_more_set}
+use Rattle.std.proofs.lemmas.List.{get_or-set_other, get_or-set_same, get_or-take}
 use Rattle.zic_files.specs.File.{File}
 use Rattle.zic_base.specs.State.{Shown}
 use Rattle.zic_posix.specs.Instants.{Includes}
@@ -12,35 +12,17 @@ use Rattle.zic_tzif.specs.States.{IsStateOfNumber}
 use Rattle.zic_zones.specs.Zones.{IsShownAt, ShowsThroughout, number_of}
 use Rattle.zic_zones.specs.declared.row_zones.RowSpan.{RowSpan}
 use Rattle.zic_columns.specs.Record.{IsSplit}
-use Rattle.zic_columns.specs.declared.fields.Record.{Record}
 use Rattle.zic_columns.specs.declared.splits.TheConstants.{BATCH}
-use Rattle.zic_rows.specs.declared.row_time.RowTime.{RowTime}
-use Rattle.zic_layout_rows.specs.code.Answer.{AreAnswers, AreColumns, IsAt, IsFoundIn}
-use Rattle.zic_layout_rows.specs.code.Batch.{blank, blank_time, wanted_by, zone_at}
-use Rattle.zic_layout_rows.specs.declared.answers.Answers.{Answers as Column}
+use Rattle.zic_layout_rows.specs.code.Answer.{AreColumns, IsAt}
+use Rattle.zic_layout_rows.specs.code.Batch.{blank, wanted_by}
 use Rattle.zic_layout_rows.specs.declared.batch.Batch.{Batch}
 use Rattle.zic_layout_rows.specs.declared.piece.Piece.{Piece}
-
--- a column that is filled one place further
-pub filled : {A B : Type 0} (f : A → B) (a : List A) (b : List B) (i : ℕ) (d : A) (v : B) → i < length a → i < length b
-    → take i b ≡ map f (take i a) → v ≡ f (slice_index_or a i d) → take (i + 1) (set b i v) ≡ map f (take (i + 1) a)
-filled {A} {B} f a b i d v lt lt' so is =
-    take_more_set b i v lt'
-    ∙ ap₂ (λ (xs : List B) (x : B). xs ++ x ∷ []) so is
-    ∙ sym (ap (map f) (take_more a i d lt) ∙ map-append f (take i a) (slice_index_or a i d ∷ []))
 
 -- one of the first elements, all of which are so
 pub one_of : {A : Type 0} (P : A → Type 0) (xs : List A) (count i : ℕ) (d : A) → count ≤ length xs → i < count → All P (take count xs) → P (slice_index_or xs i d)
 one_of P xs count i d few lt all =
     let within : i < length (take count xs) = omega (arith, length-take-le count xs few, lt) in
     subst P (get_or-take count xs i d lt) (all i d within)
-
--- and of what a column is by another
-pub one_is : {A B : Type 0} (f : A → B) (a : List A) (b : List B) (count i : ℕ) (d : A) (e : B) → count ≤ length a → i < count → take count b ≡ map f (take count a)
-    → slice_index_or b i e ≡ f (slice_index_or a i d)
-one_is {A} {B} f a b count i d e few lt are =
-    let within : i < length (take count a) = omega (arith, length-take-le count a few, lt) in
-    sym (get_or-take count b i e lt) ∙ ap (λ (l : List B). slice_index_or l i e) are ∙ get_or-map f (take count a) i d e within ∙ ap f (get_or-take count a i d lt)
 
 -- what is told of each element of a column, with one more
 pub more_is : {A : Type 0} (d : A) (Q : ℕ → A → Type 0) (i : ℕ) (xs : List A) (v : A) → i < length xs → ((j : ℕ) → j < i → Q j (slice_index_or xs j d)) → Q i v
@@ -53,6 +35,14 @@ more_is {A} d Q i xs v within are is j lt = elim (cases_Bool (j == i)) [
       let ne = eqb-false j i other in
       let before : j < i = omega (arith, lt, ne) in
       subst (Q j) (sym (get_or-set_other xs i j v d ne)) (are j before)
+]
+
+-- what is told of the elements that follow one which is set
+pub others_stay : {A : Type 0} (d : A) (Q : ℕ → A → Type 0) (i count : ℕ) (xs : List A) (v : A) → ((j : ℕ) → i ≤ j → j < count → Q j (slice_index_or xs j d))
+    → (j : ℕ) → i + 1 ≤ j → j < count → Q j (slice_index_or (set xs i v) j d)
+others_stay {A} d Q i count xs v are j later lt = elim (cases_Bool (j == i)) [
+  | inl same ↦ absurd (omega (arith, later, eqb-true j i same))
+  | inr other ↦ subst (Q j) (sym (get_or-set_other xs i j v d (eqb-false j i other))) (are j (omega (arith, later)) lt)
 ]
 
 -- a number that a name has is that of a file
@@ -73,26 +63,11 @@ state_is files n second span within shows = by_file (slice_get files n) shows wh
   by_file None shows = tt
   by_file (Some file) (state, of, answers) = (state, of, answers second within)
 
--- what a column has of the record at a place
-found_in : (piece : Piece) (records : List Record) (times : List RowTime) (count : ℕ) (answers : Column) (place : ℕ) → AreAnswers piece records times count answers → count ≤ length records → place < count
-    → IsFoundIn piece (slice_index_or records place blank) (slice_index_or times place blank_time) answers place
-found_in piece records times count answers place are few lt = record {
-  zone = one_is (zone_at piece) records answers.zones count place blank None few lt are.zones;
-  known = are.known place lt;
-}
-
 -- what the columns of a batch have of the record at a place
-pub is_at : (piece : Piece) (other : Option Piece) (batch : Batch) (count place : ℕ) → AreColumns piece other batch count → length batch.records ≡ BATCH → place < count → IsAt piece other batch place
-is_at piece other batch count place are long lt =
-    let few : count ≤ length batch.records = omega (arith, are.few, long) in
-    record {
-      within = omega (arith, are.few, lt);
-      split = one_of (IsSplit piece.layout.now.delimiter piece.bytes.now (wanted_by piece.layout.now)) batch.records count place blank few lt are.split;
-      answers = found_in piece batch.records batch.times count batch.answers place are.answers few lt;
-      others = by_other other are.others;
-    }
-  where
-    by_other : (o : Option Piece) → IfSome o (λ p. AreAnswers p batch.records batch.times count batch.others)
-        → IfSome o (λ p. IsFoundIn p (slice_index_or batch.records place blank) (slice_index_or batch.times place blank_time) batch.others place)
-    by_other None others = tt
-    by_other (Some p) others = found_in p batch.records batch.times count batch.others place others (omega (arith, are.few, long)) lt
+pub is_at : (piece : Piece) (batch : Batch) (count place : ℕ) → AreColumns piece batch count → length batch.records ≡ BATCH → place < count → IsAt piece batch place
+is_at piece batch count place are long lt = record {
+  within = omega (arith, are.few, lt);
+  split = one_of (IsSplit piece.layout.now.delimiter piece.bytes.now (wanted_by piece.layout.now)) batch.records count place blank (omega (arith, are.few, long)) lt are.split;
+  read = are.times place lt;
+  found = are.answers place lt;
+}

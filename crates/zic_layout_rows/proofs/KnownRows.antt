@@ -1,7 +1,8 @@
 -- Rows of records whose answers the tables have.
-use Rattle.std.proofs.Common.{◌≡◌, ◌≤◌, ◌<◌, ◌+◌, ◌∙◌, ℕ, ℤ, pos, negsuc, ◌+ℤ◌, ◌*ℤ◌, Bool, true, List, [], ◌∷◌, ◌++◌, Some, None, Ok, ap, ap₂, append_assoc, arith, length, refl, subst, sym, get_or}
+use Rattle.std.proofs.Common.{◌≡◌, ◌≤◌, ◌<◌, ◌+◌, ◌∙◌, ℕ, ℤ, pos, negsuc, ◌+ℤ◌, ◌*ℤ◌, Bool, true, List, ◌∷◌, ◌++◌, Some, None, Ok, ap, ap₂, arith, length, refl, subst, sym, get_or}
 use Rattle.std.specs.Prelude.{IfSome, int_le, slice_get, slice_range, ◌&&◌}
 use Rattle.std.proofs.lemmas.Int.{ints}
+use Rattle.std.proofs.lemmas.Option.{same_Some}
 use Rattle.zic_columns.proofs.Spans.{span_both, span_first}
 use Rattle.zic_columns.specs.Record.{IsSplit, IsWithin, bytes_at, field_text}
 use Rattle.zic_columns.specs.declared.fields.Field.TheVariants.{Plain}
@@ -39,29 +40,26 @@ use Rattle.zic_layout_rows.proofs.Meant.{only_meant, time_meant}
 use Rattle.zic_layout_rows.proofs.RowFaults.{found, no_fault, right_counted}
 use Rattle.zic_layout_rows.proofs.ShownRows.{count_back}
 
--- two parts with a comma between them
-pub joined : (bytes : List ℕ) (a m b : ℕ) → a ≤ m → m + 1 ≤ b → b ≤ length bytes → get_or bytes m 0 ≡ 44
-    → slice_range bytes a b ≡ slice_range bytes a m ++ 44 ∷ slice_range bytes (m + 1) b
-joined bytes a m b first last within comma =
+-- two parts with a byte between them
+pub joined : (bytes : List ℕ) (d a m b : ℕ) → a ≤ m → m + 1 ≤ b → b ≤ length bytes → get_or bytes m 0 ≡ d
+    → slice_range bytes a b ≡ slice_range bytes a m ++ d ∷ slice_range bytes (m + 1) b
+joined bytes d a m b first last within between =
     sym (span_both bytes a m b first (omega (arith, last)))
-    ∙ ap (λ (l : List ℕ). slice_range bytes a m ++ l) (span_first bytes m b (omega (arith, last)) within ∙ ap (λ (x : ℕ). x ∷ slice_range bytes (m + 1) b) comma)
+    ∙ ap (λ (l : List ℕ). slice_range bytes a m ++ l) (span_first bytes m b (omega (arith, last)) within ∙ ap (λ (x : ℕ). x ∷ slice_range bytes (m + 1) b) between)
 
--- the own bytes of a record that are its zone's name, a comma and its time
+-- the own bytes of a record that are its zone's name, the delimiter and its time
 pub own_begins : (piece : Piece) (given : Record) (split : IsSplit piece.layout.now.delimiter piece.bytes.now (wanted_by piece.layout.now) given) (k : ℕ) (zone time : Span) → piece.layout.now.zone ≡ from.Field k → given.zone ≡ Plain zone
-    → zone.start ≡ given.own.start → zone.end + 1 ≡ time.start → time.end ≡ given.own.end → IsWithin piece.bytes.now time → get_or piece.bytes.now zone.end 0 ≡ 44
-    → bytes_at piece.bytes.now given.own ≡ zone_in piece.layout.now.zone (record_of piece given).fields ++ 44 ∷ bytes_at piece.bytes.now time
-own_begins piece given split k zone time by_field plain first next last within comma =
+    → zone.start ≡ given.own.start → zone.end + 1 ≡ time.start → time.end ≡ given.own.end → IsWithin piece.bytes.now time → get_or piece.bytes.now zone.end 0 ≡ piece.layout.now.delimiter
+    → bytes_at piece.bytes.now given.own ≡ zone_in piece.layout.now.zone (record_of piece given).fields ++ piece.layout.now.delimiter ∷ bytes_at piece.bytes.now time
+own_begins piece given split k zone time by_field plain first next last within between =
+    let d = piece.layout.now.delimiter in
     let bytes = piece.bytes.now in
     let within_bytes = rw plain at split.zone_within in
     let has_time = rw (plain, by_field) at split.zone in
     let name : slice_range bytes zone.start zone.end ≡ zone_in piece.layout.now.zone (record_of piece given).fields = rw by_field has_time in
     let here : bytes_at bytes given.own ≡ slice_range bytes zone.start time.end = ap₂ (λ (a b : ℕ). slice_range bytes a b) (sym first) (sym last) in
-    let row_record = joined bytes zone.start zone.end time.end within_bytes.0 (omega (arith, next, within.0)) within.1 comma in
-    here ∙ row_record ∙ ap₂ (λ (l : List ℕ) (n : ℕ). l ++ 44 ∷ slice_range bytes n time.end) name next
-
--- a name, and then a comma
-pub comma_pushed : (old name a b : List ℕ) → a ≡ old ++ name → b ≡ a ++ 44 ∷ [] → b ≡ old ++ (name ++ 44 ∷ [])
-comma_pushed old name a b is_a is_b = is_b ∙ ap (λ (l : List ℕ). l ++ 44 ∷ []) is_a ∙ append_assoc old name (44 ∷ [])
+    let row_record = joined bytes d zone.start zone.end time.end within_bytes.0 (omega (arith, next, within.0)) within.1 between in
+    here ∙ row_record ∙ ap₂ (λ (l : List ℕ) (n : ℕ). l ++ d ∷ slice_range bytes n time.end) name next
 
 -- the check passes an instant that a row may have
 may_row : (t : ℤ) → IsRowInstant t → is_row_instant (Some t) ≡ true
@@ -149,7 +147,7 @@ module _ (piece : Piece) (given : Record) where
   module _ (file : ℕ) (zone : zone_at piece given ≡ Some file) (within : file < length piece.zones.now) (admitted : IsAdmitted piece given) (input : RowTime) (read : IsReadTime piece given input)
       (time : RowTime) (number : ℕ) (shown : Shown) (answers : AnswersAt piece.zones.now file time.second shown) where
     abbrev pub known_of : Known
-    known_of = record { file = file; time = time; state = number }
+    known_of = record { file = Some file; time = time; state = number }
 
     -- an answer at an instant
     at_instant : ((choice : Disambiguation) → piece.layout.now.from ≡ times.Local choice → ⊥) → time ≡ input → IsKnown piece given input known_of shown
@@ -158,6 +156,8 @@ module _ (piece : Piece) (given : Record) where
         record {
           admitted = admitted;
           read = read;
+          file = file;
+          named = refl;
           count = read.count;
           query = record {
             file = zone;
@@ -185,6 +185,8 @@ module _ (piece : Piece) (given : Record) where
         record {
           admitted = admitted;
           read = read;
+          file = file;
+          named = refl;
           count = count;
           query = record {
             file = zone;
@@ -213,15 +215,16 @@ module _ (piece : Piece) (given : Record) where
 
   module _ (input : RowTime) (known : Known) (shown : Shown) (is : IsKnown piece given input known shown) where
     -- what a row shows by them
-    pub known_shown : (answer : Answer) → answer.file ≡ known.file → answer.input ≡ input_of piece.layout.now.from input → answer.time ≡ known.time → shown ≡ shown_in answer.state → IsShownRow piece given answer
-    known_shown answer file begins time state = record {
-      counts = record { input = is.read.count; count = is.count };
-      query = rw file is.query;
-      time = rw time is.time;
-      begins = rw begins is.read.begins;
-      says = rw begins is.read.text;
-      answers = rw (file, time, ← state) is.answers;
-    }
+    pub known_shown : (answer : Answer) → known.file ≡ Some answer.file → answer.input ≡ input_of piece.layout.now.from input → answer.time ≡ known.time → shown ≡ shown_in answer.state → IsShownRow piece given answer
+    known_shown answer file begins time state =
+        let same : answer.file ≡ is.file = same_Some answer.file is.file (sym file ∙ is.named) in record {
+          counts = record { input = is.read.count; count = is.count };
+          query = rw same is.query;
+          time = rw time is.time;
+          begins = rw begins is.read.begins;
+          says = rw begins is.read.text;
+          answers = rw (same, time, ← state) is.answers;
+        }
 
     -- and it has no fault
     pub known_sound : (number : ℕ) → IsSplit piece.layout.now.delimiter piece.bytes.now (wanted_by piece.layout.now) given → number ≤ piece.most → fault_at piece number given ≡ None
@@ -230,4 +233,4 @@ module _ (piece : Piece) (given : Record) where
         let row_record = record_of piece given in
         let right = right_counted layout.quotes layout.delimiter row_record given.stray (λ none. is.admitted.closed (split.count ∙ none)) split.stray is.admitted.quotes in
         let admits = subst (λ (n : ℕ). has_count layout.count n ≡ true) split.count is.admitted.count in
-        no_fault piece number given le is.admitted.short right admits known.file is.query.file is.count is.query.counts.time (may_row (second_of layout.unit is.count) is.query.may)
+        no_fault piece number given le is.admitted.short right admits is.file is.query.file is.count is.query.counts.time (may_row (second_of layout.unit is.count) is.query.may)

@@ -4,10 +4,11 @@ pub mod MoreRows
 pub mod NextRows
 mod PassedLines
 pub mod PieceRows
-pub mod PutBack
+pub mod MadeTexts
 pub mod Written
 pub mod RowFaults
 pub mod KnownRows
 pub mod ShownRows
 pub mod Meant
 pub mod Answered
+pub mod SameAnswers

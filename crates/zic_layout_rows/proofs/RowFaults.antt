@@ -109,12 +109,12 @@ row_may t is =
     (grind (arith, ints, from), grind (arith, ints, to))
 
 -- what a row begins with, as it is appended
-pub start_pushed : (old name input a b : List ℕ) → a ≡ old ++ name → b ≡ a ++ 44 ∷ input → b ≡ old ++ (name ++ 44 ∷ input)
-start_pushed old name input a b is_a is_b = is_b ∙ ap (λ (l : List ℕ). l ++ 44 ∷ input) is_a ∙ append_assoc old name (44 ∷ input)
+pub start_pushed : (d : ℕ) (old name input a b : List ℕ) → a ≡ old ++ name → b ≡ a ++ d ∷ input → b ≡ old ++ (name ++ d ∷ input)
+start_pushed d old name input a b is_a is_b = is_b ∙ ap (λ (l : List ℕ). l ++ d ∷ input) is_a ∙ append_assoc old name (d ∷ input)
 
--- a comma and decimals
-pub digits_pushed : (old digits a b : List ℕ) → a ≡ old ++ 44 ∷ [] → b ≡ a ++ digits → b ≡ old ++ 44 ∷ digits
-digits_pushed old digits a b is_a is_b = is_b ∙ ap (λ (l : List ℕ). l ++ digits) is_a ∙ append_assoc old (44 ∷ []) digits
+-- a delimiter and decimals
+pub digits_pushed : (d : ℕ) (old digits a b : List ℕ) → a ≡ old ++ d ∷ [] → b ≡ a ++ digits → b ≡ old ++ d ∷ digits
+digits_pushed d old digits a b is_a is_b = is_b ∙ ap (λ (l : List ℕ). l ++ digits) is_a ∙ append_assoc old (d ∷ []) digits
 
 -- a record with fields is closed
 closed_counted : (fields : List (List ℕ)) → (length fields ≡ 0 → ⊥) → is_closed fields ≡ true

@@ -1,5 +1,5 @@
 -- Rows that are written as a layout says.
-use Rattle.std.proofs.Common.{◌≡◌, ℕ, List, Option, Result, Ok, Err, refl, sym, subst}
+use Rattle.std.proofs.Common.{◌≡◌, ℕ, List, [], Option, Result, Ok, Err, refl, sym, subst}
 use Rattle.zic_base.specs.declared.row_fault.RowKind.{RowKind}
 use Rattle.zic_columns.specs.declared.fields.Record.{Record}
 use Rattle.zic_files.specs.File.{File}
@@ -31,6 +31,27 @@ module _ (piece : Piece) (number : ℕ) (given : Record) where
       → IsAnswer piece.layout.now piece.zones.now piece.most number (record_of piece given) text
   answer_by (Ok answer) is text of = subst (λ (o : Option RowKind). IsAnswerAt piece.layout.now piece.zones.now o (record_of piece given) text) (sym is.0) of
   answer_by (Err kind) is text of = subst (λ (o : Option RowKind). IsAnswerAt piece.layout.now piece.zones.now o (record_of piece given) text) (sym is) of
+
+  shown_of : (answer : Result Answer RowKind) → IsAnswered piece number given answer → IfOk answer (IsShownRow piece given)
+  shown_of (Ok answer) is = is.1
+  shown_of (Err kind) is = tt
+
+  -- nothing is written of it, where another release gives the same answer
+  pub unmoved_by : (answer : Result Answer RowKind) → IsAnswered piece number given answer → (old : Option (List File)) → piece.layout.now.written ≡ written.Moved → (same : List ℕ)
+      → IsAnswerOf piece given answer same → IsAnswer piece.layout.now (old_files old) piece.most number (record_of piece given) same
+      → IsWrittenBy piece.layout.now (by_both piece old) piece.most number (record_of piece given) []
+  unmoved_by answer is old moved same own others =
+      let (whole, is_row) = has_row piece given answer (shown_of answer is) in
+      subst (λ (w : Written). IsWrittenAt w piece.layout.now (by_both piece old) piece.most number (record_of piece given) []) (sym moved) (record {
+        row = whole;
+        by = row_by answer is whole is_row;
+        answer = same;
+        answers = answer_by answer is same own;
+        other = same;
+        others = others;
+        same = λ _. refl;
+        moved = λ unlike. absurd (unlike refl);
+      })
 
   module _ (answer : Result Answer RowKind) (is : IsAnswered piece number given answer) (old : Option (List File)) (other row : List ℕ) where
     written_at : (by : Written) → (by ≡ written.Moved → IsAnswer piece.layout.now (old_files old) piece.most number (record_of piece given) other)

@@ -13,7 +13,6 @@ use Rattle.zic_rows.specs.DateTime.{local_count_of, rfc3339_count_of}
 use Rattle.zic_rows.specs.Row.{state_text}
 use Rattle.zic_local.specs.declared.disambiguation.Unresolved.{Unresolved}
 use Rattle.zic_local.specs.declared.disambiguation.Unresolved.TheVariants as unresolved
-use Rattle.zic_columns.specs.Exchange.{exchanged}
 use Rattle.zic_columns.specs.Own.{CsvRecord}
 use Rattle.zic_columns.specs.Quotes.{has_stray}
 use Rattle.zic_columns.specs.Round.{may_have}
@@ -129,9 +128,9 @@ input_text from.Count u count = signed_decimal count
 input_text from.Rfc3339 u count = signed_decimal count
 input_text (from.Local choice) u local = local_count_text u local
 
--- what a row begins with: the name and that text, or the record's own bytes
+-- what a row begins with: the name, the delimiter and that text, or the record's own bytes
 abbrev pub beginning : RowStart → ℕ → List ℕ → List ℕ → List ℕ → List ℕ
-beginning start.Fields delimiter own name input = exchanged delimiter (name ++ 44 ∷ input)
+beginning start.Fields delimiter own name input = name ++ delimiter ∷ input
 beginning start.Record delimiter own name input = own
 
 abbrev pub start_text : Layout → List ℕ → List ℕ → ℤ → List ℕ
@@ -139,18 +138,18 @@ start_text layout own name count = beginning layout.start layout.delimiter own n
 
 -- What follows the instant of a local time: the state, or, where local time and offset are one field, both as the clocks show them at the
 -- instant. In a gap that is another local time than the record's, which with this offset would be another instant.
-abbrev pub state_after : Style → Unit → ℤ → Shown → List ℕ
-state_after styles.Fields u count state = state_text state
-state_after styles.Iso u count state = counted_rest_text styles.Iso u count state
+abbrev pub state_after : ℕ → Style → Unit → ℤ → Shown → List ℕ
+state_after delimiter styles.Fields u count state = state_text delimiter state
+state_after delimiter styles.Iso u count state = counted_rest_text delimiter styles.Iso u count state
 
--- what follows, with commas: the local time of an instant, or the instant of a local time, and the state
-abbrev pub rest_by : Style → TimeFrom → Unit → ℤ → Shown → List ℕ
-rest_by style from.Count u count state = counted_rest_text style u count state
-rest_by style from.Rfc3339 u count state = counted_rest_text style u count state
-rest_by style (from.Local choice) u count state = 44 ∷ (signed_decimal count ++ state_after style u count state)
+-- what follows: the local time of an instant, or the instant of a local time, and the state, each field after a delimiter
+abbrev pub rest_by : ℕ → Style → TimeFrom → Unit → ℤ → Shown → List ℕ
+rest_by delimiter style from.Count u count state = counted_rest_text delimiter style u count state
+rest_by delimiter style from.Rfc3339 u count state = counted_rest_text delimiter style u count state
+rest_by delimiter style (from.Local choice) u count state = delimiter ∷ (signed_decimal count ++ state_after delimiter style u count state)
 
 -- The text of a record's row: what rows begin with, and the state that the file of the zone's name answers at the whole second of the
--- instant's count. The delimiter stands in the place of commas; no name of a file and no field that a row adds to a record has it.
+-- instant's count. No name of a file and no field that a row adds to a record has the delimiter.
 pub record IsTextBy (layout : Layout) (files : List File) (row_record : CsvRecord) (text : List ℕ) : Type 0 where
   pub file : File
   pub among : Contains files file
@@ -161,7 +160,7 @@ pub record IsTextBy (layout : Layout) (files : List File) (row_record : CsvRecor
   pub means : instant_by layout.from layout.unit file input ≡ Ok count
   pub state : Shown
   pub answers : Answers file.image.content (second_of layout.unit count) (Some state)
-  pub is : text ≡ start_text layout row_record.own file.name input ++ exchanged layout.delimiter (rest_by layout.style layout.from layout.unit count state)
+  pub is : text ≡ start_text layout row_record.own file.name input ++ rest_by layout.delimiter layout.style layout.from layout.unit count state
 
 -- how many fields a file answers: local time or instant, offset, flag and abbreviation; in one field local time and offset, which follow the
 -- instant of a local time
@@ -245,7 +244,7 @@ pub record IsAnswerBy (layout : Layout) (files : List File) (row_record : CsvRec
   pub means : instant_by layout.from layout.unit file input ≡ Ok count
   pub state : Shown
   pub answers : Answers file.image.content (second_of layout.unit count) (Some state)
-  pub is : answer ≡ exchanged layout.delimiter (rest_by layout.style layout.from layout.unit count state)
+  pub is : answer ≡ rest_by layout.delimiter layout.style layout.from layout.unit count state
 
 -- what files answer a record that has this fault as a row, or none
 abbrev pub IsAnswerAt : Layout → List File → Option RowKind → CsvRecord → List ℕ → Type 0

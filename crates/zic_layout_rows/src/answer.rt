@@ -1,10 +1,11 @@
 //! What a release answers a record.
 
-ghost use Rattle.std.specs.Prelude.{◌≡◌, ◌<◌, Some, length, slice_get};
-ghost use Rattle.zic_layout_rows.specs.code.Answer.{shown_in};
+ghost use Rattle.std.specs.Prelude.{◌≡◌, ◌<◌, IsSome, IsTrue, Some, length, slice_get};
+ghost use Rattle.zic_layout_rows.specs.code.Answer.{AreSame, AreSameAnswers, shown_in};
 ghost use Rattle.zic_layout_rows.specs.code.Row.{input_of};
 
 use crate::start::{Input, input_of};
+use zic_base::RowKind;
 use zic_plan::Layout;
 use zic_rows::{RowTime, StateText};
 use zic_zones::RowStates;
@@ -39,13 +40,43 @@ pub(crate) struct Answer<'s> {
     pub(crate) state: AnswerState<'s>,
 }
 
-/// An answer that the tables have: the number of the file, the time of the instant, and the number of
-/// the state. [`UNKNOWN`](zic_zones::UNKNOWN) says that they have none.
+/// What the tables have of a record: the number of its zone's file, if there is one, the time of the
+/// instant, and the number of the state that the file shows then.
+/// [`UNKNOWN`](zic_zones::UNKNOWN) says that they don't have the last two.
 #[derive(Clone, Copy, Drop)]
 pub(crate) struct Known {
-    pub(crate) file: usize,
+    pub(crate) file: Option<usize>,
     pub(crate) time: RowTime,
     pub(crate) state: u16,
+}
+
+impl Answer<'_> {
+    /// Returns `true` only where another answer to the record has the same instant and the same state.
+    #[inline(always)]
+    fn is_same(&self, other: &Answer<'_>) -> bool
+        ensures { IsTrue result → AreSameAnswers self.now other.now }
+    {
+        let is_time_same = self.time.second == other.time.second
+            && self.time.fraction == other.time.fraction;
+        is_time_same && self.state.text().is_same(other.state.text())
+    }
+}
+
+/// Returns `true` only where two releases give a record the same answer.
+#[inline(always)]
+pub(crate) fn are_same(
+    answer: &Result<Answer<'_>, RowKind>,
+    other: &Result<Answer<'_>, RowKind>,
+) -> bool
+    ensures { IsTrue result → AreSame answer.now other.now }
+{
+    match answer {
+        Ok(answer) => match other {
+            Ok(other) => answer.is_same(other),
+            Err(_) => false,
+        },
+        Err(_) => other.is_err(),
+    }
 }
 
 impl Known {
@@ -57,14 +88,18 @@ impl Known {
         layout: &Layout,
         time: RowTime,
     ) -> Answer<'s>
-        requires { self.state < length states.now.states }
-        ensures file { result.file ≡ self.file }
+        requires file { IsSome self.file }
+        requires state { self.state < length states.now.states }
+        ensures file { self.file ≡ Some result.file }
         ensures input { result.input ≡ input_of layout.now.from time }
         ensures time { result.time ≡ self.time }
         ensures state { slice_get states.now.states self.state ≡ Some (shown_in result.state) }
     {
+        let Some(file) = self.file else {
+            unreachable!()
+        };
         Answer {
-            file: self.file,
+            file,
             input: input_of(layout, time),
             time: self.time,
             state: AnswerState::Kept(states.text(self.state)),

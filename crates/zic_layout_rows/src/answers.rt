@@ -1,21 +1,21 @@
 //! What a release answers the records of a batch.
 
-ghost use Rattle.std.specs.Prelude.{◌≡◌, ◌<◌, ◌≤◌, All, IsTrue, map, take, IfOk, IfSome, OnOk, length};
+ghost use Rattle.std.specs.Prelude.{◌≡◌, ◌<◌, ◌≤◌, All, IsTrue, take, IfOk, IfSome, OnOk, length};
 ghost use Rattle.zic_columns.specs.Record.{IsWithinPiece, field_text};
 ghost use Rattle.zic_columns.specs.declared.splits.TheConstants.{BATCH};
 ghost use Rattle.zic_rows.specs.Instant.{IsRowInstant};
-ghost use Rattle.zic_zones.specs.States.{HasState};
 ghost use Rattle.zic_zones.specs.Zones.{number_of};
 ghost use Rattle.zic_zones.specs.declared.limit.TheConstants.{UNKNOWN};
 ghost use Rattle.zic_layout_rows.specs.LayoutRows.{admits_stray};
-ghost use Rattle.zic_layout_rows.specs.code.Answer.{AreAnswers, AreTimes, IfTime, IsAdmitted, IsAnswered, IsFoundIn, IsInstantOf, IsKnown, IsOnlyInstant, IsReadTime};
+ghost use Rattle.zic_layout_rows.specs.code.Answer.{AreAnswers, AreTimes, HaveFiles, IfTime, IsAdmitted};
+ghost use Rattle.zic_layout_rows.specs.code.Answer.{IsAnswered, IsFound, IsInstantOf, IsOnlyInstant, IsReadTime};
 ghost use Rattle.zic_layout_rows.specs.code.Batch.{IsGiven, IsNamed, zone_at};
 
 use crate::answer::{Answer, Known};
 use crate::faulty::copy_field;
 use crate::piece::Piece;
 use crate::search::search;
-use crate::time::{NO_TIME, no_time};
+use crate::time::{NO_TIME, ZERO_TIME, no_time};
 use std::alloc::{AllocError, Global};
 use zic_base::RowKind;
 use zic_columns::{BATCH, Field, Record, may_have};
@@ -23,30 +23,33 @@ use zic_plan::{Quotes, TimeFrom, Unit, ZoneFrom};
 use zic_rows::{FIRST_INSTANT, LAST_INSTANT, RowTime};
 use zic_zones::{RowStates, RowZones, UNKNOWN};
 
-/// The place of a record in a batch, the time in its field, and the number of its row.
+/// The time in the field of a record, and the number of its row.
 #[derive(Clone, Copy, Drop)]
 pub(crate) struct Asked {
-    pub(crate) place: usize,
     pub(crate) time: RowTime,
     pub(crate) number: u64,
 }
 
-/// What a release answers records: the states that it shows, by number, the numbers of the records' files,
-/// and the answers that the tables have. A file is `None` if none has the name of a record's zone.
+/// What a release answers records: the states that it shows, by number, and what the tables have of each
+/// record.
 #[derive(Drop)]
 pub(crate) struct Answers<'s> {
     pub(crate) states: RowStates<'s>,
-    pub(crate) zones: [Option<usize>; BATCH],
     pub(crate) known: [Known; BATCH],
 }
 
 impl<'s> Answers<'s> {
-    /// Returns a column without answers.
+    /// Returns a column before its first records. All bytes of its items are zero, as in
+    /// [`Batch::new`](crate::batch::Batch::new).
     pub(crate) fn new(states: RowStates<'s>) -> Answers<'s> {
+        let known = Known {
+            file: None,
+            time: ZERO_TIME,
+            state: 0,
+        };
         Answers {
             states,
-            zones: [None; BATCH],
-            known: [unknown(); BATCH],
+            known: [known; BATCH],
         }
     }
 
@@ -64,86 +67,118 @@ impl<'s> Answers<'s> {
         requires times { AreTimes piece.now count records.now times.now }
         ensures { OnOk result (AreAnswers piece.now records.now times.now count self.new) }
     {
-        find_zones(alloc, piece, records, count, &mut self.zones)?;
+        find_files(alloc, piece, records, count, &mut self.known)?;
         self.states = piece.zones.states();
         for i in 0..count {
-            self.known[i] = known_at(piece, &self.states, &records[i], self.zones[i], times[i]);
+            let file = self.known[i].file;
+            self.known[i] = known_at(piece, &self.states, &records[i], file, times[i]);
         }
         Ok(())
     }
-
-    /// Returns what the zones of a piece answer a record as the row of a number, or the fault of its row:
-    /// by the column, or by a search.
-    pub(crate) fn answer(
-        &self,
-        alloc: Global,
-        piece: &Piece<'_, 's>,
-        given: &Record,
-        asked: Asked,
-    ) -> Result<Result<Answer<'s>, RowKind>, AllocError>
-        requires within { asked.place < BATCH }
-        requires split { IsGiven piece.now given.now }
-        requires found { IsFoundIn piece.now given.now asked.time self.now asked.place }
-        ensures { IfOk result (IsAnswered piece.now asked.number given.now) }
-    {
-        let known = self.known[asked.place];
-        if known.state != UNKNOWN && asked.number <= piece.most {
-            return Ok(Ok(known.answer(&self.states, piece.layout, asked.time)));
-        }
-        search(alloc, piece, asked.number, given, self.zones[asked.place])
-    }
 }
 
-/// Returns an answer that the tables don't have.
+/// Returns what a piece's zones answer a record as the row of a number, or the fault of its row: what the
+/// tables have of it, or by a search.
+pub(crate) fn answer<'s>(
+    alloc: Global,
+    piece: &Piece<'_, 's>,
+    states: &RowStates<'s>,
+    given: &Record,
+    known: Known,
+    asked: Asked,
+) -> Result<Result<Answer<'s>, RowKind>, AllocError>
+    requires split { IsGiven piece.now given.now }
+    requires found { IsFound piece.now given.now asked.time states.now.states known }
+    ensures { IfOk result (IsAnswered piece.now asked.number given.now) }
+{
+    if known.state != UNKNOWN && asked.number <= piece.most {
+        return Ok(Ok(known.answer(states, piece.layout, asked.time)));
+    }
+    search(alloc, piece, asked.number, given, known.file)
+}
+
+/// Returns what a piece's zones answer a record, as [`answer`] does, where no column has it.
+#[inline(never)]
+pub(crate) fn answer_alone<'s>(
+    alloc: Global,
+    piece: &Piece<'_, 's>,
+    given: &Record,
+    asked: Asked,
+) -> Result<Result<Answer<'s>, RowKind>, AllocError>
+    requires split { IsGiven piece.now given.now }
+    requires read { IfTime asked.time (IsReadTime piece.now given.now) }
+    ensures { IfOk result (IsAnswered piece.now asked.number given.now) }
+{
+    let named = named_file(piece);
+    let file = file_of(alloc, piece, given, named, usize::MAX)?;
+    let states = piece.zones.states();
+    let known = known_at(piece, &states, given, file, asked.time);
+    answer(alloc, piece, &states, given, known, asked)
+}
+
+/// Returns that the tables have no answer to a record whose zone has this file.
 #[inline(always)]
-fn unknown() -> Known
-    ensures { result.state ≡ UNKNOWN }
+fn unknown(file: Option<usize>) -> Known
+    ensures file { result.file ≡ file }
+    ensures state { result.state ≡ UNKNOWN }
 {
     Known {
-        file: 0,
+        file,
         time: no_time(Unit::Second),
         state: UNKNOWN,
     }
 }
 
+/// Returns the number of the file of the zone that all rows are in, if there is such a zone and file.
+#[inline(always)]
+fn named_file(piece: &Piece<'_, '_>) -> Option<usize>
+    ensures { IsNamed piece.now.layout.now.zone piece.now.zones.now result }
+{
+    match &piece.layout.zone {
+        ZoneFrom::Field(_) => None,
+        ZoneFrom::Name(name) => piece.zones.find(name.as_bytes()),
+    }
+}
+
 /// Finds the files of the zones of records.
-fn find_zones(
+fn find_files(
     alloc: Global,
     piece: &Piece<'_, '_>,
     records: &[Record; BATCH],
     count: usize,
-    zones: &mut [Option<usize>; BATCH],
+    known: &mut [Known; BATCH],
 ) -> Result<(), AllocError>
     requires few { count ≤ BATCH }
     requires split { All (IsGiven piece.now) (take count records.now) }
-    ensures { OnOk result
-        (take count zones.new ≡ map (zone_at piece.now) (take count records.now)) }
+    ensures long { length known.new ≡ BATCH }
+    ensures files { OnOk result (HaveFiles piece.now count records.now known.new) }
 {
-    let named = match &piece.layout.zone {
-        ZoneFrom::Field(_) => None,
-        ZoneFrom::Name(name) => piece.zones.find(name.as_bytes()),
-    };
+    let named = named_file(piece);
+    let mut likely = usize::MAX;
     for i in 0..count {
-        zones[i] = file_of(alloc, piece, &records[i], named)?;
+        let file = file_of(alloc, piece, &records[i], named, likely)?;
+        known[i].file = file;
+        likely = file.unwrap_or(likely);
     }
     Ok(())
 }
 
 /// Returns the number of the file of a record's zone, if there is one. Where all rows are in one zone,
-/// `named` is the number of its file.
+/// `named` is the number of its file; else a likely number is tried first.
 #[inline(always)]
 fn file_of(
     alloc: Global,
     piece: &Piece<'_, '_>,
     given: &Record,
     named: Option<usize>,
+    likely: usize,
 ) -> Result<Option<usize>, AllocError>
     requires split { IsGiven piece.now given.now }
     requires named { IsNamed piece.now.layout.now.zone piece.now.zones.now named }
     ensures { IfOk result (λ file. file ≡ zone_at piece.now given.now) }
 {
     match &piece.layout.zone {
-        ZoneFrom::Field(_) => find_field(alloc, piece, given.zone),
+        ZoneFrom::Field(_) => find_field(alloc, piece, given.zone, likely),
         ZoneFrom::Name(_) => Ok(named),
     }
 }
@@ -154,13 +189,18 @@ fn find_field(
     alloc: Global,
     piece: &Piece<'_, '_>,
     field: Field,
+    likely: usize,
 ) -> Result<Option<usize>, AllocError>
     requires { IsWithinPiece piece.now.bytes.now field }
     ensures { IfOk result (λ file. file ≡ number_of piece.now.zones.now
         (field_text piece.now.layout.now.delimiter piece.now.bytes.now field)) }
 {
     match field {
-        Field::Plain(span) => Ok(piece.zones.find_at(piece.bytes, span.start, span.end)),
+        Field::Plain(span) => Ok(
+            piece
+                .zones
+                .find_at(piece.bytes, span.start, span.end, likely),
+        ),
         Field::Quoted(_) => {
             let name = copy_field(alloc, piece, field)?;
             Ok(piece.zones.find(&name))
@@ -205,19 +245,19 @@ fn known_at(
     requires split { IsGiven piece.now given.now }
     requires zone { zone ≡ zone_at piece.now given.now }
     requires time { IfTime time (IsReadTime piece.now given.now) }
-    ensures { HasState states.now.states result.state (IsKnown piece.now given.now time result) }
+    ensures { IsFound piece.now given.now time states.now.states result }
 {
     let Some(file) = zone else {
-        return unknown();
+        return unknown(zone);
     };
     if time.second == NO_TIME || !is_admitted(piece, given) {
-        return unknown();
+        return unknown(zone);
     }
     let Some(instant) = instant_of(piece, file, time) else {
-        return unknown();
+        return unknown(zone);
     };
     Known {
-        file,
+        file: zone,
         time: instant,
         state: states.number(file, instant.second),
     }

@@ -1,9 +1,7 @@
 //! Rows with a fault.
 
-ghost use Rattle.std.specs.Prelude.{◌≡◌, ◌∷◌, ◌++◌, ◌≤◌, [], IsTrue, IfOk, OnOk, Some, None};
-ghost use Rattle.std.specs.Prelude.{false, length, take, drop, map};
+ghost use Rattle.std.specs.Prelude.{◌≡◌, ◌∷◌, ◌++◌, [], IsTrue, IfOk, OnOk, Some, None, false, map};
 ghost use Rattle.csv.specs.Writing.{default_writer, row_text, with_delimiter};
-ghost use Rattle.zic_columns.specs.Exchange.{exchanged};
 ghost use Rattle.zic_columns.specs.Record.{IsWithinPiece, field_text};
 ghost use Rattle.zic_plan.specs.declared.layout.RowStart.TheVariants as start;
 ghost use Rattle.zic_zones.specs.Zones.{field_at, zone_in};
@@ -14,7 +12,7 @@ use crate::piece::Piece;
 use csv::WriterBuilder;
 use std::alloc::{AllocError, Global};
 use zic_base::RowKind;
-use zic_columns::{Field, Record, exchange, push_field};
+use zic_columns::{Field, Record, push_field};
 use zic_plan::{AtFault, Layout, Records, RowStart, Style, TimeFrom, ZoneFrom};
 
 /// Returns whether a fault ends the run.
@@ -30,17 +28,6 @@ pub fn ends_run(at_fault: AtFault, records: Records, kind: RowKind) -> bool
         (AtFault::GoOn | AtFault::Reject, Records::Lines) => {
             matches!(kind, RowKind::TooManyRows)
         }
-    }
-}
-
-/// Swaps the delimiter and commas back, from an index of the text on.
-pub fn put_back(text: &mut Vec<u8>, start: usize, delimiter: u8)
-    requires { start ≤ length text.old.items }
-    ensures { text.new.items
-        ≡ take start text.old.items ++ exchanged delimiter (drop start text.old.items) }
-{
-    if delimiter != b',' {
-        exchange(&mut text[start..], delimiter);
     }
 }
 

@@ -9,7 +9,7 @@ use crate::answer::Answer;
 use crate::faulty::answered;
 use crate::piece::Piece;
 use crate::start::NOWHERE;
-use crate::text::{push_any, push_rest, put_back};
+use crate::text::{push_any, push_rest};
 use std::alloc::{AllocError, Global};
 use zic_base::RowKind;
 use zic_columns::Record;
@@ -47,11 +47,8 @@ pub(crate) fn write_answer(
     let Ok(answer) = answer else {
         return write_empty(text, piece.layout);
     };
-    let delimiter = piece.layout.delimiter.byte();
     text.clear();
-    push_rest(text, piece, NOWHERE, answer.time, answer.state.text())?;
-    put_back(text, 0, delimiter);
-    Ok(())
+    push_rest(text, piece, NOWHERE, answer.time, answer.state.text())
 }
 
 /// Appends a row, and the fields of another answer after its last. Appends nothing to a row without a

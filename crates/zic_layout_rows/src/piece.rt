@@ -95,7 +95,7 @@ pub fn rows_of_piece<'a, 's>(
     );
     let mut count = splitter.fill(&mut batch.records);
     while 0 < count && rows.fault.is_none() {
-        batch.fill(alloc, piece, &other, count)?;
+        batch.fill(alloc, piece, count)?;
         rows.add_all(piece, &other, &batch, count, &mut pen)?;
         count = splitter.fill(&mut batch.records);
     }

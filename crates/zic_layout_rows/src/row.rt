@@ -3,15 +3,14 @@
 ghost use Rattle.std.specs.Prelude.{◌≡◌, ◌+◌, ◌^◌, ◌<◌, ◌++◌, None, Some, OnOk, IfSome};
 ghost use Rattle.std.specs.Prelude.{ℕ, List, IfOk, slice_index_or};
 ghost use Rattle.zic_columns.specs.Own.{CsvRecord};
-ghost use Rattle.zic_columns.specs.declared.splits.TheConstants.{BATCH};
-ghost use Rattle.zic_layout_rows.specs.LayoutRows.{IsAnswer, noted, old_files};
+ghost use Rattle.zic_layout_rows.specs.LayoutRows.{noted, old_files};
 ghost use Rattle.zic_layout_rows.specs.PieceRows.{AreRowsOf, empty_rows};
-ghost use Rattle.zic_layout_rows.specs.code.Answer.{AreColumns, IsAt, IsFoundIn, IsOfPiece, IsShownRow, IsWrittenOf};
+ghost use Rattle.zic_layout_rows.specs.code.Answer.{AreColumns, IfTime, IsAsked, IsAt, IsOfPiece, IsReadTime, IsShownRow, IsWrittenOf};
 ghost use Rattle.zic_layout_rows.specs.code.Batch.{IsGiven, blank, record_of, records_of};
 ghost use Rattle.zic_layout_rows.specs.code.Row.{AreNextBy, by_both, files_of};
 
-use crate::answer::Answer;
-use crate::answers::{Answers, Asked};
+use crate::answer::{Answer, are_same};
+use crate::answers::{Asked, answer, answer_alone};
 use crate::batch::Batch;
 use crate::faulty::ends_run;
 use crate::moved::{Compared, write_answer, write_empty};
@@ -64,32 +63,35 @@ impl RowPen {
         }
     }
 
-    /// Writes what another release answers a record of a batch, if there is one, and else empty fields.
-    /// `other` is the piece with the zones of that release.
-    fn ask<'s>(
+    /// Asks another release about a record that has this answer or fault, and writes its answer: empty
+    /// fields, where there is no other release. Returns whether it is known to give the same answer, which
+    /// isn't written then. `other` is the piece with the zones of that release.
+    fn ask(
         &mut self,
-        piece: &Piece<'_, 's>,
-        other: &Option<Piece<'_, 's>>,
-        others: &Answers<'s>,
+        piece: &Piece<'_, '_>,
+        other: &Option<Piece<'_, '_>>,
         given: &Record,
         asked: Asked,
-    ) -> Result<(), AllocError>
-        requires within { asked.place < BATCH }
+        answer: &Result<Answer<'_>, RowKind>,
+    ) -> Result<bool, AllocError>
         requires split { IsGiven piece.now given.now }
-        requires found { IfSome other.now
-            (λ o. IsFoundIn o given.now asked.time others.now asked.place) }
+        requires read { IfTime asked.time (IsReadTime piece.now given.now) }
         requires other { IfSome other.now (IsOfPiece piece.now) }
-        ensures { OnOk result (IsAnswer piece.now.layout.now (old_files (files_of other.now))
-            piece.now.most asked.number (record_of piece.now given.now) self.new.compared.other) }
+        requires shown { IfOk answer.now (IsShownRow piece.now given.now) }
+        ensures { IfOk result (IsAsked piece.now (old_files (files_of other.now)) asked.number
+            given.now answer.now self.new.compared.other) }
     {
         let text = &mut self.compared.other;
-        match other {
-            Some(other) => {
-                let answer = others.answer(self.alloc, other, given, asked)?;
-                write_answer(text, other, given, &answer)
-            }
-            None => write_empty(text, piece.layout),
+        let Some(other) = other else {
+            write_empty(text, piece.layout)?;
+            return Ok(false);
+        };
+        let theirs = answer_alone(self.alloc, other, given, asked)?;
+        if are_same(answer, &theirs) {
+            return Ok(true);
         }
+        write_answer(text, other, given, &theirs)?;
+        Ok(false)
     }
 
     /// Appends what is written of a record with this answer or fault.
@@ -140,7 +142,7 @@ impl Rows {
         place: usize,
         pen: &mut RowPen,
     ) -> Result<(), AllocError>
-        requires at { IsAt piece.now other.now batch.now place }
+        requires at { IsAt piece.now batch.now place }
         requires other { IfSome other.now (IsOfPiece piece.now) }
         requires fits { piece.now.first + self.old.count + 1 < 2 ^ 64 }
         ensures { OnOk result (AreNextBy piece.now.layout.now (by_both piece.now
@@ -168,7 +170,7 @@ impl Rows {
         place: usize,
         pen: &mut RowPen,
     ) -> Result<(), AllocError>
-        requires at { IsAt piece.now other.now batch.now place }
+        requires at { IsAt piece.now batch.now place }
         requires other { IfSome other.now (IsOfPiece piece.now) }
         requires fits { piece.now.first + self.old.count + 1 < 2 ^ 64 }
         ensures { OnOk result (AreNextBy piece.now.layout.now (by_both piece.now
@@ -177,11 +179,11 @@ impl Rows {
     {
         let given = &batch.records[place];
         let asked = Asked {
-            place,
             time: batch.times[place],
             number: piece.first + self.count,
         };
-        let answer = batch.answers.answer(pen.alloc, piece, given, asked)?;
+        let (states, known) = (&batch.answers.states, batch.answers.known[place]);
+        let answer = answer(pen.alloc, piece, states, given, known, asked)?;
         if let Err(kind) = &answer {
             if ends_run(piece.layout.at_fault, piece.layout.records, *kind) {
                 self.fault = Some(*kind);
@@ -189,10 +191,10 @@ impl Rows {
             }
             self.note(piece, given, asked.number, *kind, pen)?;
         }
-        if is_compared(piece.layout) {
-            pen.ask(piece, other, &batch.others, given, asked)?;
+        let is_same = is_compared(piece.layout) && pen.ask(piece, other, given, asked, &answer)?;
+        if !is_same {
+            pen.push(&mut self.text, piece, given, &answer)?;
         }
-        pen.push(&mut self.text, piece, given, &answer)?;
         self.count += 1;
         Ok(())
     }
@@ -229,7 +231,7 @@ impl Rows {
         count: usize,
         pen: &mut RowPen,
     ) -> Result<(), AllocError>
-        requires columns { AreColumns piece.now other.now batch.now count }
+        requires columns { AreColumns piece.now batch.now count }
         requires other { IfSome other.now (IsOfPiece piece.now) }
         requires goes_on { self.old.fault ≡ None }
         requires fits { piece.now.first + self.old.count + count < 2 ^ 64 }

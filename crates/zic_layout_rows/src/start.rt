@@ -1,13 +1,12 @@
 //! What rows begin with.
 
-ghost use Rattle.std.specs.Prelude.{◌≡◌, ◌≤◌, ◌++◌, ◌∷◌, [], ℕ, IfOk, IsTrue, List, OnOk, Some, length};
+ghost use Rattle.std.specs.Prelude.{◌≡◌, ◌++◌, ◌∷◌, [], IfOk, IsTrue, OnOk, Some};
 ghost use Rattle.std.specs.Fmt.{signed_decimal};
 ghost use Rattle.zic_columns.specs.Record.{IsWithin, bytes_at, field_text};
 ghost use Rattle.zic_zones.specs.Zones.{zone_in};
-ghost use Rattle.zic_columns.specs.Exchange.{exchanged};
 ghost use Rattle.zic_layout_rows.specs.LayoutRows.{beginning, input_text};
 ghost use Rattle.zic_layout_rows.specs.code.Batch.{IsCountFor, IsGiven, IsInput, IsPlain, input_in, record_of, zone_at};
-ghost use Rattle.zic_layout_rows.specs.code.Row.{input_of, put_from};
+ghost use Rattle.zic_layout_rows.specs.code.Row.{input_of};
 
 use crate::piece::Piece;
 use itoa::Buffer;
@@ -40,27 +39,27 @@ pub(crate) fn input_of(layout: &Layout, time: RowTime) -> Input
     }
 }
 
-/// Returns whether the own bytes of a record are the name of its zone, a comma, and its time.
+/// Returns whether the own bytes of a record are the name of its zone, the delimiter, and its time.
 #[inline(always)]
 fn begins_row(piece: &Piece<'_, '_>, given: &Record, time: Span) -> bool
     requires split { IsGiven piece.now given.now }
     requires time { IsWithin piece.now.bytes.now time }
     ensures { IsTrue result → bytes_at piece.now.bytes.now given.now.own
         ≡ zone_in piece.now.layout.now.zone (record_of piece.now given.now).fields
-        ++ 44 ∷ bytes_at piece.now.bytes.now time }
+        ++ piece.now.layout.now.delimiter ∷ bytes_at piece.now.bytes.now time }
 {
     let (ZoneFrom::Field(_), Field::Plain(zone)) = (&piece.layout.zone, given.zone) else {
         return false;
     };
     let own = given.own;
     if zone.start == own.start && zone.end + 1 == time.start && time.end == own.end {
-        return piece.bytes[zone.end] == b',';
+        return piece.bytes[zone.end] == piece.layout.delimiter.byte();
     }
     false
 }
 
-/// Appends the name of a record's zone, whose file has this number, and a comma: by the bytes of its
-/// field, where they stand in the piece.
+/// Appends the name of a record's zone, whose file has this number, and the delimiter: by the bytes of
+/// its field, where they stand in the piece.
 #[inline(always)]
 fn push_zone(
     text: &mut RowText,
@@ -71,18 +70,19 @@ fn push_zone(
     requires split { IsGiven piece.now given.now }
     requires file { zone_at piece.now given.now ≡ Some file }
     ensures { OnOk result (text.new ≡ text.old ++ (zone_in piece.now.layout.now.zone
-        (record_of piece.now given.now).fields ++ 44 ∷ [])) }
+        (record_of piece.now given.now).fields ++ piece.now.layout.now.delimiter ∷ [])) }
 {
+    let delimiter = piece.layout.delimiter.byte();
     if let (ZoneFrom::Field(_), Field::Plain(zone)) = (&piece.layout.zone, given.zone) {
-        return text.push_field(piece.bytes, zone.start, zone.end);
+        return text.push_field(piece.bytes, zone.start, zone.end, delimiter);
     }
     text.push(piece.zones.name(file))?;
-    text.push(b",")?;
+    text.push(&[delimiter])?;
     Ok(())
 }
 
-/// Appends the name of a record's zone, a comma and the field of its time, but for the last part, which
-/// is to be copied from the piece. Returns where that part stands.
+/// Appends the name of a record's zone, the delimiter and the field of its time, but for the last part,
+/// which is to be copied from the piece. Returns where that part stands.
 #[inline(always)]
 fn push_given(
     text: &mut RowText,
@@ -96,7 +96,8 @@ fn push_given(
     ensures within_bytes { IfOk result (IsWithin piece.now.bytes.now) }
     ensures text { IfOk result (λ span. text.new ++ bytes_at piece.now.bytes.now span ≡ text.old
         ++ (zone_in piece.now.layout.now.zone (record_of piece.now given.now).fields
-        ++ 44 ∷ field_text piece.now.layout.now.delimiter piece.now.bytes.now given.now.time)) }
+        ++ piece.now.layout.now.delimiter
+        ∷ field_text piece.now.layout.now.delimiter piece.now.bytes.now given.now.time)) }
 {
     let Field::Plain(time) = given.time else {
         unreachable!()
@@ -108,36 +109,34 @@ fn push_given(
     Ok(time)
 }
 
-/// Appends a comma and the decimals of a count.
-pub(crate) fn push_decimals(text: &mut RowText, count: i128) -> Result<(), AllocError>
-    ensures { OnOk result (text.new ≡ text.old ++ 44 ∷ signed_decimal count) }
+/// Appends a delimiter and the decimals of a count.
+pub(crate) fn push_decimals(
+    text: &mut RowText,
+    count: i128,
+    delimiter: u8,
+) -> Result<(), AllocError>
+    ensures { OnOk result (text.new ≡ text.old ++ delimiter ∷ signed_decimal count) }
 {
-    text.push(b",")?;
+    text.push(&[delimiter])?;
     text.push(Buffer::new().format(count).as_bytes())
 }
 
-/// Appends a comma and the text of the count that a record's field has: a local time, or decimals.
+/// Appends the delimiter and the text of the count that a record's field has: a local time, or decimals.
 fn push_input(text: &mut RowText, layout: &Layout, count: i128) -> Result<(), AllocError>
     requires { IsCountFor layout.now.from layout.now.unit count }
     ensures { OnOk result
-        (text.new ≡ text.old ++ 44 ∷ input_text layout.now.from layout.now.unit count) }
+        (text.new ≡ text.old ++ layout.now.delimiter
+        ∷ input_text layout.now.from layout.now.unit count) }
 {
+    let delimiter = layout.delimiter.byte();
     if let TimeFrom::Local(_) = layout.from {
-        return text.push_local_time(count, layout.unit);
+        return text.push_local_time(count, layout.unit, delimiter);
     }
-    push_decimals(text, count)
+    push_decimals(text, count, delimiter)
 }
 
-/// Where the last part of what a row begins with is to be copied from, and the index of the text from
-/// which on commas stand for the delimiter.
-#[derive(Clone, Copy, Drop)]
-pub(crate) struct Begun {
-    pub(crate) last: Span,
-    pub(crate) commas: usize,
-}
-
-/// Appends what the row of a record begins with by its fields, with commas, but for the last part, where
-/// that is to be copied from the piece. Returns where that part stands.
+/// Appends what the row of a record begins with by its fields, but for the last part, where that is to
+/// be copied from the piece. Returns where that part stands.
 #[inline(always)]
 fn push_fields(
     text: &mut RowText,
@@ -152,7 +151,7 @@ fn push_fields(
     ensures within_bytes { IfOk result (IsWithin piece.now.bytes.now) }
     ensures text { IfOk result (λ span. text.new ++ bytes_at piece.now.bytes.now span ≡ text.old
         ++ (zone_in piece.now.layout.now.zone (record_of piece.now given.now).fields
-        ++ 44 ∷ input_in piece.now given.now input)) }
+        ++ piece.now.layout.now.delimiter ∷ input_in piece.now given.now input)) }
 {
     match input {
         Input::Field => push_given(text, piece, given, file),
@@ -165,7 +164,7 @@ fn push_fields(
 }
 
 /// Appends what the row of a record begins with, but for the last part, where that is to be copied from
-/// the piece.
+/// the piece. Returns where that part stands.
 #[inline(always)]
 pub(crate) fn push_start(
     text: &mut RowText,
@@ -173,34 +172,19 @@ pub(crate) fn push_start(
     given: &Record,
     file: usize,
     input: Input,
-) -> Result<Begun, AllocError>
+) -> Result<Span, AllocError>
     requires split { IsGiven piece.now given.now }
     requires file { zone_at piece.now given.now ≡ Some file }
     requires input { IsInput piece.now given.now input }
-    ensures within_bytes { IfOk result (λ begun. IsWithin piece.now.bytes.now begun.last) }
-    ensures commas { IfOk result (λ begun.
-        begun.commas ≤ length (text.new ++ bytes_at piece.now.bytes.now begun.last)) }
-    ensures text { IfOk result (λ begun. (rest : List ℕ)
-        → put_from piece.now.layout.now.delimiter begun.commas
-        (text.new ++ (bytes_at piece.now.bytes.now begun.last ++ rest)) ≡ text.old
-        ++ (beginning piece.now.layout.now.start piece.now.layout.now.delimiter
+    ensures within_bytes { IfOk result (IsWithin piece.now.bytes.now) }
+    ensures text { IfOk result (λ span. text.new ++ bytes_at piece.now.bytes.now span ≡ text.old
+        ++ beginning piece.now.layout.now.start piece.now.layout.now.delimiter
         (bytes_at piece.now.bytes.now given.now.own)
         (zone_in piece.now.layout.now.zone (record_of piece.now given.now).fields)
-        (input_in piece.now given.now input)
-        ++ exchanged piece.now.layout.now.delimiter rest)) }
+        (input_in piece.now given.now input)) }
 {
-    let commas = text.len();
-    if let RowStart::Fields = piece.layout.start {
-        let last = push_fields(text, piece, given, file, input)?;
-        return Ok(Begun { last, commas });
+    match piece.layout.start {
+        RowStart::Fields => push_fields(text, piece, given, file, input),
+        RowStart::Record => Ok(given.own),
     }
-    if piece.layout.delimiter.byte() == b',' {
-        let last = given.own;
-        return Ok(Begun { last, commas });
-    }
-    text.push(given.own.of(piece.bytes))?;
-    Ok(Begun {
-        last: NOWHERE,
-        commas: text.len(),
-    })
 }

@@ -1,13 +1,13 @@
 //! The text of the row of a record.
 
-ghost use Rattle.std.specs.Prelude.{◌≡◌, ◌<◌, ◌≤◌, ◌++◌, IfOk, List, OnOk, length, ℕ};
+ghost use Rattle.std.specs.Prelude.{◌≡◌, ◌<◌, ◌++◌, IfOk, List, OnOk, ℕ};
 ghost use Rattle.zic_columns.specs.Record.{IsWithin, bytes_at};
 ghost use Rattle.zic_rows.specs.Count.{units_of_second};
 ghost use Rattle.zic_rows.specs.Instant.{IsRowInstant};
 ghost use Rattle.zic_layout_rows.specs.LayoutRows.{IsTextBy};
 ghost use Rattle.zic_layout_rows.specs.code.Answer.{IsRowOf, IsShownRow};
 ghost use Rattle.zic_layout_rows.specs.code.Batch.{IsGiven, record_of};
-ghost use Rattle.zic_layout_rows.specs.code.Row.{local_rest, put_from, rest_at};
+ghost use Rattle.zic_layout_rows.specs.code.Row.{local_rest, rest_at};
 
 use crate::answer::Answer;
 use crate::faulty::push_faulty;
@@ -19,38 +19,27 @@ use zic_columns::{Record, Span};
 use zic_plan::{Style, TimeFrom};
 use zic_rows::{RowRest, RowText, RowTime, StateText, count_from};
 
-/// Swaps the delimiter and commas back, from an index of the text on.
-#[inline(always)]
-pub(crate) fn put_back(text: &mut RowText, start: usize, delimiter: u8)
-    requires { start ≤ length text.old }
-    ensures { text.new ≡ put_from delimiter start text.old }
-{
-    if delimiter != b',' {
-        text.exchange(start, delimiter);
-    }
-}
-
 /// Appends what follows a local time: its instant, and the state then.
 fn push_local_rest(text: &mut RowText, rest: &RowRest<'_>) -> Result<(), AllocError>
     requires second { IsRowInstant rest.now.time.second }
     requires fraction { rest.now.time.fraction < units_of_second rest.now.time.unit }
     ensures { OnOk result (text.new ≡ text.old
-        ++ local_rest rest.now.style rest.now.time rest.now.state.now) }
+        ++ local_rest rest.now.delimiter rest.now.style rest.now.time rest.now.state.now) }
 {
     let RowTime {
         second,
         fraction,
         unit,
     } = rest.time;
-    push_decimals(text, count_from(second, fraction, unit))?;
+    push_decimals(text, count_from(second, fraction, unit), rest.delimiter)?;
     match rest.style {
-        Style::Fields => text.push_state(rest.state),
+        Style::Fields => text.push_state(rest.state, rest.delimiter),
         Style::Iso => text.push_rest(rest),
     }
 }
 
-/// Appends the last part of what a row begins with, and what follows that, with commas: the local time
-/// of an instant, or the instant of a local time, and the state, in the layout's style.
+/// Appends the last part of what a row begins with, and what follows that: the local time of an instant,
+/// or the instant of a local time, and the state, in the layout's style and with its delimiter.
 #[inline(always)]
 pub(crate) fn push_rest(
     text: &mut RowText,
@@ -63,12 +52,14 @@ pub(crate) fn push_rest(
     requires second { IsRowInstant time.second }
     requires fraction { time.fraction < units_of_second time.unit }
     ensures { OnOk result (text.new ≡ text.old ++ (bytes_at piece.now.bytes.now last
-        ++ rest_at piece.now.layout.now.style piece.now.layout.now.from time state.now)) }
+        ++ rest_at piece.now.layout.now.delimiter piece.now.layout.now.style
+        piece.now.layout.now.from time state.now)) }
 {
     let rest = RowRest {
         time,
         state,
         style: piece.layout.style,
+        delimiter: piece.layout.delimiter.byte(),
     };
     if let TimeFrom::Local(_) = piece.layout.from {
         text.push(last.of(piece.bytes))?;
@@ -77,8 +68,8 @@ pub(crate) fn push_rest(
     text.push_row(piece.bytes, last.start, last.end, &rest)
 }
 
-/// Appends the text of the row of a record with this answer, with the delimiter put back. Where memory
-/// runs out, a part of the row may be there.
+/// Appends the text of the row of a record with this answer. Where memory runs out, a part of the row
+/// may be there.
 #[inline(always)]
 pub(crate) fn push_row(
     text: &mut RowText,
@@ -91,10 +82,8 @@ pub(crate) fn push_row(
     ensures { OnOk result ((made : List ℕ) × (text.new ≡ text.old ++ made)
         × IsTextBy piece.now.layout.now piece.now.zones.now (record_of piece.now given.now) made) }
 {
-    let begun = push_start(text, piece, given, answer.file, answer.input)?;
-    push_rest(text, piece, begun.last, answer.time, answer.state.text())?;
-    put_back(text, begun.commas, piece.layout.delimiter.byte());
-    Ok(())
+    let last = push_start(text, piece, given, answer.file, answer.input)?;
+    push_rest(text, piece, last, answer.time, answer.state.text())
 }
 
 /// Appends the row of a record with this answer or fault: no row, where the record is rejected.

@@ -18,6 +18,13 @@ use zic_rows::{RowTime, parse_local_time, parse_rfc3339, quick_time};
 /// The second of a time that isn't known. No row may have it.
 pub(crate) const NO_TIME: i64 = i64::MIN;
 
+/// The time before the first is read, of zeros alone.
+pub(crate) const ZERO_TIME: RowTime = RowTime {
+    second: 0,
+    fraction: 0,
+    unit: Unit::Second,
+};
+
 /// Returns a time that isn't known.
 #[inline(always)]
 pub(crate) fn no_time(unit: Unit) -> RowTime

@@ -1,5 +1,5 @@
 -- What stands between fields: own choice.
-use Rattle.std.specs.Prelude.{ℕ, Bool, not, ◌&&◌, ◌||◌, ◌==◌, nat_lt, if◌then◌else◌}
+use Rattle.std.specs.Prelude.{ℕ, Bool, not, ◌&&◌, ◌||◌, ◌==◌, nat_lt}
 use Rattle.std.specs.Char.{is_ascii_alphanumeric}
 
 -- what a field of a row can have: a letter, a digit, or one of `+ - . / : _`
@@ -13,7 +13,3 @@ is_csv_byte byte = byte == 34 || byte == 10 || byte == 13
 -- a byte that can stand between fields: an ASCII byte of neither kind
 abbrev pub is_delimiter : ℕ → Bool
 is_delimiter byte = nat_lt byte 128 && not (is_row_byte byte) && not (is_csv_byte byte)
-
--- the delimiter for a comma, a comma for the delimiter, and any other byte as it is
-abbrev pub exchange : ℕ → ℕ → ℕ
-exchange delimiter byte = if byte == 44 then delimiter else if byte == delimiter then 44 else byte

@@ -1,5 +1,5 @@
 -- Counts of seconds, and the parts of a row of a count.
-use Rattle.std.proofs.Common.{◌≡◌, ℕ, ◌*◌, ◌/◌, ◌%◌, ◌^◌, ◌<◌, FitsSigned, unsigned_abs, w64, List, ◌++◌, ℤ, pos, negsuc, ◌+ℤ◌, refl, ap, arith}
+use Rattle.std.proofs.Common.{◌≡◌, ℕ, ◌*◌, ◌/◌, ◌%◌, ◌^◌, ◌<◌, FitsSigned, unsigned_abs, w64, List, ◌∷◌, ◌++◌, ℤ, pos, negsuc, ◌+ℤ◌, refl, ap, arith}
 use Rattle.std.proofs.Math.Nat.{div-one}
 use Rattle.std.proofs.lemmas.Int.{fits_signed_from_abs, ints}
 use Rattle.std.specs.Int.{w128}
@@ -30,10 +30,11 @@ unfolding counted_row_text counted_rest_text timed_rest_text row_text rest_text
 counted_seconds name t s = rw (second_one t) refl
 
 -- what follows a count, by the date that is kept
-pub timed_rest_cached : (style : Style) (u : Unit) (t : ℤ) (n : ℕ) (s : Shown) (seconds day : ℕ) → pos seconds ≡ t +ℤ s.offset +ℤ pos (719_162 * 86_400) → day ≡ seconds / 86_400
-    → cached_date day ++ (clock_text (seconds % 86_400) ++ (fraction_text u n ++ styled_text style s)) ≡ timed_rest_text style u t n s
+pub timed_rest_cached : (d : ℕ) (style : Style) (u : Unit) (t : ℤ) (n : ℕ) (s : Shown) (seconds day : ℕ) → pos seconds ≡ t +ℤ s.offset +ℤ pos (719_162 * 86_400) → day ≡ seconds / 86_400
+    → d ∷ (cached_date day ++ (clock_text (seconds % 86_400) ++ (fraction_text u n ++ styled_text d style s))) ≡ timed_rest_text d style u t n s
 unfolding timed_rest_text
-timed_rest_cached style u t n s seconds day counted of_day = local_cached t s.offset seconds day (fraction_text u n ++ styled_text style s) counted of_day
+timed_rest_cached d style u t n s seconds day counted of_day =
+    ap (λ (l : List ℕ). d ∷ l) (local_cached t s.offset seconds day (fraction_text u n ++ styled_text d style s) counted of_day)
 
 -- a second that a row may have fits
 pub row_second_fits : (t : ℤ) → IsRowInstant t → FitsSigned w64 t × FitsSigned w128 t

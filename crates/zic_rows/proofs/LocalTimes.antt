@@ -34,17 +34,17 @@ second_counted unit.Microsecond (negsuc a) second n e lt = omega (arith, ints)
 second_counted unit.Nanosecond (pos a) second n e lt = omega (arith, ints)
 second_counted unit.Nanosecond (negsuc a) second n e lt = omega (arith, ints)
 
--- a comma and a local time, in the parts in which they are appended
+-- a local time, in the parts in which it is appended
 pub local_parts : (u : Unit) (count : ℤ) (seconds : ℕ) → pos seconds ≡ second_of u count +ℤ pos (719_162 * 86_400)
-    → cached_date (seconds / 86_400) ++ (clock_text (seconds % 86_400) ++ fraction_text u (fraction_of u count)) ≡ 44 ∷ local_count_text u count
+    → cached_date (seconds / 86_400) ++ (clock_text (seconds % 86_400) ++ fraction_text u (fraction_of u count)) ≡ local_count_text u count
 unfolding local_count_text local_time cached_date
 local_parts u count seconds counted =
     let t = second_of u count in
     let more = fraction_text u (fraction_of u count) in
     let second = seconds % 86_400 in
     let at = pos (seconds / 86_400) -ℤ pos 719_162 in
-    let P : ℤ → ℕ → List ℕ = λ d s. 44 ∷ (civil_text (civil_of d s) ++ more) in
-    let here : P at second ≡ 44 ∷ (date_text (civil_of at 0) ++ 84 ∷ []) ++ (clock_text second ++ more) = simp append_assoc in
+    let P : ℤ → ℕ → List ℕ = λ d s. civil_text (civil_of d s) ++ more in
+    let here : P at second ≡ (date_text (civil_of at 0) ++ 84 ∷ []) ++ (clock_text second ++ more) = simp append_assoc in
     sym (ap (λ (d : ℤ). P d (second_at t)) (day_at-counted t seconds (sym counted)) ∙ ap (λ (s : ℕ). P at s) (second_at-counted t seconds (sym counted)) ∙ here)
 
 -- a second of local time fits

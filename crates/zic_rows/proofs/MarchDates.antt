@@ -58,21 +58,21 @@ early_date day year n low at within h late =
 
 -- its text
 dated : (day y m d n : ℕ) → day < 3_652_059 → IsDateOf day y m d → march_month n ≡ m → march_day_of_month n ≡ d
-    → cached_date day ≡ 44 ∷ (two_digits (y / 100) ++ (two_digits (y % 100) ++ march_text n))
+    → cached_date day ≡ two_digits (y / 100) ++ (two_digits (y % 100) ++ march_text n)
 unfolding march_text
 dated day y m d n low is month day_of_month =
     let civil : Civil = record { year = pos y; month = m; day = d; hour = 0; minute = 0; second = 0 } in
     cached_date-octets day (pos day -ℤ pos 719_162) civil y low refl (is.is_date, is.number) is.year refl
-    ∙ ap₂ (λ (a b : ℕ). 44 ∷ (two_digits (y / 100) ++ (two_digits (y % 100) ++ 45 ∷ (two_digits a ++ 45 ∷ (two_digits b ++ 84 ∷ []))))) (sym month) (sym day_of_month)
+    ∙ ap₂ (λ (a b : ℕ). two_digits (y / 100) ++ (two_digits (y % 100) ++ 45 ∷ (two_digits a ++ 45 ∷ (two_digits b ++ 84 ∷ [])))) (sym month) (sym day_of_month)
 
 pub dated_late : (day year n y : ℕ) → day < 3_652_059 → march_days year + n ≡ day + 306 → n < 306 → y ≡ year
-    → cached_date day ≡ 44 ∷ (two_digits (y / 100) ++ (two_digits (y % 100) ++ march_text n))
+    → cached_date day ≡ two_digits (y / 100) ++ (two_digits (y % 100) ++ march_text n)
 dated_late day year n y low at h same =
     let month : march_month n ≡ month_from_march n = grind (arith, nat_tests) in
     rw same (dated day year (month_from_march n) (march_day_of_month n) n low (late_date day year n low at h) month refl)
 
 pub dated_early : (day year n y : ℕ) → day < 3_652_059 → march_days year + n ≡ day + 306 → day + 306 < march_days (year + 1) → n < 366 → 306 ≤ n → y ≡ year + 1
-    → cached_date day ≡ 44 ∷ (two_digits (y / 100) ++ (two_digits (y % 100) ++ march_text n))
+    → cached_date day ≡ two_digits (y / 100) ++ (two_digits (y % 100) ++ march_text n)
 dated_early day year n y low at within h late same =
     let month : march_month n ≡ month_from_march n - 12 = grind (arith, nat_tests) in
     rw same (dated day (year + 1) (month_from_march n - 12) (march_day_of_month n) n low (early_date day year n low at within h late) month refl)

@@ -47,7 +47,7 @@ second_at-counted (negsuc a) seconds e = omega (arith, ints)
 -- the date of a day, from any civil time of it
 pub cached_date-octets : (day : ℕ) (x : ℤ) (c : Civil) (y : ℕ) → day < 3_652_059 → x ≡ pos day -ℤ pos 719_162 → IsOnDay x c → IsSupportedYear c.year → c.year ≡ pos y
     → cached_date day
-    ≡ 44 ∷ (48 + y / 100 / 10) ∷ (48 + y / 100 % 10) ∷ (48 + y % 100 / 10) ∷ (48 + y % 100 % 10)
+    ≡ (48 + y / 100 / 10) ∷ (48 + y / 100 % 10) ∷ (48 + y % 100 / 10) ∷ (48 + y % 100 % 10)
     ∷ 45 ∷ (48 + c.month / 10) ∷ (48 + c.month % 10) ∷ 45 ∷ (48 + c.day / 10) ∷ (48 + c.day % 10) ∷ 84 ∷ []
 unfolding cached_date
 cached_date-octets day x c y lt e is year e₂ =
@@ -55,7 +55,7 @@ cached_date-octets day x c y lt e is year e₂ =
     let on : IsOnDay d c = (is.0, is.1 ∙ e) in
     let supported : IsSupportedDay d = (omega (arith, ints), omega (arith, ints)) in
     let octets = date_text-octets c y e₂ in
-    ap (λ (l : List ℕ). 44 ∷ (l ++ 84 ∷ [])) (date_text-of_day d c supported on ∙ octets)
+    ap (λ (l : List ℕ). l ++ 84 ∷ []) (date_text-of_day d c supported on ∙ octets)
 
 -- what stands before the abbreviation, by the text of the offset
 pub before_name-of : (offset : ℤ) (daylight : Bool) (flag : ℕ) → flag ≡ (if daylight then 49 else 48)
@@ -63,14 +63,14 @@ pub before_name-of : (offset : ℤ) (daylight : Bool) (flag : ℕ) → flag ≡ 
 unfolding before_name
 before_name-of offset daylight flag e = ap (λ (n : ℕ). 44 ∷ (offset_text offset ++ 44 ∷ n ∷ 44 ∷ [])) e
 
-before_name-state : (s : Shown) → before_name s.offset s.daylight ++ (s.name ++ 10 ∷ []) ≡ state_text s
+before_name-state : (s : Shown) → before_name s.offset s.daylight ++ (s.name ++ 10 ∷ []) ≡ state_text 44 s
 unfolding before_name state_text
 before_name-state s =
     ap (λ (l : List ℕ). 44 ∷ l) (append_assoc (offset_text s.offset) (44 ∷ (if s.daylight then 49 else 48) ∷ 44 ∷ []) (s.name ++ 10 ∷ []))
 
--- the text of a state, written in its parts
+-- the text of a state with commas, written in its parts
 pub state_written : (state : State) (octets front name : List ℕ) (n : ℕ) → IsRowState (shown state) → length octets ≡ 32 → front ≡ before_name state.offset state.daylight → length front ≡ 13
-    → name ≡ state.name.now → n ≡ length state.name.now → take (13 + n + 1) (set (put_mid 13 (13 + n - 13) (put_mid 0 13 octets front) name) (13 + n) 10) ≡ state_text (shown state)
+    → name ≡ state.name.now → n ≡ length state.name.now → take (13 + n + 1) (set (put_mid 13 (13 + n - 13) (put_mid 0 13 octets front) name) (13 + n) 10) ≡ state_text 44 (shown state)
 state_written state octets front name n may long front_is front_long e e₂ =
     let few = may.name in
     let long_name : length name ≡ n = ap length e ∙ sym e₂ in
@@ -86,8 +86,13 @@ state_written state octets front name n may long front_is front_long e e₂ =
     at_end ∙ ap (λ (l : List ℕ). l ++ 10 ∷ []) (at_name ∙ ap (λ (l : List ℕ). l ++ name) (at_front ∙ front_is) ∙ ap (λ (l : List ℕ). B ++ l) e)
     ∙ append_assoc B state.name.now (10 ∷ []) ∙ before_name-state (shown state)
 
+-- the text of a state, with the delimiter in the place of three commas
+pub state_delimited : (d : ℕ) (s : Shown) → set (set (set (state_text 44 s) 0 d) 10 d) 12 d ≡ state_text d s
+unfolding state_text
+state_delimited d s = refl
+
 -- the abbreviation in the text of a state
-pub name_in : (s : Shown) (octets : List ℕ) (len : ℕ) → take len octets ≡ state_text s → len ≤ length octets → slice_range octets 13 (len - 1) ≡ s.name
+pub name_in : (s : Shown) (octets : List ℕ) (len : ℕ) → take len octets ≡ state_text 44 s → len ≤ length octets → slice_range octets 13 (len - 1) ≡ s.name
 unfolding state_text
 name_in s octets len is few =
     let n = length s.name in
@@ -97,19 +102,19 @@ name_in s octets len is few =
     ∙ ap (λ (k : ℕ). take n (drop 13 (take k octets))) (sym size) ∙ ap (λ (l : List ℕ). take n (drop 13 l)) is ∙ take-append_seam s.name (10 ∷ [])
 
 -- the state of a text that was written
-pub state_read : (s : Shown) (octets : List ℕ) (len : ℕ) → take len octets ≡ state_text s → len ≤ length octets → state_in s.offset s.daylight octets len ≡ s
+pub state_read : (s : Shown) (octets : List ℕ) (len : ℕ) → take len octets ≡ state_text 44 s → len ≤ length octets → state_in s.offset s.daylight octets len ≡ s
 state_read s octets len is few = ap (λ (name : List ℕ). record { offset = s.offset; daylight = s.daylight; name = name }) (name_in s octets len is few)
 
 -- the local time of an instant, by the date that is kept, and what follows it
 pub local_cached : (instant offset : ℤ) (seconds day : ℕ) (more : List ℕ) → pos seconds ≡ instant +ℤ offset +ℤ pos (719_162 * 86_400) → day ≡ seconds / 86_400
     → let second = seconds % 86_400 in
-    cached_date day ++ (clock_text second ++ more) ≡ 44 ∷ (local_text instant offset ++ more)
+    cached_date day ++ (clock_text second ++ more) ≡ local_text instant offset ++ more
 unfolding local_text local_time cached_date
 local_cached instant offset seconds day more counted of_day =
     let t = instant +ℤ offset in
     let second = seconds % 86_400 in
     let at = pos (seconds / 86_400) -ℤ pos 719_162 in
-    let P : ℤ → ℕ → List ℕ = λ d s. 44 ∷ (civil_text (civil_of d s) ++ more) in
-    let here : P at second ≡ 44 ∷ (date_text (civil_of at 0) ++ 84 ∷ []) ++ (clock_text second ++ more) = simp append_assoc in
+    let P : ℤ → ℕ → List ℕ = λ d s. civil_text (civil_of d s) ++ more in
+    let here : P at second ≡ (date_text (civil_of at 0) ++ 84 ∷ []) ++ (clock_text second ++ more) = simp append_assoc in
     ap (λ (n : ℕ). cached_date n ++ (clock_text second ++ more)) of_day
     ∙ sym (ap (λ (d : ℤ). P d (second_at t)) (day_at-counted t seconds (sym counted)) ∙ ap (λ (s : ℕ). P at s) (second_at-counted t seconds (sym counted)) ∙ here)

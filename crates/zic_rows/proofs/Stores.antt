@@ -1,8 +1,8 @@
 -- What a store of fixed size leaves before the place where the next one begins.
-use Rattle.std.proofs.Common.{◌≡◌, ℕ, ◌+◌, ◌-◌, ◌≤◌, ◌++◌, List, length, take, drop, ap, sym, ◌∙◌, append_assoc, arith}
-use Rattle.std.proofs.Math.Seq.{take-append-add}
+use Rattle.std.proofs.Common.{◌≡◌, ℕ, ◌+◌, ◌-◌, ◌<◌, ◌≤◌, ◌++◌, List, length, take, drop, set, ap, sym, ◌∙◌, append_assoc, arith}
+use Rattle.std.proofs.Math.Seq.{take-append-add, take-set-lt}
 use Rattle.std.specs.Simd.Lanes.{put_chunk}
-use Rattle.std.proofs.lemmas.List.{length-take-le, take-append-le, take-take}
+use Rattle.std.proofs.lemmas.List.{length-take-le, set-append_right, take-append-le, take-take}
 use Rattle.std.proofs.lemmas.Simd.{put_chunk_is}
 
 -- the part that was stored, and what is left of the text after it
@@ -38,3 +38,10 @@ row_written old started new after_text start rest len size with_start written wi
 pub parted : (front part whole : List ℕ) (at k n : ℕ) → length front ≡ at → take k whole ≡ front ++ part → at + n ≤ k → take (at + n) whole ≡ front ++ take n part
 parted front part whole at k n long is within =
     sym (take-take (at + n) k whole within) ∙ ap (take (at + n)) is ∙ ap (λ (m : ℕ). take (m + n) (front ++ part)) (sym long) ∙ take-append-add front part n
+
+-- a byte is stored in what stands after a part
+pub set_after : (front part whole : List ℕ) (at k n i byte : ℕ) → length front ≡ at → i ≡ at + k → i < n → take n whole ≡ front ++ part
+    → take n (set whole i byte) ≡ front ++ set part k byte
+set_after front part whole at k n i byte long place within is =
+    take-set-lt n whole i byte within ∙ ap (λ (l : List ℕ). set l i byte) is ∙ set-append_right front part at i byte long (omega (arith, place))
+    ∙ ap (λ (m : ℕ). front ++ set part m byte) (omega (arith, place))

@@ -54,15 +54,15 @@ fraction_text unit.Nanosecond n = 46 ∷ (three_digits (n / 1_000_000) ++ three_
 unfoldable pub local_count_text : Unit → ℤ → List ℕ
 local_count_text u count = civil_text (local_time (second_of u count)) ++ fraction_text u (fraction_of u count)
 
--- what follows a count of this whole second and this number of units: its local time and the state, as `,1970-01-01T00:00:00.000,+00:00:00,0,UTC` or,
--- with the offset in the field of the local time, `,1970-01-01T00:00:00.000+00:00,0,UTC`, and a newline
-unfoldable pub timed_rest_text : Style → Unit → ℤ → ℕ → Shown → List ℕ
-timed_rest_text style u second fraction shown = 44 ∷ (local_text second shown.offset ++ (fraction_text u fraction ++ styled_text style shown))
+-- what follows a count of this whole second and this number of units, with this delimiter: its local time and the state, as
+-- `,1970-01-01T00:00:00.000,+00:00:00,0,UTC` or, with the offset in the field of the local time, `,1970-01-01T00:00:00.000+00:00,0,UTC`, and a newline
+unfoldable pub timed_rest_text : ℕ → Style → Unit → ℤ → ℕ → Shown → List ℕ
+timed_rest_text d style u second fraction shown = d ∷ (local_text second shown.offset ++ (fraction_text u fraction ++ styled_text d style shown))
 
 -- the text that follows a count
-unfoldable pub counted_rest_text : Style → Unit → ℤ → Shown → List ℕ
-counted_rest_text style u count shown = timed_rest_text style u (second_of u count) (fraction_of u count) shown
+unfoldable pub counted_rest_text : ℕ → Style → Unit → ℤ → Shown → List ℕ
+counted_rest_text d style u count shown = timed_rest_text d style u (second_of u count) (fraction_of u count) shown
 
--- the text of a row with local time and offset in two fields: its name, its count in plain decimals, and the rest
+-- the text of a row with commas, and with local time and offset in two fields: its name, its count in plain decimals, and the rest
 unfoldable pub counted_row_text : Unit → List ℕ → ℤ → Shown → List ℕ
-counted_row_text u name count shown = name ++ 44 ∷ (signed_decimal count ++ counted_rest_text styles.Fields u count shown)
+counted_row_text u name count shown = name ++ 44 ∷ (signed_decimal count ++ counted_rest_text 44 styles.Fields u count shown)

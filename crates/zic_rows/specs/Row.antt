@@ -26,27 +26,27 @@ civil_text c = date_text c ++ 84 ∷ (two_digits c.hour ++ 58 ∷ (two_digits c.
 unfoldable pub local_text : ℤ → ℤ → List ℕ
 local_text instant offset = civil_text (local_time (instant +ℤ offset))
 
--- a state's offset, daylight flag and abbreviation after a comma each, and a newline
-unfoldable pub state_text : Shown → List ℕ
-state_text shown = 44 ∷ (offset_text shown.offset ++ 44 ∷ (if shown.daylight then 49 else 48) ∷ 44 ∷ (shown.name ++ 10 ∷ []))
+-- a state's offset, daylight flag and abbreviation after a delimiter each, and a newline
+unfoldable pub state_text : ℕ → Shown → List ℕ
+state_text d shown = d ∷ (offset_text shown.offset ++ d ∷ (if shown.daylight then 49 else 48) ∷ d ∷ (shown.name ++ 10 ∷ []))
 
 -- a UT offset after a local time, as `-04:00`, and with its seconds where it has some, as `-04:56:02`: RFC 3339, 5.6, has no seconds
 abbrev pub iso_offset_text : ℤ → List ℕ
 iso_offset_text offset = if unsigned_abs offset % 60 == 0 then take 6 (offset_text offset) else offset_text offset
 
--- a state after a local time in one field with the offset: the offset, then the daylight flag and the abbreviation, each after a comma, and a
--- newline
-unfoldable pub iso_state_text : Shown → List ℕ
-iso_state_text shown = iso_offset_text shown.offset ++ 44 ∷ (if shown.daylight then 49 else 48) ∷ 44 ∷ (shown.name ++ 10 ∷ [])
+-- a state after a local time in one field with the offset: the offset, then the daylight flag and the abbreviation, each after a delimiter, and
+-- a newline
+unfoldable pub iso_state_text : ℕ → Shown → List ℕ
+iso_state_text d shown = iso_offset_text shown.offset ++ d ∷ (if shown.daylight then 49 else 48) ∷ d ∷ (shown.name ++ 10 ∷ [])
 
 -- a state after the local time of a row of this style
-abbrev pub styled_text : Style → Shown → List ℕ
-styled_text styles.Fields shown = state_text shown
-styled_text styles.Iso shown = iso_state_text shown
+abbrev pub styled_text : ℕ → Style → Shown → List ℕ
+styled_text d styles.Fields shown = state_text d shown
+styled_text d styles.Iso shown = iso_state_text d shown
 
 -- the text that follows the instant: its local time and the state, as `,1970-01-01T00:00:00,+00:00:00,0,UTC` and a newline
 unfoldable pub rest_text : ℤ → Shown → List ℕ
-rest_text instant shown = 44 ∷ (local_text instant shown.offset ++ state_text shown)
+rest_text instant shown = 44 ∷ (local_text instant shown.offset ++ state_text 44 shown)
 
 -- the text of a row: its name, its instant in plain decimals, and the rest
 unfoldable pub row_text : List ℕ → ℤ → Shown → List ℕ

@@ -8,23 +8,23 @@ use crate::limit::DAYS;
 use crate::march::{DAYS_TO_JANUARY, day_text, march_day};
 use crate::store::put_8;
 
-/// A comma, the date of a day, and a `T`, in two parts.
+/// The date of a day and a `T`, in two parts.
 #[derive(Clone, Copy, Drop)]
 struct DateText {
-    /// A comma and the year, in the first five bytes.
+    /// The year, in the first four bytes.
     year: [u8; 8],
     /// The month, the day and the `T`, in the first seven bytes.
     day: [u8; 8],
 }
 
-/// A comma, the date of a day and a `T`, cached for rows of one day.
+/// The date of a day and a `T`, cached for rows of one day.
 #[derive(Drop)]
 pub(crate) struct CachedDate {
     /// This stands first, so that no part of it lies in two cache lines.
     text: DateText,
     /// The days from 0001-01-01.
     day: u32,
-    ghost is_date: { take 5 text.year ++ take 7 text.day ≡ cached_date day },
+    ghost is_date: { take 4 text.year ++ take 7 text.day ≡ cached_date day },
 }
 
 impl CachedDate {
@@ -61,15 +61,15 @@ impl CachedDate {
         *self = CachedDate::new(day);
     }
 
-    /// Writes the date into a text with room for 16 bytes.
+    /// Writes the date into a text with room for 12 bytes.
     #[inline(always)]
     pub(crate) fn put(&self, text: &mut [u8], at: usize)
-        requires { at + 16 ≤ length text.old }
+        requires { at + 12 ≤ length text.old }
         ensures same_length { length text.new ≡ length text.old }
-        ensures written { take (at + 12) text.new ≡ take at text.old ++ cached_date self.now.day }
+        ensures written { take (at + 11) text.new ≡ take at text.old ++ cached_date self.now.day }
     {
         put_8(text, at, self.text.year);
-        put_8(text, at + 5, self.text.day);
+        put_8(text, at + 4, self.text.day);
     }
 }
 
@@ -77,7 +77,7 @@ impl CachedDate {
 #[inline(always)]
 fn date_text(day: u32) -> DateText
     requires { day < DAYS }
-    ensures { take 5 result.year ++ take 7 result.day ≡ cached_date day }
+    ensures { take 4 result.year ++ take 7 result.day ≡ cached_date day }
 {
     let date = march_day(day);
     let year = if date.day < DAYS_TO_JANUARY {
@@ -88,7 +88,7 @@ fn date_text(day: u32) -> DateText
     let [y, yy] = digit_pair(year / 100);
     let [yyy, yyyy] = digit_pair(year % 100);
     DateText {
-        year: [b',', y, yy, yyy, yyyy, 0, 0, 0],
+        year: [y, yy, yyy, yyyy, 0, 0, 0, 0],
         day: day_text(date.day),
     }
 }

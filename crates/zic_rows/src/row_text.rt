@@ -1,7 +1,6 @@
 //! The text of rows.
 
-ghost use Rattle.zic_plan.specs.Delimiter.{exchange};
-ghost use Rattle.std.specs.Prelude.{◌≡◌, ◌+◌, ◌<◌, ◌≤◌, ◌++◌, ◌∷◌, [], drop, length, map, slice_range, take, IfOk, OnOk};
+ghost use Rattle.std.specs.Prelude.{◌≡◌, ◌+◌, ◌<◌, ◌≤◌, ◌++◌, ◌∷◌, [], length, slice_range, take, IfOk, OnOk};
 ghost use Rattle.zic_rows.specs.Instant.{IsRowInstant};
 ghost use Rattle.zic_rows.specs.Count.{local_count_text, second_of, timed_rest_text, units_of_second};
 ghost use Rattle.zic_rows.specs.Local.{IsLocalSecond};
@@ -12,11 +11,10 @@ use crate::count::moment_of;
 use crate::limit::{DAY, DAYS_TO_1970};
 use crate::local_second::{local_seconds, seconds_from_year_1};
 use crate::state_text::{STATE_ROOM, StateText};
-use crate::store::{put_16, put_64};
+use crate::store::{put_64, put_byte};
 use crate::timed_rest::{LOCAL_ROOM, RowRest, TIMED_ROOM, put_rest, put_time};
 use std::alloc::{AllocError, Global};
 use std::marker::Model;
-use std::simd::prelude::*;
 use zic_plan::Unit;
 
 /// The room that the start of a row has, in bytes: where it is no longer, it is written at once.
@@ -106,30 +104,37 @@ impl RowText {
         Ok(())
     }
 
-    /// Appends a part of some bytes, `start..end`, and a comma. Where memory runs out, a part may be
+    /// Appends a part of some bytes, `start..end`, and a delimiter. Where memory runs out, a part may be
     /// there.
     #[inline(always)]
-    pub fn push_field(&mut self, bytes: &[u8], start: usize, end: usize) -> Result<(), AllocError>
+    pub fn push_field(
+        &mut self,
+        bytes: &[u8],
+        start: usize,
+        end: usize,
+        delimiter: u8,
+    ) -> Result<(), AllocError>
         requires order { start ≤ end }
         requires within { end ≤ length bytes.now }
         ensures { OnOk result
-            (self.new ≡ self.old ++ (slice_range bytes.now start end ++ 44 ∷ [])) }
+            (self.new ≡ self.old ++ (slice_range bytes.now start end ++ delimiter ∷ [])) }
     {
         let len = end - start;
         let room = self.bytes.len() - self.len;
         if len > START_ROOM || bytes.len() - start < START_ROOM || room < 2 * START_ROOM {
             self.push(&bytes[start..end])?;
-            return self.push(b",");
+            return self.push(&[delimiter]);
         }
         let text: &mut [u8] = &mut self.bytes;
         put_64(text, self.len, bytes, start, len);
-        put_16(text, self.len + len, u8x16::splat(b','), 1);
+        put_byte(text, self.len + len, delimiter);
         self.len += len + 1;
         Ok(())
     }
 
     /// Appends a part of some bytes, `start..end`, and what follows it in a row: the local time and
-    /// the state at a time that a row may have, in a style. Where memory runs out, a part may be there.
+    /// the state at a time that a row may have, in a style and with a delimiter. Where memory runs out,
+    /// a part may be there.
     #[inline(always)]
     pub fn push_row(
         &mut self,
@@ -143,8 +148,8 @@ impl RowText {
         requires second { IsRowInstant rest.now.time.second }
         requires fraction { rest.now.time.fraction < units_of_second rest.now.time.unit }
         ensures { OnOk result (self.new ≡ self.old ++ (slice_range bytes.now start end
-            ++ timed_rest_text rest.now.style rest.now.time.unit rest.now.time.second
-            rest.now.time.fraction rest.now.state.now)) }
+            ++ timed_rest_text rest.now.delimiter rest.now.style rest.now.time.unit
+            rest.now.time.second rest.now.time.fraction rest.now.state.now)) }
     {
         let len = end - start;
         let room = self.bytes.len() - self.len;
@@ -160,31 +165,44 @@ impl RowText {
         Ok(())
     }
 
-    /// Appends a comma and the local time of a count of units from 1970-01-01T00:00:00 on the clocks
-    /// of a place. Where memory runs out, the text stays.
+    /// Appends a delimiter and the local time of a count of units from 1970-01-01T00:00:00 on the
+    /// clocks of a place. Where memory runs out, the text stays.
     #[inline(always)]
-    pub fn push_local_time(&mut self, count: i128, unit: Unit) -> Result<(), AllocError>
+    pub fn push_local_time(
+        &mut self,
+        count: i128,
+        unit: Unit,
+        delimiter: u8,
+    ) -> Result<(), AllocError>
         requires { IsLocalSecond (second_of unit count) }
-        ensures { OnOk result (self.new ≡ self.old ++ 44 ∷ local_count_text unit count) }
+        ensures { OnOk result (self.new ≡ self.old ++ delimiter ∷ local_count_text unit count) }
     {
-        make_room(&mut self.bytes, self.len, LOCAL_ROOM)?;
+        make_room(&mut self.bytes, self.len, 1 + LOCAL_ROOM)?;
         let moment = moment_of(count, unit);
         let seconds = seconds_from_year_1(moment.second as i64);
         let second = (seconds % DAY as u64) as u32;
         self.date.turn_to((seconds / DAY as u64) as u32);
         let text: &mut [u8] = &mut self.bytes;
-        self.len = put_time(text, self.len, &self.date, second, unit, moment.fraction);
+        put_byte(text, self.len, delimiter);
+        self.len = put_time(
+            text,
+            self.len + 1,
+            &self.date,
+            second,
+            unit,
+            moment.fraction,
+        );
         Ok(())
     }
 
-    /// Appends the text of a state: the UT offset, the daylight flag and the abbreviation after a comma
-    /// each, and a newline. Where memory runs out, the text stays.
+    /// Appends the text of a state: the UT offset, the daylight flag and the abbreviation after a
+    /// delimiter each, and a newline. Where memory runs out, the text stays.
     #[inline(always)]
-    pub fn push_state(&mut self, state: &StateText) -> Result<(), AllocError>
-        ensures { OnOk result (self.new ≡ self.old ++ state_text state.now) }
+    pub fn push_state(&mut self, state: &StateText, delimiter: u8) -> Result<(), AllocError>
+        ensures { OnOk result (self.new ≡ self.old ++ state_text delimiter state.now) }
     {
         make_room(&mut self.bytes, self.len, STATE_ROOM)?;
-        self.len = state.put(&mut self.bytes, self.len);
+        self.len = state.put(&mut self.bytes, self.len, delimiter);
         Ok(())
     }
 
@@ -194,8 +212,8 @@ impl RowText {
         requires second { IsRowInstant rest.now.time.second }
         requires fraction { rest.now.time.fraction < units_of_second rest.now.time.unit }
         ensures { OnOk result (self.new ≡ self.old ++ (start.now
-            ++ timed_rest_text rest.now.style rest.now.time.unit rest.now.time.second
-            rest.now.time.fraction rest.now.state.now)) }
+            ++ timed_rest_text rest.now.delimiter rest.now.style rest.now.time.unit
+            rest.now.time.second rest.now.time.fraction rest.now.state.now)) }
     {
         self.push(start)?;
         self.push_rest(rest)
@@ -206,8 +224,9 @@ impl RowText {
     pub fn push_rest(&mut self, rest: &RowRest<'_>) -> Result<(), AllocError>
         requires second { IsRowInstant rest.now.time.second }
         requires fraction { rest.now.time.fraction < units_of_second rest.now.time.unit }
-        ensures { OnOk result (self.new ≡ self.old ++ timed_rest_text rest.now.style
-            rest.now.time.unit rest.now.time.second rest.now.time.fraction rest.now.state.now) }
+        ensures { OnOk result (self.new ≡ self.old ++ timed_rest_text rest.now.delimiter
+            rest.now.style rest.now.time.unit rest.now.time.second rest.now.time.fraction
+            rest.now.state.now) }
     {
         make_room(&mut self.bytes, self.len, START_ROOM + TIMED_ROOM)?;
         let seconds = local_seconds(rest.time.second, rest.state.offset());
@@ -215,38 +234,6 @@ impl RowText {
         self.date.turn_to((seconds / DAY as u64) as u32);
         self.len = put_rest(&mut self.bytes, self.len, &self.date, second, rest);
         Ok(())
-    }
-
-    /// Puts a byte in the place of commas, and commas in the place of the byte, from a place of the
-    /// text on.
-    pub fn exchange(&mut self, from: usize, byte: u8)
-        requires { from ≤ length self.old }
-        ensures { self.new ≡ take from self.old ++ map (exchange byte) (drop from self.old) }
-    {
-        exchange(&mut self.bytes[from..self.len], byte);
-    }
-}
-
-/// Puts a byte in the place of commas, and commas in the place of the byte.
-fn exchange(bytes: &mut [u8], other: u8)
-    ensures { bytes.new ≡ map (exchange other) bytes.old }
-{
-    for byte in bytes.iter_mut() {
-        *byte = for_comma(*byte, other);
-    }
-}
-
-/// Returns another byte for a comma, a comma for that byte, and any other as it is.
-#[inline(always)]
-fn for_comma(byte: u8, other: u8) -> u8
-    ensures { result ≡ exchange other byte }
-{
-    if byte == b',' {
-        other
-    } else if byte == other {
-        b','
-    } else {
-        byte
     }
 }
 

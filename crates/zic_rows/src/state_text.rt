@@ -16,11 +16,12 @@ use zic_plan::Style;
 pub(crate) const STATE_ROOM: usize = 32;
 
 /// The text of a state at the end of a row, made once for many rows: the UT offset, the daylight
-/// flag and the abbreviation after a comma each, and a newline. Clauses see the state.
+/// flag and the abbreviation after a delimiter each, and a newline. Clauses see the state.
 #[derive(Drop)]
 pub struct StateText {
     offset: i32,
     daylight: bool,
+    /// The text with commas.
     octets: [u8; STATE_ROOM],
     /// The length of the text in bytes.
     len: usize,
@@ -61,6 +62,15 @@ impl StateText {
         is_time_same && *self.name() == *state.name
     }
 
+    /// Returns whether this is the text of the same state as another.
+    #[inline(always)]
+    pub fn is_same(&self, other: &StateText) -> bool
+        ensures { IsTrue result ↔ (self.now ≡ other.now) }
+    {
+        let is_time_same = self.offset == other.offset && self.daylight == other.daylight;
+        is_time_same && *self.name() == *other.name()
+    }
+
     /// Returns the abbreviation.
     fn name(&self) -> &[u8]
         ensures { result.now ≡ self.now.name }
@@ -80,40 +90,53 @@ impl StateText {
     /// Writes the text of the state in a row of a style into another text with room for 32 bytes,
     /// and returns where it ends.
     #[inline(always)]
-    pub(crate) fn put_styled(&self, text: &mut [u8], at: usize, style: Style) -> usize
+    pub(crate) fn put_styled(
+        &self,
+        text: &mut [u8],
+        at: usize,
+        style: Style,
+        delimiter: u8,
+    ) -> usize
         requires { at + STATE_ROOM ≤ length text.old }
         ensures end { result ≤ at + STATE_ROOM }
         ensures same_length { length text.new ≡ length text.old }
-        ensures written { take result text.new ≡ take at text.old ++ styled_text style self.now }
+        ensures written { take result text.new
+            ≡ take at text.old ++ styled_text delimiter style self.now }
     {
         match style {
-            Style::Fields => self.put(text, at),
-            Style::Iso => self.put_iso(text, at),
+            Style::Fields => self.put(text, at, delimiter),
+            Style::Iso => self.put_iso(text, at, delimiter),
         }
     }
 
-    /// Writes the text without the comma before the offset, and without its seconds where it has
+    /// Writes the text without the delimiter before the offset, and without its seconds where it has
     /// none. Returns where it ends.
-    fn put_iso(&self, text: &mut [u8], at: usize) -> usize
+    fn put_iso(&self, text: &mut [u8], at: usize, delimiter: u8) -> usize
         requires { at + STATE_ROOM ≤ length text.old }
         ensures end { result ≤ at + STATE_ROOM }
         ensures same_length { length text.new ≡ length text.old }
-        ensures written { take result text.new ≡ take at text.old ++ iso_state_text self.now }
+        ensures written { take result text.new ≡ take at text.old ++ iso_state_text delimiter self.now }
     {
         let width = iso_width(self.offset());
-        let end = put_part(text, at, &self.octets[1..1 + width]);
-        put_part(text, end, &self.octets[10..self.len])
+        let flag = put_part(text, at, &self.octets[1..1 + width]);
+        let end = put_part(text, flag, &self.octets[10..self.len]);
+        text[flag] = delimiter;
+        text[flag + 2] = delimiter;
+        end
     }
 
     /// Writes the text into another with room for 32 bytes, and returns where it ends.
     #[inline(always)]
-    pub(crate) fn put(&self, text: &mut [u8], at: usize) -> usize
+    pub(crate) fn put(&self, text: &mut [u8], at: usize, delimiter: u8) -> usize
         requires { at + STATE_ROOM ≤ length text.old }
         ensures end { result ≤ at + STATE_ROOM }
         ensures same_length { length text.new ≡ length text.old }
-        ensures written { take result text.new ≡ take at text.old ++ state_text self.now }
+        ensures written { take result text.new ≡ take at text.old ++ state_text delimiter self.now }
     {
         put_32(text, at, &self.octets, self.len);
+        text[at] = delimiter;
+        text[at + 10] = delimiter;
+        text[at + 12] = delimiter;
         at + self.len
     }
 }
@@ -132,10 +155,10 @@ fn iso_width(offset: i32) -> usize
     }
 }
 
-/// Writes the text of a state, and returns its length.
+/// Writes the text of a state with commas, and returns its length.
 fn write_text(octets: &mut [u8; STATE_ROOM], state: &State<'_>) -> usize
     requires { IsRowState (shown state.now) }
-    ensures text { take result octets.new ≡ state_text (shown state.now) }
+    ensures text { take result octets.new ≡ state_text 44 (shown state.now) }
     ensures fits { result ≤ 32 }
 {
     let name = state.name;

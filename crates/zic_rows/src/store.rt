@@ -1,7 +1,7 @@
 //! Stores of a fixed size into a text with room after its end: each is written over the tail of the
 //! one before, since that is quicker than to copy as many bytes as are wanted.
 
-ghost use Rattle.std.specs.Prelude.{◌≡◌, ◌+◌, ◌≤◌, ◌++◌, length, slice_range, take};
+ghost use Rattle.std.specs.Prelude.{◌≡◌, ◌+◌, ◌<◌, ◌≤◌, ◌++◌, ◌∷◌, [], length, slice_range, take};
 
 use std::simd::prelude::*;
 
@@ -52,6 +52,16 @@ pub(crate) fn put_part(text: &mut [u8], at: usize, part: &[u8]) -> usize
     let end = at + part.len();
     text[at..end].copy_from_slice(part);
     end
+}
+
+/// Writes a byte.
+#[inline(always)]
+pub(crate) fn put_byte(text: &mut [u8], at: usize, byte: u8)
+    requires { at < length text.old }
+    ensures same_length { length text.new ≡ length text.old }
+    ensures written { take (at + 1) text.new ≡ take at text.old ++ byte ∷ [] }
+{
+    text[at] = byte;
 }
 
 /// Writes 8 bytes.

@@ -1,6 +1,6 @@
 //! Numbers of files by the keys of their names: 32 bytes, compared as a vector.
 
-ghost use Rattle.std.specs.Prelude.{◌≡◌, ◌+◌, ◌-◌, ◌<◌, ◌≤◌, ◌++◌, ◌∷◌, [], length, replicate, slice_get, slice_range, take, Some, IfSome, IsTrue, OnOk, OnErr};
+ghost use Rattle.std.specs.Prelude.{◌≡◌, ◌+◌, ◌-◌, ◌<◌, ◌≤◌, ◌++◌, ◌∷◌, [], ℕ, List, length, replicate, slice_get, slice_range, take, Some, IfSome, IsTrue, OnOk, OnErr};
 ghost use Rattle.zic_zones.specs.code.NameKeys.{AreNamesOf, IsShortName, held_by, padded};
 
 use std::alloc::{AllocError, Global};
@@ -127,10 +127,29 @@ impl NameKeys {
         Ok(())
     }
 
-    /// Returns the number of the file that a part of some bytes names, if it is at hand. `None` doesn't
-    /// mean that no file has the name.
+    /// Returns `true` only where the name of a file has this key and this length.
     #[inline(always)]
-    pub(crate) fn quick(&self, bytes: &[u8], start: usize, end: usize) -> Option<usize>
+    fn is_name(&self, number: usize, key: u8x32, len: usize) -> bool
+        requires { length key ≡ 32 }
+        ensures { (name : List ℕ) → length name ≡ len → len < 32 → key ≡ padded name → IsTrue result
+            → IsShortName self.now name number }
+    {
+        let Some(found) = self.keys.get(number) else {
+            return false;
+        };
+        found.len == len && is_same(&found.bytes, key)
+    }
+
+    /// Returns the number of the file that a part of some bytes names, if it is at hand: the likely one
+    /// first. `None` doesn't mean that no file has the name.
+    #[inline(always)]
+    pub(crate) fn quick(
+        &self,
+        bytes: &[u8],
+        start: usize,
+        end: usize,
+        likely: usize,
+    ) -> Option<usize>
         requires order { start ≤ end }
         requires within { end ≤ length bytes.now }
         ensures { IfSome result (IsShortName self.now (slice_range bytes.now start end)) }
@@ -140,14 +159,13 @@ impl NameKeys {
             return None;
         }
         let key = key_at(bytes, start, len);
+        if self.is_name(likely, key, len) {
+            return Some(likely);
+        }
         let first = place_of(key, self.shift);
         for place in first..first.wrapping_add(TRIES) {
             let number = *self.places.get(place)? as usize;
-            if number >= self.keys.len() {
-                return None;
-            }
-            let found = &self.keys[number];
-            if found.len == len && is_same(&found.bytes, key) {
+            if self.is_name(number, key, len) {
                 return Some(number);
             }
         }

@@ -152,15 +152,22 @@ impl Ready {
         None
     }
 
-    /// Returns the number of the file that a part of some bytes names, if it is at hand.
+    /// Returns the number of the file that a part of some bytes names, if it is at hand: the likely one
+    /// first.
     #[inline(always)]
-    pub(crate) fn quick_number(&self, bytes: &[u8], start: usize, end: usize) -> Option<usize>
+    pub(crate) fn quick_number(
+        &self,
+        bytes: &[u8],
+        start: usize,
+        end: usize,
+        likely: usize,
+    ) -> Option<usize>
         requires order { start ≤ end }
         requires within { end ≤ length bytes.now }
         ensures { (files : List File) → AreReady files self.now
             → IfSome result (IsFileOf files (slice_range bytes.now start end)) }
     {
-        self.names.quick(bytes, start, end)
+        self.names.quick(bytes, start, end, likely)
     }
 
     /// Returns the index by which local times of a file are found, if it has one.

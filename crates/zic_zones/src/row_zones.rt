@@ -75,15 +75,15 @@ impl<'a> RowZones<'a> {
     }
 
     /// Returns the number of the file that a part of some bytes names, or `None` where no file has
-    /// that name.
+    /// that name. It is found sooner if it is the likely number, as that of the row before is.
     #[inline(always)]
-    pub fn find_at(&self, bytes: &[u8], start: usize, end: usize) -> Option<usize>
+    pub fn find_at(&self, bytes: &[u8], start: usize, end: usize, likely: usize) -> Option<usize>
         requires order { start ≤ end }
         requires within { end ≤ length bytes.now }
         ensures { result ≡ number_of self.now (slice_range bytes.now start end) }
     {
         self.are_sound();
-        match self.ready.quick_number(bytes, start, end) {
+        match self.ready.quick_number(bytes, start, end, likely) {
             Some(number) => Some(number),
             None => self.find(&bytes[start..end]),
         }

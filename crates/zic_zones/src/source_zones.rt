@@ -20,18 +20,13 @@ use zic_plan::{Delimiter, ZoneFrom};
 pub struct SourceZones<'a> {
     files: &'a Files,
     ready: Ready,
-    rounds: Rounds,
+    expected: Expected,
+    /// The number of bytes of the rounds that were prepared.
+    prepared: usize,
 }
 
-/// The rounds that were prepared.
-#[derive(Clone, Copy, Drop)]
-enum Rounds {
-    None,
-    One,
-    Several,
-    /// One of them has, near its start, an instant of an era after the first.
-    Late,
-}
+/// The number of bytes of rounds after which many rows are expected: those of some hundred rows.
+const MANY_BYTES: usize = 32_768;
 
 /// How many of the first bytes of a round are searched for an instant: those of a few records.
 const FIRST_BYTES: usize = 128;
@@ -49,9 +44,9 @@ impl<'a> Model for SourceZones<'a> {
 }
 
 impl<'a> SourceZones<'a> {
-    /// Makes the zones of all files ready. Tables by which rows are made faster come with the second
-    /// round, since a short column has only one; those of the years after 2038 come with a round that
-    /// begins with an instant of theirs.
+    /// Makes the zones of all files ready. Tables by which rows are made faster come with a round after
+    /// others of 32,768 bytes, since a short column has too few rows for them; those of the years after
+    /// 2038 come with such a round that begins with an instant of theirs.
     ///
     /// # Errors
     ///
@@ -59,26 +54,22 @@ impl<'a> SourceZones<'a> {
     pub fn new(alloc: Global, files: &'a Files) -> Result<SourceZones<'a>, AllocError>
         ensures { IfOk result (λ zones. zones ≡ files.now) }
     {
+        let expected = Expected::FewRows;
         Ok(SourceZones {
             files,
-            ready: ready_of(alloc, files, Expected::FewRows)?,
-            rounds: Rounds::None,
+            ready: ready_of(alloc, files, expected)?,
+            expected,
+            prepared: 0,
         })
     }
 
-    /// Makes the zones of all files ready for many rows.
-    ///
-    /// # Errors
-    ///
-    /// Fails where memory is refused.
-    pub fn for_many_rows(alloc: Global, files: &'a Files) -> Result<SourceZones<'a>, AllocError>
-        ensures { IfOk result (λ zones. zones ≡ files.now) }
+    /// Makes the zones of all files ready for few or for many rows.
+    fn expect(&mut self, alloc: Global, expected: Expected) -> Result<(), AllocError>
+        ensures { self.new ≡ self.old }
     {
-        Ok(SourceZones {
-            files,
-            ready: ready_of(alloc, files, Expected::ManyRows)?,
-            rounds: Rounds::Several,
-        })
+        self.ready = ready_of(alloc, self.files, expected)?;
+        self.expected = expected;
+        Ok(())
     }
 }
 
@@ -89,6 +80,15 @@ fn ready_of(alloc: Global, files: &Files, expected: Expected) -> Result<Ready, A
     let mut ready = Ready::new(alloc, expected);
     ready.extend(alloc, files)?;
     Ok(ready)
+}
+
+/// Returns the number of bytes of a round.
+fn len_of(round: &Round<'_>) -> usize {
+    let mut len = 0usize;
+    for i in 0..round.len() {
+        len = len.saturating_add(round.piece(i).len());
+    }
+    len
 }
 
 /// Returns whether some first bytes of a piece have a number that is an instant of an era after the
@@ -145,23 +145,19 @@ impl<'a> Zones for SourceZones<'a> {
         _delimiter: &Delimiter,
         round: &Round<'_>,
     ) -> Result<(), AllocError> {
+        let before = self.prepared;
+        self.prepared = before.saturating_add(len_of(round));
         // The round after the last has no piece.
-        if round.len() == 0 {
+        if before < MANY_BYTES || round.len() == 0 {
             return Ok(());
         }
-        match self.rounds {
-            Rounds::None => self.rounds = Rounds::One,
-            Rounds::One | Rounds::Several if begins_late(round.piece(0)) => {
-                self.ready = ready_of(alloc, self.files, Expected::LateRows)?;
-                self.rounds = Rounds::Late;
+        match self.expected {
+            Expected::FewRows | Expected::ManyRows if begins_late(round.piece(0)) => {
+                self.expect(alloc, Expected::LateRows)
             }
-            Rounds::One => {
-                self.ready = ready_of(alloc, self.files, Expected::ManyRows)?;
-                self.rounds = Rounds::Several;
-            }
-            Rounds::Several | Rounds::Late => {}
+            Expected::FewRows => self.expect(alloc, Expected::ManyRows),
+            Expected::ManyRows | Expected::LateRows => Ok(()),
         }
-        Ok(())
     }
 
     fn ready(&self) -> Releases<'_> {

@@ -150,7 +150,7 @@ pub record IsAtHeader (layout : Layout) (files : List File) (known : Option (Lis
 abbrev pub HaltsAtHead : {W : Type 0} → (W → Option (List ℕ)) → Counts W → Counts W → Layout → List File → Option (List ℕ) → Halt → Type 0
 HaltsAtHead contents old new layout files known halt.Unread = new ≡ old
 HaltsAtHead contents old new layout files known (halt.Stop stop.Memory) = new ≡ old
-HaltsAtHead contents old new layout files known (halt.Stop stop.WriteFailed) = HasFailedSince new old.failures × IfSome known (λ bytes. FailsWithin contents old new (header_of layout.start (names_added layout) layout.delimiter (header_read layout bytes)) × (fault_read layout files bytes ≡ None))
+HaltsAtHead contents old new layout files known (halt.Stop stop.WriteFailed) = HasFailedSince new old.failures × IfSome known (λ bytes. FailsWithin contents old new (header_of layout.start (names_added layout) (header_read layout bytes)) × (fault_read layout files bytes ≡ None))
 HaltsAtHead contents old new layout files known (halt.Stop (stop.Row row kind)) = (new ≡ old) × IsAtHeader layout files known (stop.Row row kind)
 HaltsAtHead contents old new layout files known (halt.Stop _) = ⊥
 

@@ -1,5 +1,5 @@
 -- What a release answers records: in the column of a batch, or by a search.
-use Rattle.std.specs.Prelude.{◌≡◌, ◌≢◌, ◌<◌, ◌≤◌, true, ℕ, ℤ, List, [], length, Option, Some, None, Result, Ok, MatchResult, IfSome, All, map, slice_get, slice_index_or, take}
+use Rattle.std.specs.Prelude.{◌≡◌, ◌≢◌, ◌<◌, ◌≤◌, Bool, true, false, ℕ, ℤ, List, [], length, Some, None, Result, Ok, Err, MatchResult, IfSome, All, slice_get, slice_index_or, take}
 use Rattle.zic_base.specs.State.{Shown}
 use Rattle.zic_base.specs.declared.row_fault.RowKind.{RowKind}
 use Rattle.zic_columns.specs.Record.{bytes_at}
@@ -19,7 +19,7 @@ use Rattle.zic_rows.specs.declared.row_time.RowTime.{RowTime}
 use Rattle.zic_zones.specs.Resolved.{resolved}
 use Rattle.zic_zones.specs.States.{HasState}
 use Rattle.zic_zones.specs.Zones.{AnswersAt}
-use Rattle.zic_layout_rows.specs.LayoutRows.{IsAnswerBy, IsTextBy, admits_stray, empty_fields, faulty_text, file_at, input_text, with_answer}
+use Rattle.zic_layout_rows.specs.LayoutRows.{IsAnswer, IsAnswerBy, IsTextBy, admits_stray, empty_fields, faulty_text, file_at, input_text, with_answer}
 use Rattle.zic_layout_rows.specs.code.Batch.{AreCountsOf, IsCountFor, IsGiven, IsInput, IsTimeOf, blank, blank_time, count_at, fault_at, input_in, record_of, zone_at}
 use Rattle.zic_layout_rows.specs.code.Row.{input_of}
 use Rattle.zic_layout_rows.specs.declared.answer.Answer.{Answer}
@@ -89,14 +89,16 @@ IsInstantOf piece file time instant = IsInstantFrom piece.layout.now.from piece.
 pub record IsKnown (piece : Piece) (given : Record) (input : RowTime) (known : Known) (shown : Shown) : Type 0 where
   pub admitted : IsAdmitted piece given
   pub read : IsReadTime piece given input
+  pub file : ℕ
+  pub named : known.file ≡ Some file
   pub count : ℤ
-  pub query : IsRowQuery piece given (record { file = known.file; counts = record { input = read.count; count = count } })
+  pub query : IsRowQuery piece given (record { file = file; counts = record { input = read.count; count = count } })
   pub time : IsTimeOf piece.layout.now.unit count known.time
-  pub answers : AnswersAt piece.zones.now known.file known.time.second shown
+  pub answers : AnswersAt piece.zones.now file known.time.second shown
 
 -- nothing that is known
 abbrev pub unknown : Known
-unknown = record { file = 0; time = blank_time; state = 0 }
+unknown = record { file = None; time = blank_time; state = 0 }
 
 -- the state of an answer
 abbrev pub shown_in : AnswerState → Shown
@@ -113,21 +115,36 @@ pub record IsShownRow (piece : Piece) (given : Record) (answer : Answer) : Type 
   pub says : input_in piece given answer.input ≡ input_text piece.layout.now.from piece.layout.now.unit counts.input
   pub answers : AnswersAt piece.zones.now answer.file answer.time.second (shown_in answer.state)
 
+-- two answers have the same instant and the same state
+pub record AreSameAnswers (answer other : Answer) : Type 0 where
+  pub second : answer.time.second ≡ other.time.second
+  pub fraction : answer.time.fraction ≡ other.time.fraction
+  pub state : shown_in answer.state ≡ shown_in other.state
+
+-- two releases give a record the same answer: its fields are the same, or empty by both
+abbrev pub AreSame : Result Answer RowKind → Result Answer RowKind → Type 0
+AreSame (Ok answer) (Ok other) = AreSameAnswers answer other
+AreSame (Err kind) (Err fault) = Unit {0}
+AreSame _ _ = ⊥
+
 -- what a release answers a record as the row of a number, or the fault of its row
 abbrev pub IsAnswered : Piece → ℕ → Record → Result Answer RowKind → Type 0
 IsAnswered piece number given answer = MatchResult answer
     (λ a. (fault_at piece number given ≡ None) × IsShownRow piece given a)
     (λ kind. fault_at piece number given ≡ Some kind)
 
--- the columns have the file of a record's zone, and what the tables answer, if anything
-pub record IsFoundIn (piece : Piece) (given : Record) (time : RowTime) (answers : Answers) (place : ℕ) : Type 0 where
-  pub zone : slice_index_or answers.zones place None ≡ zone_at piece given
-  pub known : HasState answers.states.states (slice_index_or answers.known place unknown).state (IsKnown piece given time (slice_index_or answers.known place unknown))
+-- the file of a record's zone, and what the tables answer by these states, if anything
+pub record IsFound (piece : Piece) (given : Record) (time : RowTime) (states : List Shown) (known : Known) : Type 0 where
+  pub file : known.file ≡ zone_at piece given
+  pub answer : HasState states known.state (IsKnown piece given time known)
 
--- the column of the first records of a batch
-pub record AreAnswers (piece : Piece) (records : List Record) (times : List RowTime) (count : ℕ) (answers : Answers) : Type 0 where
-  pub zones : take count answers.zones ≡ map (zone_at piece) (take count records)
-  pub known : (i : ℕ) → i < count → HasState answers.states.states (slice_index_or answers.known i unknown).state (IsKnown piece (slice_index_or records i blank) (slice_index_or times i blank_time) (slice_index_or answers.known i unknown))
+-- the column of the first records of a batch: the files of their zones alone, and all of it
+abbrev pub HaveFiles : Piece → ℕ → List Record → List Known → Type 0
+HaveFiles piece count records known = (i : ℕ) → i < count → (slice_index_or known i unknown).file ≡ zone_at piece (slice_index_or records i blank)
+
+abbrev pub AreAnswers : Piece → List Record → List RowTime → ℕ → Answers → Type 0
+AreAnswers piece records times count answers =
+    (i : ℕ) → i < count → IsFound piece (slice_index_or records i blank) (slice_index_or times i blank_time) answers.states.states (slice_index_or answers.known i unknown)
 
 -- a piece with the zones of another release
 pub record IsOfPiece (piece other : Piece) : Type 0 where
@@ -135,19 +152,19 @@ pub record IsOfPiece (piece other : Piece) : Type 0 where
   pub bytes : other.bytes.now ≡ piece.bytes.now
   pub most : other.most ≡ piece.most
 
--- the columns of the first records of a batch, with those of another release, if there is one
-pub record AreColumns (piece : Piece) (other : Option Piece) (batch : Batch) (count : ℕ) : Type 0 where
+-- the columns of the first records of a batch
+pub record AreColumns (piece : Piece) (batch : Batch) (count : ℕ) : Type 0 where
   pub few : count ≤ BATCH
   pub split : All (IsGiven piece) (take count batch.records)
+  pub times : AreTimes piece count batch.records batch.times
   pub answers : AreAnswers piece batch.records batch.times count batch.answers
-  pub others : IfSome other (λ o. AreAnswers o batch.records batch.times count batch.others)
 
 -- what they have of the record at a place
-pub record IsAt (piece : Piece) (other : Option Piece) (batch : Batch) (place : ℕ) : Type 0 where
+pub record IsAt (piece : Piece) (batch : Batch) (place : ℕ) : Type 0 where
   pub within : place < BATCH
   pub split : IsGiven piece (slice_index_or batch.records place blank)
-  pub answers : IsFoundIn piece (slice_index_or batch.records place blank) (slice_index_or batch.times place blank_time) batch.answers place
-  pub others : IfSome other (λ o. IsFoundIn o (slice_index_or batch.records place blank) (slice_index_or batch.times place blank_time) batch.others place)
+  pub read : IfTime (slice_index_or batch.times place blank_time) (IsReadTime piece (slice_index_or batch.records place blank))
+  pub found : IsFound piece (slice_index_or batch.records place blank) (slice_index_or batch.times place blank_time) batch.answers.states.states (slice_index_or batch.answers.known place unknown)
 
 -- the row of a record with this answer or fault
 abbrev pub IsRowOf : Piece → Record → Result Answer RowKind → List ℕ → Type 0
@@ -160,6 +177,11 @@ abbrev pub IsAnswerOf : Piece → Record → Result Answer RowKind → List ℕ 
 IsAnswerOf piece given answer text = MatchResult answer
     (λ a. IsAnswerBy piece.layout.now piece.zones.now (record_of piece given) text)
     (λ kind. text ≡ empty_fields piece.layout.now)
+
+-- Other files answer a record with this text, as the row of a number, or, where that is known, as it is answered here.
+abbrev pub IsAsked : Piece → List File → ℕ → Record → Result Answer RowKind → List ℕ → Bool → Type 0
+IsAsked piece old number given answer text false = IsAnswer piece.layout.now old piece.most number (record_of piece given) text
+IsAsked piece old number given answer text true = (same : List ℕ) × IsAnswerOf piece given answer same × IsAnswer piece.layout.now old piece.most number (record_of piece given) same
 
 -- the row of a record that is written only if it is answered differently by another release, with this text
 pub record IsMovedOf (piece : Piece) (given : Record) (answer : Result Answer RowKind) (other row : List ℕ) : Type 0 where

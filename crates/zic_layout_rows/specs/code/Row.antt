@@ -1,8 +1,7 @@
 -- Rows as the code has them.
-use Rattle.std.specs.Prelude.{◌≡◌, ◌+◌, ℕ, ℤ, pos, ◌+ℤ◌, ◌*ℤ◌, List, ◌∷◌, ◌++◌, Option, None, Some, MatchOption, drop, take}
+use Rattle.std.specs.Prelude.{◌≡◌, ◌+◌, ℕ, ℤ, pos, ◌+ℤ◌, ◌*ℤ◌, List, ◌∷◌, ◌++◌, Option, None, Some, MatchOption}
 use Rattle.std.specs.Fmt.{signed_decimal}
 use Rattle.zic_base.specs.State.{Shown}
-use Rattle.zic_columns.specs.Exchange.{exchanged}
 use Rattle.zic_columns.specs.Own.{CsvRecord}
 use Rattle.zic_files.specs.File.{File}
 use Rattle.zic_plan.specs.declared.layout.Layout.{Layout}
@@ -21,27 +20,23 @@ use Rattle.zic_layout_rows.specs.declared.piece.Piece.{Piece}
 use Rattle.zic_layout_rows.specs.declared.start.Input.{Input}
 use Rattle.zic_layout_rows.specs.declared.start.Input.TheVariants as given_by
 
--- bytes, with commas and the delimiter exchanged from an index on
-abbrev pub put_from : ℕ → ℕ → List ℕ → List ℕ
-put_from delimiter index bytes = take index bytes ++ exchanged delimiter (drop index bytes)
-
 -- the count of a time
 abbrev pub time_count : RowTime → ℤ
 time_count time = (time.second *ℤ pos (units_of_second time.unit)) +ℤ pos time.fraction
 
--- what follows a local time, by the time of its instant, with commas: that instant and the state
-abbrev pub state_at : Style → RowTime → Shown → List ℕ
-state_at styles.Fields time state = state_text state
-state_at styles.Iso time state = timed_rest_text styles.Iso time.unit time.second time.fraction state
+-- what follows a local time, by the time of its instant: that instant and the state
+abbrev pub state_at : ℕ → Style → RowTime → Shown → List ℕ
+state_at delimiter styles.Fields time state = state_text delimiter state
+state_at delimiter styles.Iso time state = timed_rest_text delimiter styles.Iso time.unit time.second time.fraction state
 
-abbrev pub local_rest : Style → RowTime → Shown → List ℕ
-local_rest style time state = 44 ∷ (signed_decimal (time_count time) ++ state_at style time state)
+abbrev pub local_rest : ℕ → Style → RowTime → Shown → List ℕ
+local_rest delimiter style time state = delimiter ∷ (signed_decimal (time_count time) ++ state_at delimiter style time state)
 
--- what follows in a row, by the time of its instant, with commas
-abbrev pub rest_at : Style → TimeFrom → RowTime → Shown → List ℕ
-rest_at style from.Count time state = timed_rest_text style time.unit time.second time.fraction state
-rest_at style from.Rfc3339 time state = timed_rest_text style time.unit time.second time.fraction state
-rest_at style (from.Local choice) time state = local_rest style time state
+-- what follows in a row, by the time of its instant
+abbrev pub rest_at : ℕ → Style → TimeFrom → RowTime → Shown → List ℕ
+rest_at delimiter style from.Count time state = timed_rest_text delimiter style time.unit time.second time.fraction state
+rest_at delimiter style from.Rfc3339 time state = timed_rest_text delimiter style time.unit time.second time.fraction state
+rest_at delimiter style (from.Local choice) time state = local_rest delimiter style time state
 
 -- what a row has of the time in the field of its record: the field as it is, where that has decimals, or else the time's count
 abbrev pub input_of : TimeFrom → RowTime → Input

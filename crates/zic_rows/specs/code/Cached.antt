@@ -6,9 +6,9 @@ use Rattle.zic_rows.specs.declared.limit.TheConstants.{DAYS_TO_1970}
 use Rattle.zic_rows.specs.Local.{civil_of}
 use Rattle.zic_rows.specs.Row.{date_text, state_text, IsRowState}
 
--- a comma, the date of a day, and a `T`; the days are counted from 0001-01-01
+-- the date of a day and a `T`; the days are counted from 0001-01-01
 unfoldable pub cached_date : ℕ → List ℕ
-cached_date day = 44 ∷ (date_text (civil_of (pos day -ℤ pos DAYS_TO_1970) 0) ++ 84 ∷ [])
+cached_date day = date_text (civil_of (pos day -ℤ pos DAYS_TO_1970) 0) ++ 84 ∷ []
 
 -- a comma, an offset, a comma, a daylight flag and a comma
 unfoldable pub before_name : ℤ → Bool → List ℕ
@@ -18,8 +18,8 @@ before_name offset daylight = 44 ∷ (offset_text offset ++ 44 ∷ (if daylight 
 abbrev pub state_in : ℤ → Bool → List ℕ → ℕ → Shown
 state_in offset daylight octets len = record { offset = offset; daylight = daylight; name = slice_range octets 13 (len - 1) }
 
--- The first of these bytes, up to this number, are the text of the state, which a row may have.
+-- The first of these bytes, up to this number, are the text of the state with commas, which a row may have.
 pub record IsTextOf (state : Shown) (octets : List ℕ) (len : ℕ) : Type 0 where
   pub may : IsRowState state
-  pub text : take len octets ≡ state_text state
+  pub text : take len octets ≡ state_text 44 state
   pub fits : len ≤ 32

@@ -63,7 +63,7 @@ returns-clause-head g c =
     let kept = kept_is c.first_record_is_alone.ensures layout (can_delimit layout.delimiter c.byte.ensures.sound) known c.in_ok-column.field-0.header.items c.in_ok-column.ensures.header c.kept_of-header.result.items
     c.kept_of-header.ensures in
     if_some known _ (λ column e.
-    subst (λ (l : List ℕ). Appends (g.W.Write.contents c.args.writer.now.inner) (g.W.Write.contents c.write_header.new.writer.inner) (header_of layout.start (names_added layout) layout.delimiter l))
+    subst (λ (l : List ℕ). Appends (g.W.Write.contents c.args.writer.now.inner) (g.W.Write.contents c.write_header.new.writer.inner) (header_of layout.start (names_added layout) l))
     (for_some known _ column kept e) c.in_ok-write_header.ensures.ok.0)
 
 pub returns-clause-none : goal.returns-clause-none

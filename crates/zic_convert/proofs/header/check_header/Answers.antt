@@ -6,13 +6,8 @@ use Rattle.zic_zones.specs.declared.releases.Releases.{Releases}
 use Rattle.zic_convert.specs.Header.{header_fault}
 use Rattle.zic_convert.specs.code.Progress.{records_left}
 use Rattle.zic_convert.proofs.Delimited.{can_delimit}
-use Rattle.zic_convert.proofs.HeaderFaults.{empty_own, no_fault, own_same}
+use Rattle.zic_convert.proofs.HeaderFaults.{own_same}
 use Rattle.zic_convert.proofs.header.check_header.Goals as goal
-
-pub returns-then-is_empty-clause-none : goal.returns-then-is_empty-clause-none
-returns-then-is_empty-clause-none g c = λ releases may of.
-    let own = c.args.own.now in
-    sym (no_fault c.args.by.now.layout.now releases.zones own (empty_own own c.if-is_empty.ensures))
 
 pub returns-in-None-clause-none : goal.returns-in-None-clause-none
 returns-in-None-clause-none g c = λ releases may of.

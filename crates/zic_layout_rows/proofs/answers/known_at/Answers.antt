@@ -18,7 +18,7 @@ number-requires c =
     rw c.requires.files (rw (sym c.requires.zone ∙ c.in-Some.is) at (number_within piece.zones.now (zone_in piece.layout.now.zone (record_of piece c.args.given.now).fields)))
 
 pub returns : goal.returns
-returns c = λ says.
+returns c =
     let piece = c.args.piece.now in
     let given = c.args.given.now in
     let file = c.in-Some.file in
@@ -26,6 +26,11 @@ returns c = λ says.
     let zone : zone_at piece given ≡ Some file = sym c.requires.zone ∙ c.in-Some.is in
     let within : file < length piece.zones.now = rw zone at (number_within piece.zones.now (zone_in piece.layout.now.zone (record_of piece given).fields)) in
     let second : FitsSigned w64 instant.second = search rules in
-    let (state, got, answers) = (rw (to_z-of_z second) at c.number.ensures) says in
-    let at = subst (λ (files : List File). AnswersAt files file instant.second state) c.requires.files answers in
-    (state, got, known_is piece given file zone within (c.if-not-is_admitted.ensures refl) c.args.time (c.requires.time (λ same. c.if-time-eq-NO_TIME.false (rw same refl))) instant c.number.result state at c.in-Some-instant_of.ensures)
+    record {
+      file = sym zone;
+      answer = λ says.
+          let (state, got, answers) = (rw (to_z-of_z second) at c.number.ensures) says in
+          let at = subst (λ (files : List File). AnswersAt files file instant.second state) c.requires.files answers in
+          let is = known_is piece given file zone within (c.if-not-is_admitted.ensures refl) c.args.time (c.requires.time (λ same. c.if-time-eq-NO_TIME.false (rw same refl))) instant c.number.result state at c.in-Some-instant_of.ensures in
+          (state, got, is);
+    }

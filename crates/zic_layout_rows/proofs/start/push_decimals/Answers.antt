@@ -11,5 +11,5 @@ returns c =
     let count : FitsSigned w128 c.args.count = search rules in
     let digits : c.as_bytes.result.now ≡ signed_decimal c.args.count = c.as_bytes.ensures.value ∙ (rw (to_z-of_z count) at c.format.ensures.text) in
     on_ok_weaker c.push-2.result
-    (λ is. digits_pushed old (signed_decimal c.args.count) c.push.new.self c.push-2.new.self c.in_ok-push.ensures (is ∙ ap (λ (l : List ℕ). c.push.new.self ++ l) digits))
+    (λ is. digits_pushed c.args.delimiter old (signed_decimal c.args.count) c.push.new.self c.push-2.new.self c.in_ok-push.ensures (is ∙ ap (λ (l : List ℕ). c.push.new.self ++ l) digits))
     c.push-2.ensures

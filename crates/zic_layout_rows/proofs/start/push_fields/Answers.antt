@@ -21,6 +21,6 @@ returns-in_ok-push_input-in-Count-clause-text c =
     let count : FitsSigned w128 c.in-Count.count = search rules in
     let called = name_is piece.zones.now name c.args.file c.name.result.now c.requires.file c.name.ensures in
     append-nil c.push_input.new.text
-    ∙ start_pushed old name (input_text layout.from layout.unit c.in-Count.count) c.push.new.self c.push_input.new.text
+    ∙ start_pushed layout.delimiter old name (input_text layout.from layout.unit c.in-Count.count) c.push.new.self c.push_input.new.text
     (c.in_ok-push-in-Count.ensures ∙ ap (λ (l : List ℕ). old ++ l) called) (rw (to_z-of_z count) at c.in_ok-push_input-in-Count.ensures)
     ∙ (rw c.in-Count.is refl)

@@ -10,10 +10,11 @@ returns c =
     let piece = c.args.piece.now in
     let bytes = piece.bytes.now in
     let old = c.args.text.now in
+    let d = piece.layout.now.delimiter in
     let name = zone_in piece.layout.now.zone (record_of piece c.args.given.now).fields in
     let time = bytes_at bytes c.in-Plain.time in
     record {
       within_bytes = rw c.in-Plain.is at c.requires.split.time_within;
-      text = ap (λ (l : List ℕ). l ++ time) c.in_ok-push_zone.ensures ∙ append_assoc old (name ++ 44 ∷ []) time ∙ ap (λ (l : List ℕ). old ++ l) (append_assoc name (44 ∷ []) time)
-          ∙ ap (λ (f : Field). old ++ (name ++ 44 ∷ field_text piece.layout.now.delimiter bytes f)) (sym c.in-Plain.is);
+      text = ap (λ (l : List ℕ). l ++ time) c.in_ok-push_zone.ensures ∙ append_assoc old (name ++ d ∷ []) time ∙ ap (λ (l : List ℕ). old ++ l) (append_assoc name (d ∷ []) time)
+          ∙ ap (λ (f : Field). old ++ (name ++ d ∷ field_text d bytes f)) (sym c.in-Plain.is);
     }

@@ -10,4 +10,4 @@ returns c =
     let count = c.args.count in
     let fits : FitsSigned w128 count = search rules in
     let plain : input_text layout.from layout.unit count ≡ signed_decimal count = search rules in
-    rw plain (rw (to_z-of_z fits) at c.push_decimals.ensures)
+    rw plain (rw (to_z-of_z fits, c.byte-delimiter.ensures.byte) at c.push_decimals.ensures)

@@ -6,7 +6,8 @@ use Rattle.zic_layout_rows.proofs.text.push_rest.Goals as goal
 pub returns : goal.returns
 returns c =
     let layout = c.args.piece.now.layout.now in
+    let d = layout.delimiter in
     let time = c.args.time in
     let state = c.args.state.now in
-    let is : rest_at layout.style layout.from time state ≡ timed_rest_text layout.style time.unit time.second time.fraction state = search rules in
-    rw is c.push_row.ensures
+    let is : rest_at d layout.style layout.from time state ≡ timed_rest_text d layout.style time.unit time.second time.fraction state = search rules in
+    rw is (rw c.byte.ensures.byte at c.push_row.ensures)

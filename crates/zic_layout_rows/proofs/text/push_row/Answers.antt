@@ -1,29 +1,29 @@
-use Rattle.std.proofs.Common.{◌++◌, ◌∙◌, append_assoc, arith, refl, sym}
+use Rattle.std.proofs.Common.{◌++◌, ◌∙◌, List, ap, append_assoc, refl, sym, ℕ}
+use Rattle.std.proofs.lemmas.Result.{on_ok_weaker}
 use Rattle.zic_columns.specs.Record.{bytes_at}
+use Rattle.zic_zones.specs.Zones.{zone_in}
+use Rattle.zic_layout_rows.specs.LayoutRows.{beginning}
 use Rattle.zic_layout_rows.specs.code.Answer.{shown_in}
+use Rattle.zic_layout_rows.specs.code.Batch.{input_in, record_of}
 use Rattle.zic_layout_rows.specs.code.Row.{rest_at}
-use Rattle.zic_layout_rows.proofs.ShownRows.{no_shorter, row_made}
+use Rattle.zic_layout_rows.proofs.ShownRows.{row_made}
 use Rattle.zic_layout_rows.proofs.text.push_row.Goals as goal
-
-pub put_back-requires : goal.put_back-requires
-put_back-requires c =
-    let piece = c.args.piece.now in
-    let layout = piece.layout.now in
-    let rest = rest_at layout.style layout.from c.args.answer.now.time (shown_in c.args.answer.now.state) in
-    let begun = c.push_start.new.text in
-    let last = bytes_at piece.bytes.now c.in_ok-begun.begun.last in
-    let longer = no_shorter (begun ++ last) rest c.push_rest.new.text ((rw c.text.ensures at c.in_ok-push_rest.ensures) ∙ sym (append_assoc begun last rest)) in
-    omega (arith, c.in_ok-begun.ensures.commas, longer)
 
 pub returns : goal.returns
 returns c =
     let piece = c.args.piece.now in
     let layout = piece.layout.now in
-    let d = layout.delimiter in
     let given = c.args.given.now in
     let answer = c.args.answer.now in
-    let rest = rest_at layout.style layout.from answer.time (shown_in answer.state) in
-    let begun = c.in_ok-begun in
-    let all = rw c.text.ensures at c.in_ok-push_rest.ensures in
-    let put = rw (c.byte.ensures.byte, all) at c.put_back.ensures in
-    (_, put ∙ begun.ensures.text rest, row_made piece given answer c.requires.shown _ refl)
+    let old = c.args.text.now in
+    let row_record = record_of piece given in
+    let start = beginning layout.start layout.delimiter row_record.own (zone_in layout.zone row_record.fields) (input_in piece given answer.input) in
+    let rest = rest_at layout.delimiter layout.style layout.from answer.time (shown_in answer.state) in
+    let last = bytes_at piece.bytes.now c.in_ok-last.last in
+    on_ok_weaker c.push_rest.result
+    (λ is. (
+      start ++ rest,
+      (rw c.text.ensures at is) ∙ sym (append_assoc c.push_start.new.text last rest) ∙ ap (λ (l : List ℕ). l ++ rest) c.in_ok-last.ensures.text ∙ append_assoc old start rest,
+      row_made piece given answer c.requires.shown _ refl,
+    ))
+    c.push_rest.ensures

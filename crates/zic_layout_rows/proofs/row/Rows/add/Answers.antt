@@ -1,5 +1,5 @@
 use Rattle.std.proofs.Common.{◌+◌, List, Option, ap, refl, subst, sym, ℕ}
-use Rattle.std.specs.Prelude.{slice_index_or}
+use Rattle.std.specs.Prelude.{IsSome, slice_index_or}
 use Rattle.zic_base.specs.declared.row_fault.RowKind.{RowKind}
 use Rattle.zic_plan.specs.declared.layout.Written.{Written}
 use Rattle.zic_layout_rows.specs.LayoutRows.{IsRowAt, IsWrittenAt}
@@ -10,6 +10,9 @@ use Rattle.zic_layout_rows.specs.code.Row.{by_both, files_of}
 use Rattle.zic_layout_rows.proofs.KnownRows.{known_sound}
 use Rattle.zic_layout_rows.proofs.NextRows.{next_sound}
 use Rattle.zic_layout_rows.proofs.row.Rows.add.Goals as goal
+
+pub answer-answer-requires-clause-file : goal.answer-answer-requires-clause-file
+answer-answer-requires-clause-file c = let (state, got, is) = c.requires.at.found.answer c.if-known.false in subst IsSome (sym is.named) refl
 
 pub returns : goal.returns
 returns c =
@@ -23,7 +26,7 @@ returns c =
     let q = c.self.inside in
     let old : RowsOf = record { text = q.text; count = q.count; fault = q.fault; faults = q.faults.items } in
     let number = piece.first + q.count in
-    let (state, got, is) = c.requires.at.answers.known c.if-known.false in
+    let (state, got, is) = c.requires.at.found.answer c.if-known.false in
     let none = known_sound piece given time (slice_index_or batch.answers.known place unknown) state is number c.requires.at.split c.if-piece-number.false in
     let (row, text, of) = c.in_ok-push_row.ensures in
     let by_fault = subst (λ (o : Option RowKind). IsRowAt layout piece.zones.now o (record_of piece given) row) (sym none) of in

@@ -13,7 +13,7 @@ pub add-requires-clause-fits : goal.add-requires-clause-fits
 add-requires-clause-fits c = omega (arith, c.requires.fits, c.loop-place.invariant.count, c.loop-place-test.true)
 
 pub add-requires-clause-at : goal.add-requires-clause-at
-add-requires-clause-at c = is_at c.args.piece.now c.args.other.now c.args.batch.now c.args.count c.loop-place.place c.requires.columns (search rules) c.loop-place-test.true
+add-requires-clause-at c = is_at c.args.piece.now c.args.batch.now c.args.count c.loop-place.place c.requires.columns (search rules) c.loop-place-test.true
 
 pub returns-then-is_some-clause-rows : goal.returns-then-is_some-clause-rows
 returns-then-is_some-clause-rows c = λ before are.

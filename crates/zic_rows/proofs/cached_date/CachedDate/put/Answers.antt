@@ -10,10 +10,10 @@ returns-clause-written c =
     let day = c.args.self.now.text.day in
     let mid = c.put_8.new.text in
     let new = c.put_8-2.new.text in
-    let dated : take (at + 5) mid ≡ take at text ++ take 5 year =
-    parted (take at text) year mid at (at + 8) 5 (length-take-le at text (omega arith)) c.put_8.ensures.written (omega arith) in
-    let all : take (at + 5 + 7) new ≡ take (at + 5) mid ++ take 7 day =
-    parted (take (at + 5) mid) day new (at + 5) (at + 5 + 8) 7 (length-take-le (at + 5) mid (omega arith)) c.put_8-2.ensures.written (omega arith) in
-    let size : at + 12 ≡ at + 5 + 7 = omega arith in
+    let dated : take (at + 4) mid ≡ take at text ++ take 4 year =
+    parted (take at text) year mid at (at + 8) 4 (length-take-le at text (omega arith)) c.put_8.ensures.written (omega arith) in
+    let all : take (at + 4 + 7) new ≡ take (at + 4) mid ++ take 7 day =
+    parted (take (at + 4) mid) day new (at + 4) (at + 4 + 8) 7 (length-take-le (at + 4) mid (omega arith)) c.put_8-2.ensures.written (omega arith) in
+    let size : at + 11 ≡ at + 4 + 7 = omega arith in
     ap (λ (n : ℕ). take n new) size ∙ all ∙ ap (λ (l : List ℕ). l ++ take 7 day) dated
-    ∙ append_assoc (take at text) (take 5 year) (take 7 day) ∙ ap (λ (l : List ℕ). take at text ++ l) c.args.self.now.is_date
+    ∙ append_assoc (take at text) (take 4 year) (take 7 day) ∙ ap (λ (l : List ℕ). take at text ++ l) c.args.self.now.is_date

@@ -13,7 +13,7 @@ returns c =
     let seconds = c.local_seconds-seconds.result in
     let written = c.put_rest-self-inside.ensures in
     let counted : pos seconds ≡ time.second +ℤ s.offset +ℤ pos (719_162 * 86_400) = omega (arith, ints, c.local_seconds-seconds.ensures.value, c.offset.ensures.value) in
-    let rest = timed_rest_cached facts.style time.unit time.second time.fraction s seconds c.turn_to.new.self.day counted c.turn_to.ensures in
+    let rest = timed_rest_cached facts.delimiter facts.style time.unit time.second time.fraction s seconds c.turn_to.new.self.day counted c.turn_to.ensures in
     let before : take len c.deref_mut.result.now ≡ c.args.self.now = ap (take len) c.deref_mut.ensures.value ∙ c.in_ok-make_room.ensures.text ∙ c.self.view_is in
     written_back c.put_rest-self-inside.new.text _ c.put_rest-self-inside.result c.make_room.new.bytes.len
     (omega (arith, written.end, c.in_ok-make_room.ensures.room)) (omega (arith, written.end, written.same_length, c.deref_mut.ensures.len, c.in_ok-make_room.ensures.room))

@@ -16,7 +16,7 @@ returns c =
     let seconds = c.local_seconds-seconds.result in
     let written = c.put_rest-self-inside.ensures in
     let counted : pos seconds ≡ time.second +ℤ s.offset +ℤ pos (719_162 * 86_400) = omega (arith, ints, c.local_seconds-seconds.ensures.value, c.offset.ensures.value) in
-    let rest = timed_rest_cached facts.style time.unit time.second time.fraction s seconds c.turn_to.new.self.day counted c.turn_to.ensures in
+    let rest = timed_rest_cached facts.delimiter facts.style time.unit time.second time.fraction s seconds c.turn_to.new.self.day counted c.turn_to.ensures in
     let same : c.args.start + size ≡ c.args.end = omega arith in
     let start : take (len + size) c.put_64.new.text ≡ take len c.deref_mut-text.result.now ++ slice_range bytes c.args.start c.args.end =
     c.put_64.ensures.written ∙ ap (λ (n : ℕ). take len c.deref_mut-text.result.now ++ slice_range bytes c.args.start n) same in
