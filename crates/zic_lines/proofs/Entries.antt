@@ -1,8 +1,8 @@
 -- What the fields of a line say, and what a line says: something just where no check fails, and one thing.
-use Rattle.std.proofs.Common.{◌≡◌, ℕ, Bool, true, false, List, [], ◌∷◌, length, Option, Some, None, refl, sym, ap, subst, ◌∙◌, ◌<◌, arith}
-use Rattle.std.specs.Prelude.{IfSome, IfOk, Result, Ok, Err, map, get_or, slice_index_or}
+use Rattle.std.proofs.Common.{◌≡◌, ℕ, Bool, true, false, cond, List, [], ◌∷◌, length, Option, Some, None, refl, sym, ap, subst, ◌∙◌, ◌<◌, arith}
+use Rattle.std.specs.Prelude.{IfSome, IfOk, Result, Ok, Err, map, option_map, get_or, slice_index_or}
 use Rattle.std.proofs.lemmas.Bool.{le-leb, leb-true}
-use Rattle.zic_base.specs.Check.{first_failed}
+use Rattle.zic_base.specs.Check.{Check, check, first_failed}
 use Rattle.zic_base.specs.declared.place.Place.{Place}
 use Rattle.zic_base.proofs.Checks.{each_passes, first_failed-both, first_failed-append}
 use Rattle.zic_words.specs.declared.keyword.Keyword.{Keyword}
@@ -20,7 +20,8 @@ use Rattle.zic_lines.specs.Field.{fields}
 use Rattle.zic_lines.specs.Entry.{is_continuation}
 use Rattle.zic_lines.specs.Grammar.{IsLine, FieldsSay, Says}
 use Rattle.zic_lines.specs.code.Entries.{IsOtherLine}
-use Rattle.zic_lines.specs.Checks.{byte_checks, continuation_checks, keyword_checks, field_checks, line_checks}
+use Rattle.zic_lines.specs.Checks.{byte_checks, continuation_checks, keyword_checks, kind_of, numbered_checks, field_checks, line_checks}
+use Rattle.zic_lines.specs.declared.field_fault.FieldFault.{FieldFault}
 use Rattle.zic_lines.proofs.RuleLines.{rule_said, rule_passes, rule_once}
 use Rattle.zic_lines.proofs.ZoneLines.{continuation_said, continuation_passes, continuation_once, zone_said, zone_passes}
 use Rattle.zic_lines.proofs.LinkLines.{link_said, link_passes, link_once}
@@ -38,7 +39,7 @@ keyword_said place field texts (Some keywords.Rule) begins e = let rule = rule_s
 keyword_said place field texts (Some keywords.Zone) begins e = let zone = zone_said place field texts begins e in (Some (entries.Zone zone.0 zone.1), (zone.2, refl))
 keyword_said place field texts (Some keywords.Link) begins e = let link = link_said place field texts begins e in (Some (entries.Link link.0), (link.1, refl))
 
-pub fields_said : (awaited : Bool) (place : Place) (texts : List (List ℕ)) → first_failed (field_checks awaited texts) ≡ None
+pub fields_said : (awaited : Bool) (place : Place) (texts : List (List ℕ)) → first_failed (numbered_checks awaited texts) ≡ None
     → (entry : Option Entry) × FieldsSay place texts entry × IfSome entry (λ said. is_continuation said ≡ awaited)
 fields_said awaited place [] e = (None, refl, tt)
 fields_said true place (field ∷ texts) e = let line = continuation_said place (field ∷ texts) e in (Some (entries.Continuation line.0), line.1, refl)
@@ -47,25 +48,25 @@ fields_said false place (field ∷ texts) e = let said = keyword_said place fiel
 -- ---- where something is said, no check fails
 
 keyword_passes : (awaited : Bool) (texts : List (List ℕ)) (field : List ℕ) (others : List (List ℕ)) (keyword : Keyword) → texts ≡ field ∷ others → keyword_of field ≡ Some keyword → false ≡ awaited
-    → first_failed (keyword_checks (Some keyword) texts) ≡ None → first_failed (field_checks awaited texts) ≡ None
+    → first_failed (keyword_checks (Some keyword) texts) ≡ None → first_failed (numbered_checks awaited texts) ≡ None
 keyword_passes true texts field others keyword are begins a e = absurd cc
 keyword_passes false texts field others keyword are begins a e =
-    ap (λ (ts : List (List ℕ)). first_failed (field_checks false ts)) are
+    ap (λ (ts : List (List ℕ)). first_failed (numbered_checks false ts)) are
     ∙ ap (λ (k : Option Keyword). first_failed (keyword_checks k (field ∷ others))) begins
     ∙ ap (λ (ts : List (List ℕ)). first_failed (keyword_checks (Some keyword) ts)) (sym are) ∙ e
 
-awaited_passes : (awaited : Bool) (texts : List (List ℕ)) → true ≡ awaited → first_failed (field_checks true texts) ≡ first_failed (field_checks awaited texts)
+awaited_passes : (awaited : Bool) (texts : List (List ℕ)) → true ≡ awaited → first_failed (numbered_checks true texts) ≡ first_failed (numbered_checks awaited texts)
 awaited_passes true texts a = refl
 awaited_passes false texts a = absurd cc
 
 pub said_passes : (awaited : Bool) (place : Place) (texts : List (List ℕ)) (entry : Option Entry) → FieldsSay place texts entry → IfSome entry (λ said. is_continuation said ≡ awaited)
-    → first_failed (field_checks awaited texts) ≡ None
-said_passes awaited place texts None is a = ap (λ (ts : List (List ℕ)). first_failed (field_checks awaited ts)) is
+    → first_failed (numbered_checks awaited texts) ≡ None
+said_passes awaited place texts None is a = ap (λ (ts : List (List ℕ)). first_failed (numbered_checks awaited ts)) is
 said_passes awaited place texts (Some (entries.Rule rule)) is a = keyword_passes awaited texts is.keyword _ keywords.Rule is.ten is.is_rule a (rule_passes place texts rule is)
 said_passes awaited place texts (Some (entries.Zone name line)) is a = keyword_passes awaited texts is.keyword _ keywords.Zone is.are is.is_zone a (zone_passes place texts name line is)
 said_passes awaited place texts (Some (entries.Continuation line)) is a =
     sym (awaited_passes awaited texts a)
-    ∙ ap (λ (ts : List (List ℕ)). first_failed (field_checks true ts)) is.are
+    ∙ ap (λ (ts : List (List ℕ)). first_failed (numbered_checks true ts)) is.are
     ∙ ap (λ (ts : List (List ℕ)). first_failed (continuation_checks ts)) (sym is.are)
     ∙ continuation_passes place texts line is
 said_passes awaited place texts (Some (entries.Link link)) is a = keyword_passes awaited texts is.keyword _ keywords.Link is.three is.is_link a (link_passes place texts link is)
@@ -112,18 +113,37 @@ line_is bytes e =
 line_passes : (bytes : List ℕ) → IsLine bytes → first_failed (byte_checks bytes) ≡ None
 line_passes bytes is = rw (le-leb (length bytes) LONGEST_LINE is.short, is.ascii, is.closed) refl
 
+-- ---- the kind of the first fault
+
+first_kind : (cs : List (Check FieldFault)) → first_failed (map (λ c. check c.passes (kind_of c.reason)) cs) ≡ option_map kind_of (first_failed cs)
+first_kind [] = refl
+first_kind (c ∷ cs) = elim c.passes as (λ b. cond b (first_failed (map (λ d. check d.passes (kind_of d.reason)) cs)) (Some (kind_of c.reason)) ≡ option_map kind_of (cond b (first_failed cs) (Some c.reason))) [
+  | true ↦ first_kind cs
+  | false ↦ refl
+]
+
+no_kind : (o : Option FieldFault) → option_map kind_of o ≡ None → o ≡ None
+no_kind None e = refl
+no_kind (Some fault) e = absurd cc
+
+pub fields_pass : (awaited : Bool) (texts : List (List ℕ)) → first_failed (numbered_checks awaited texts) ≡ None → first_failed (field_checks awaited texts) ≡ None
+fields_pass awaited texts e = first_kind (numbered_checks awaited texts) ∙ ap (option_map kind_of) e
+
+pub fields_fail : (awaited : Bool) (texts : List (List ℕ)) (fault : FieldFault) → first_failed (numbered_checks awaited texts) ≡ Some fault → first_failed (field_checks awaited texts) ≡ Some (kind_of fault)
+fields_fail awaited texts fault e = first_kind (numbered_checks awaited texts) ∙ ap (option_map kind_of) e
+
 -- a line of which no check fails says something
 pub line_said : (awaited : Bool) (line : PlacedLine) → first_failed (line_checks awaited line.bytes) ≡ None → (entry : Option Entry) × Says line entry × IfSome entry (λ said. is_continuation said ≡ awaited)
 line_said awaited line e =
     let both = first_failed-both (byte_checks line.bytes) (field_checks awaited (fields line.bytes)) e in
-    let said = fields_said awaited line.place (fields line.bytes) both.1 in
+    let said = fields_said awaited line.place (fields line.bytes) (no_kind _ (sym (first_kind (numbered_checks awaited (fields line.bytes))) ∙ both.1)) in
     (said.0, (line_is line.bytes both.0, said.1), said.2)
 
 -- no check fails of a line that says something
 pub says_passes : (awaited : Bool) (line : PlacedLine) (entry : Option Entry) → Says line entry → IfSome entry (λ said. is_continuation said ≡ awaited) → first_failed (line_checks awaited line.bytes) ≡ None
 says_passes awaited line entry says a =
     first_failed-append (byte_checks line.bytes) (field_checks awaited (fields line.bytes)) (line_passes line.bytes says.0)
-    ∙ said_passes awaited line.place (fields line.bytes) entry says.1 a
+    ∙ fields_pass awaited (fields line.bytes) (said_passes awaited line.place (fields line.bytes) entry says.1 a)
 
 -- a line says one thing
 pub says_once : (awaited : Bool) (line : PlacedLine) (entry other : Option Entry) → Says line entry → IfSome entry (λ said. is_continuation said ≡ awaited)
@@ -132,12 +152,12 @@ says_once awaited line entry other says a also b = said_once awaited line.place 
 
 -- ---- the checks of fields, by what is awaited and by the first of them
 
-pub checks_of_awaited : (awaited : Bool) (texts : List (List ℕ)) → awaited ≡ true → 0 < length texts → field_checks awaited texts ≡ continuation_checks texts
+pub checks_of_awaited : (awaited : Bool) (texts : List (List ℕ)) → awaited ≡ true → 0 < length texts → numbered_checks awaited texts ≡ continuation_checks texts
 checks_of_awaited true (field ∷ texts) e some = refl
 checks_of_awaited true [] e some = absurd (omega arith)
 checks_of_awaited false texts e some = absurd cc
 
-pub checks_by_keyword : (awaited : Bool) (texts : List (List ℕ)) (keyword : Option Keyword) → awaited ≡ false → 0 < length texts → keyword_of (slice_index_or texts 0 []) ≡ keyword → field_checks awaited texts ≡ keyword_checks keyword texts
+pub checks_by_keyword : (awaited : Bool) (texts : List (List ℕ)) (keyword : Option Keyword) → awaited ≡ false → 0 < length texts → keyword_of (slice_index_or texts 0 []) ≡ keyword → numbered_checks awaited texts ≡ keyword_checks keyword texts
 checks_by_keyword false (field ∷ texts) keyword e some k = ap (λ (o : Option Keyword). keyword_checks o (field ∷ texts)) k
 checks_by_keyword false [] keyword e some k = absurd (omega arith)
 checks_by_keyword true texts keyword e some k = absurd cc

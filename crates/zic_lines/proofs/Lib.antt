@@ -5,5 +5,6 @@ pub mod RuleLines
 pub mod ZoneLines
 pub mod LinkLines
 pub mod Entries
-pub mod Scan
+pub mod Marks
 pub mod FieldEnds
+pub mod Ranges

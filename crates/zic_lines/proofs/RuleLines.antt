@@ -2,12 +2,13 @@
 use Rattle.std.proofs.Common.{◌≡◌, ℕ, true, false, List, [], ◌∷◌, Option, Some, None, Result, Ok, Err, refl, sym, ap, subst, ◌∙◌}
 use Rattle.std.specs.Prelude.{not, is_some, IfOk}
 use Rattle.zic_base.specs.Check.{check, first_failed}
-use Rattle.zic_base.specs.declared.fault.Kind.{Kind}
 use Rattle.zic_base.specs.declared.fault.Kind.TheVariants.{Name, Reserved, Month, Day, Time}
 use Rattle.zic_base.specs.Option.{some_and}
 use Rattle.zic_calendar.specs.declared.day_form.On.{On}
 use Rattle.zic_base.specs.declared.place.Place.{Place}
 use Rattle.zic_base.proofs.Checks.{each_passes, first_failed-stops}
+use Rattle.zic_lines.specs.declared.field_fault.FieldFault.{FieldFault}
+use Rattle.zic_lines.specs.declared.field_fault.FieldFault.TheVariants.{At}
 use Rattle.zic_lines.specs.declared.rule.Rule.{Rule}
 use Rattle.zic_words.specs.declared.keyword.Keyword.TheVariants as keywords
 use Rattle.zic_words.specs.Keyword.{keyword_of}
@@ -158,31 +159,31 @@ rule_made place {texts} {keyword} {name} {from} {to} {reserved} {month} {day} {t
 -- ---- the first that fails, step by step
 
 module _ (from to reserved month day time : List ℕ) where
-  pub years_fail : (kind : Kind) → first_failed (year_checks from to) ≡ Some kind → first_failed (time_checks from to reserved month day time) ≡ Some kind
-  years_fail kind e = first_failed-stops (year_checks from to)
-      (check (is_dash reserved) Reserved
-      ∷ check (is_some (month_of month)) Month
-      ∷ check (is_some (rule_day_of from to month day)) Day
-      ∷ check (is_some (clock_time_of time)) Time
-      ∷ []) kind e
+  pub years_fail : (fault : FieldFault) → first_failed (year_checks from to) ≡ Some fault → first_failed (time_checks from to reserved month day time) ≡ Some fault
+  years_fail fault e = first_failed-stops (year_checks from to)
+      (check (is_dash reserved) (At Reserved 4)
+      ∷ check (is_some (month_of month)) (At Month 5)
+      ∷ check (is_some (rule_day_of from to month day)) (At Day 6)
+      ∷ check (is_some (clock_time_of time)) (At Time 7)
+      ∷ []) fault e
 
   module _ (years : Years) (say : SayYears from to years) where
-    pub not_reserved : is_dash reserved ≡ false → first_failed (time_checks from to reserved month day time) ≡ Some Reserved
+    pub not_reserved : is_dash reserved ≡ false → first_failed (time_checks from to reserved month day time) ≡ Some (At Reserved 4)
     not_reserved e = rw (say.begins, say.ends, say.in_order, e) refl
 
-    pub moment_fails : is_dash reserved ≡ true → (kind : Kind) → first_failed (moment_checks years month day time) ≡ Some kind → first_failed (time_checks from to reserved month day time) ≡ Some kind
-    moment_fails unused kind e = rw (say.begins, say.ends, say.in_order, unused) e
+    pub moment_fails : is_dash reserved ≡ true → (fault : FieldFault) → first_failed (moment_checks years month day time) ≡ Some fault → first_failed (time_checks from to reserved month day time) ≡ Some fault
+    moment_fails unused fault e = rw (say.begins, say.ends, say.in_order, unused) e
 
 module _ {texts : List (List ℕ)} {keyword name from to reserved month day time save letter : List ℕ} (are : texts ≡ keyword ∷ name ∷ from ∷ to ∷ reserved ∷ month ∷ day ∷ time ∷ save ∷ letter ∷ []) where
-  checks_are : (o : Option Kind) → first_failed (rule_checks (keyword ∷ name ∷ from ∷ to ∷ reserved ∷ month ∷ day ∷ time ∷ save ∷ letter ∷ [])) ≡ o → first_failed (rule_checks texts) ≡ o
+  checks_are : (o : Option FieldFault) → first_failed (rule_checks (keyword ∷ name ∷ from ∷ to ∷ reserved ∷ month ∷ day ∷ time ∷ save ∷ letter ∷ [])) ≡ o → first_failed (rule_checks texts) ≡ o
   checks_are o e = ap (λ (ts : List (List ℕ)). first_failed (rule_checks ts)) are ∙ e
 
-  pub no_name : is_set_name name ≡ false → first_failed (rule_checks texts) ≡ Some Name
-  no_name bad = checks_are (Some Name) (rw bad refl)
+  pub no_name : is_set_name name ≡ false → first_failed (rule_checks texts) ≡ Some (At Name 1)
+  no_name bad = checks_are (Some (At Name 1)) (rw bad refl)
 
   module _ (named : is_set_name name ≡ true) where
-    pub times_fail : (kind : Kind) → first_failed (time_checks from to reserved month day time) ≡ Some kind → first_failed (rule_checks texts) ≡ Some kind
-    times_fail kind e = checks_are (Some kind) (rw named (first_failed-stops (time_checks from to reserved month day time) (effect_checks save letter) kind e))
+    pub times_fail : (fault : FieldFault) → first_failed (time_checks from to reserved month day time) ≡ Some fault → first_failed (rule_checks texts) ≡ Some fault
+    times_fail fault e = checks_are (Some fault) (rw named (first_failed-stops (time_checks from to reserved month day time) (effect_checks save letter) fault e))
 
     -- the checks of SAVE and LETTER decide
     pub effect_decides : (times : Times) → SayTimes from to reserved month day time times → first_failed (rule_checks texts) ≡ first_failed (effect_checks save letter)

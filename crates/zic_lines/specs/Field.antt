@@ -1,8 +1,9 @@
 -- The fields of a line: zic(8), FILES; which bytes may stand, that a quoted part may stand anywhere in a field, and that `""`
 -- means `-`, are own choice.
-use Rattle.std.specs.Prelude.{ℕ, ◌%◌, Bool, true, false, not, ◌&&◌, ◌||◌, List, [], ◌∷◌, map, take, filter, count_by, take_while, nat_le, ◌==◌}
+use Rattle.std.specs.Prelude.{ℕ, ◌+◌, ◌%◌, Bool, true, false, not, ◌&&◌, ◌||◌, List, [], ◌∷◌, map, take, filter, count_by, take_while, length, nat_le, nat_lt, slice_range, ◌==◌}
 use Rattle.std.specs.List.{slice_split, enumerate_from, list_all}
 use Rattle.zic_words.specs.Dash.{dash}
+use Rattle.zic_lines.specs.declared.field.FieldRange.{FieldRange}
 
 -- the double quote
 abbrev pub is_quote : ℕ → Bool
@@ -66,3 +67,25 @@ field_text part = dash_if_empty (filter (λ byte. not (is_quote byte)) (map (λ 
 -- The fields are what stands between unquoted white space.
 abbrev pub fields : List ℕ → List (List ℕ)
 fields line = map field_text (filter is_some_part (slice_split is_gap (code line)))
+
+-- where parts of a line stand, of which the first begins at this byte: a byte of white space stands between each two
+abbrev pub ranges_from : ℕ → List (List Mark) → List FieldRange
+ranges_from start [] = []
+ranges_from start (part ∷ parts) = record { start = start; end = start + length part } ∷ ranges_from (start + length part + 1) parts
+
+-- something stands there
+abbrev pub is_some_range : FieldRange → Bool
+is_some_range range = nat_lt range.start range.end
+
+-- where each field stands in its line, from a byte up to another
+abbrev pub field_ranges : List ℕ → List FieldRange
+field_ranges line = filter is_some_range (ranges_from 0 (slice_split is_gap (code line)))
+
+-- the text of what stands in a range of a line, without its double quotes
+abbrev pub text_in : List ℕ → FieldRange → List ℕ
+text_in line range = dash_if_empty (filter (λ byte. not (is_quote byte)) (slice_range line range.start range.end))
+
+-- the fields of a line, and where they stand
+pub record FieldsOf : Type 0 where
+  pub texts : List (List ℕ)
+  pub ranges : List FieldRange

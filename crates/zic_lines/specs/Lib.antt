@@ -9,6 +9,5 @@ pub mod LinkLine
 pub mod Entry
 pub mod Grammar
 pub mod Checks
-pub mod FaultyField
 pub mod Laws
 pub mod code

@@ -1,23 +1,29 @@
 //! Entries: lines by their keywords.
 
-ghost use Rattle.std.specs.Prelude.{◌≡◌, ◌<◌, OnOk, IfOk, IfErr, Some, None, length};
+ghost use Rattle.std.specs.Prelude.{◌≡◌, ◌<◌, OnOk, IfOk, IfErr, Some, None, [], length, slice_index_or};
 ghost use Rattle.zic_base.specs.Check.{first_failed};
 ghost use Rattle.zic_base.specs.Fault.{fault_of, IsFirstFailed};
 ghost use Rattle.zic_base.specs.Memory.{IfRefusal, OnOutOfMemory};
+ghost use Rattle.zic_words.specs.Keyword.{keyword_of};
 ghost use Rattle.zic_lines.specs.Entry.{is_continuation};
 ghost use Rattle.zic_lines.specs.Grammar.{FieldsSay};
-ghost use Rattle.zic_lines.specs.Checks.{field_checks, keyword_checks};
+ghost use Rattle.zic_lines.specs.Checks.{field_checks, numbered_checks, keyword_checks, faulty_field};
 ghost use Rattle.zic_lines.specs.code.Texts.{texts_of};
 
 use crate::field::Fields;
+use crate::field_fault::FieldFault;
 use crate::link::{Link, link_line};
 use crate::rule::Rule;
 use crate::rule_line::rule_line;
+use crate::until::text_or;
 use crate::zone_line::{ZoneLine, continuation_line, zone_line};
 use std::alloc::{AllocError, Global};
 use std::borrow::CowSlice;
 use zic_base::{Kind, Place, Stop};
 use zic_words::{Keyword, Name, parse_keyword};
+
+/// A place of no line.
+const NOWHERE: Place = Place { text: 1, line: 1 };
 
 /// A line that isn't blank, taken apart.
 #[derive(Drop)]
@@ -29,20 +35,20 @@ pub enum Entry {
     Link(Link),
 }
 
-/// Returns the entry of the fields, or the kind of their first fault.
+/// Returns the entry of the fields, or their first fault.
 fn parse_entry(
     alloc: Global,
     awaited: bool,
     place: Place,
     fields: &[CowSlice<'_, u8>],
-) -> Result<Result<Entry, AllocError>, Kind>
+) -> Result<Result<Entry, AllocError>, FieldFault>
     requires { 0 < length fields.now }
-    ensures ok { OnOk result (first_failed (field_checks awaited (texts_of fields.now)) ≡ None) }
+    ensures ok { OnOk result (first_failed (numbered_checks awaited (texts_of fields.now)) ≡ None) }
     ensures says { IfOk result
         (λ made. IfOk made (λ entry. FieldsSay place (texts_of fields.now) (Some entry))) }
     ensures awaited { IfOk result (λ made. IfOk made (λ entry. is_continuation entry ≡ awaited)) }
     ensures fault { IfErr result
-        (λ kind. first_failed (field_checks awaited (texts_of fields.now)) ≡ Some kind) }
+        (λ fault. first_failed (numbered_checks awaited (texts_of fields.now)) ≡ Some fault) }
 {
     if awaited {
         return Ok(continuation_line(alloc, place, fields)?.map(Entry::Continuation));
@@ -51,7 +57,7 @@ fn parse_entry(
         Some(Keyword::Rule) => rule_line(alloc, place, fields),
         Some(Keyword::Zone) => zone_line(alloc, place, fields),
         Some(Keyword::Link) => link_line(alloc, place, fields),
-        None => Err(Kind::Keyword),
+        None => Err(FieldFault::At(Kind::Keyword, 0)),
     }
 }
 
@@ -63,16 +69,37 @@ pub fn line_entry(
     place: Place,
     fields: &Fields,
 ) -> Result<Entry, Stop>
-    requires { 0 < length fields.now }
+    requires { 0 < length fields.now.texts }
     ensures says { IfOk result
-        (λ entry. FieldsSay place fields.now (Some entry) × (is_continuation entry ≡ awaited)) }
+        (λ entry. FieldsSay place fields.now.texts (Some entry) × (is_continuation entry ≡ awaited)) }
     ensures fault { IfRefusal fault_of result
-        (IsFirstFailed place (field_checks awaited fields.now)) }
+        (IsFirstFailed place (field_checks awaited fields.now.texts)) }
     ensures memory { OnOutOfMemory fault_of result
-        (first_failed (field_checks awaited fields.now) ≡ None) }
+        (first_failed (field_checks awaited fields.now.texts) ≡ None) }
 {
     match parse_entry(alloc, awaited, place, fields.texts()) {
         Ok(entry) => Ok(entry?),
-        Err(kind) => Err(Stop::at(place, kind)),
+        Err(fault) => Err(Stop::at(place, fault.kind())),
     }
+}
+
+/// Returns the number, from 0, of the field that the first check to fail is about; `None` where none
+/// fails, or the number of fields is wrong. Where a continuation line is awaited, the fields are its own.
+pub fn faulty_field(alloc: Global, awaited: bool, fields: &Fields) -> Option<usize>
+    ensures { result ≡ faulty_field awaited fields.now.texts }
+{
+    if fields.len() == 0 {
+        return None;
+    }
+    match parse_entry(alloc, awaited, NOWHERE, fields.texts()) {
+        Ok(_) => None,
+        Err(fault) => fault.field(),
+    }
+}
+
+/// Returns the keyword that the first field stands for, if it does.
+pub fn first_keyword(fields: &Fields) -> Option<Keyword>
+    ensures { result ≡ keyword_of (slice_index_or fields.now.texts 0 []) }
+{
+    parse_keyword(text_or(fields.texts(), 0, &[]))
 }

@@ -1,14 +1,14 @@
 //! The fields of a line.
 
-ghost use Rattle.std.specs.Prelude.{◌≡◌, ◌≤◌, false, [], length, slice_range, IfOk, OnOk};
+ghost use Rattle.std.specs.Prelude.{◌≡◌, ◌≤◌, false, [], length, slice_get, slice_range, IfOk, OnOk};
 ghost use Rattle.std.specs.Cow.{cow_slice_items};
 ghost use Rattle.zic_base.specs.Fault.{fault_of, IsFirstFailed};
 ghost use Rattle.zic_base.specs.Memory.{IfRefusal, OnOutOfMemory};
-ghost use Rattle.zic_lines.specs.Field.{is_space, is_allowed, dash_if_empty, fields};
+ghost use Rattle.zic_lines.specs.Field.{is_space, is_allowed, dash_if_empty, fields, field_ranges};
 ghost use Rattle.zic_lines.specs.Grammar.{IsLine};
 ghost use Rattle.zic_lines.specs.Checks.{byte_checks};
 ghost use Rattle.zic_lines.specs.code.Texts.{texts_of};
-ghost use Rattle.zic_lines.specs.code.Taken.{role_of, is_plain, ArePlain, without_quotes, begun_text, ended_fields};
+ghost use Rattle.zic_lines.specs.code.Taken.{role_of, is_plain, ArePlain, without_quotes, ended_texts, ended_ranges};
 
 use std::alloc::{AllocError, Global};
 use std::borrow::CowSlice;
@@ -19,14 +19,14 @@ use zic_base::{Kind, Place, Stop};
 pub const LONGEST_LINE: usize = 2048;
 
 /// Returns whether the byte is white space in a line.
-pub(crate) fn is_space(byte: u8) -> bool
+fn is_space(byte: u8) -> bool
     ensures { result ≡ is_space byte }
 {
     matches!(byte, b' ' | b'\t' | 0x0b..=0x0d)
 }
 
-/// Returns whether the byte is white space or a printable ASCII character.
-fn is_allowed(byte: u8) -> bool
+/// Returns whether the byte may stand outside a comment: white space, or a printable ASCII character.
+pub fn is_allowed(byte: u8) -> bool
     ensures { result ≡ is_allowed byte }
 {
     is_space(byte) || matches!(byte, 0x21..=0x7e)
@@ -102,50 +102,69 @@ fn text_without_quotes<'a>(alloc: Global, field: &[u8]) -> Result<CowSlice<'a, u
     Ok(CowSlice::Owned(text))
 }
 
+/// Where a field stands in its line: from a byte up to another.
+#[derive(Clone, Copy, Debug)]
+pub struct FieldRange {
+    pub start: usize,
+    pub end: usize,
+}
+
 /// The fields of one line, without their double quotes, in a list that is used for one line after
 /// the other.
 #[derive(Debug, Drop)]
 pub struct Fields<'a> {
     /// Parts of the line; only a field with double quotes is copied.
     texts: Vec<CowSlice<'a, u8>>,
+    /// Where they stand.
+    ranges: Vec<FieldRange>,
 }
 
 impl<'a> Model for Fields<'a> {
-    ghost use Rattle.std.specs.Prelude.{ℕ, List, map};
+    ghost use Rattle.std.specs.Prelude.{map};
     ghost use Rattle.std.specs.Cow.{cow_slice_items};
+    ghost use Rattle.zic_lines.specs.Field.{FieldsOf};
 
-    ghost Value = { List (List ℕ) };
+    ghost Value = { FieldsOf };
 
-    ghost view = { λ f. map cow_slice_items f.texts.items };
+    ghost view = { λ f. record { texts = map cow_slice_items f.texts.items; ranges = f.ranges.items } };
 }
 
 impl<'a> Fields<'a> {
     /// Returns a list of no fields. Takes no memory.
     pub fn new(alloc: Global) -> Self
-        ensures { result ≡ [] }
+        ensures { result.texts ≡ [] }
     {
         Fields {
             texts: Vec::new(alloc),
+            ranges: Vec::new(alloc),
         }
     }
 
     /// Returns the number of fields.
     pub fn len(&self) -> usize
-        ensures { result ≡ length self.now }
+        ensures { result ≡ length self.now.texts }
     {
         self.texts.len()
     }
 
     /// Returns the texts of the fields.
     pub(crate) fn texts(&self) -> &[CowSlice<'a, u8>]
-        ensures { texts_of result.now ≡ self.now }
+        ensures { texts_of result.now ≡ self.now.texts }
     {
         &self.texts
     }
 
+    /// Returns where the field of this number, from 0, stands in its line.
+    pub fn range(&self, number: usize) -> Option<FieldRange>
+        ensures { result ≡ slice_get self.now.ranges number }
+    {
+        self.ranges.get(number).copied()
+    }
+
     /// Splits a line into the fields up to its comment, or returns its first fault at this place.
     pub fn take_line(&mut self, alloc: Global, place: Place, line: &'a [u8]) -> Result<(), Stop>
-        ensures ok { OnOk result (IsLine line.now × (self.new ≡ fields line.now)) }
+        ensures ok { OnOk result (IsLine line.now × (self.new.texts ≡ fields line.now)) }
+        ensures ranges { OnOk result (self.new.ranges ≡ field_ranges line.now) }
         ensures fault { IfRefusal fault_of result (IsFirstFailed place (byte_checks line.now)) }
         ensures memory { OnOutOfMemory fault_of result (length line.now ≤ LONGEST_LINE) }
     {
@@ -158,10 +177,12 @@ impl<'a> Fields<'a> {
     /// Splits a line that isn't too long.
     fn take_code(&mut self, alloc: Global, place: Place, line: &'a [u8]) -> Result<(), Stop>
         requires { length line.now ≤ LONGEST_LINE }
-        ensures ok { OnOk result (IsLine line.now × (self.new ≡ fields line.now)) }
+        ensures ok { OnOk result (IsLine line.now × (self.new.texts ≡ fields line.now)) }
+        ensures ranges { OnOk result (self.new.ranges ≡ field_ranges line.now) }
         ensures fault { IfRefusal fault_of result (IsFirstFailed place (byte_checks line.now)) }
     {
         self.texts.clear();
+        self.ranges.clear();
         let mut quoted = false;
         let mut start = 0;
         let mut has_quotes = false;
@@ -175,7 +196,12 @@ impl<'a> Fields<'a> {
                 }
                 Role::Refused => return Err(Stop::at(place, Kind::NotAscii)),
                 Role::Gap => {
-                    self.push_field(alloc, &line[start..end], has_quotes)?;
+                    self.push_field(
+                        alloc,
+                        &line[start..end],
+                        FieldRange { start, end },
+                        has_quotes,
+                    )?;
                     start = end + 1;
                     has_quotes = false;
                 }
@@ -186,20 +212,29 @@ impl<'a> Fields<'a> {
         if quoted {
             return Err(Stop::at(place, Kind::Quote));
         }
-        self.push_field(alloc, &line[start..end], has_quotes)?;
+        self.push_field(
+            alloc,
+            &line[start..end],
+            FieldRange { start, end },
+            has_quotes,
+        )?;
         Ok(())
     }
 
-    /// Adds a field, unless it is empty, as between two gaps.
+    /// Adds a field that stands there, unless it is empty, as between two gaps.
     #[inline]
     fn push_field(
         &mut self,
         alloc: Global,
         field: &'a [u8],
+        range: FieldRange,
         has_quotes: bool,
     ) -> Result<(), AllocError>
         requires { has_quotes ≡ false → without_quotes field.now ≡ field.now }
-        ensures { OnOk result (self.new ≡ ended_fields self.old (begun_text field.now)) }
+        ensures texts { OnOk result
+            (self.new.texts ≡ ended_texts self.old.texts field.now) }
+        ensures ranges { OnOk result
+            (self.new.ranges ≡ ended_ranges self.old.ranges field.now range) }
     {
         if field.is_empty() {
             return Ok(());
@@ -210,6 +245,7 @@ impl<'a> Fields<'a> {
             CowSlice::Borrowed(field)
         };
         self.texts.push(text)?;
+        self.ranges.push(range)?;
         Ok(())
     }
 }

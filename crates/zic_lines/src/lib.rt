@@ -2,11 +2,19 @@
 //! first fault.
 //!
 //! The input format is that of zic(8); `docs/DEFINITIONS.md` lists where each rule is stated.
+//!
+//! # What is proved
+//!
+//! `Fields::take_line` gives the fields of a line, or the first of its checks that fails;
+//! `line_entry` what they say, or the first check of `field_checks` that fails; `faulty_field` the
+//! number of the field that this check is about, and `Fields::range` where a field stands in its
+//! line (`field_ranges`; law: its text stands there); `first_keyword` the keyword of the first field;
+//! `is_allowed` whether a byte may stand outside comments.
 #![tactic(auto)]
 
 mod entry;
-mod faulty;
 mod field;
+mod field_fault;
 mod format;
 pub mod laws;
 mod link;
@@ -17,9 +25,8 @@ mod rules;
 mod until;
 mod zone_line;
 
-pub use entry::{Entry, line_entry};
-pub use faulty::{FieldRange, faulty_field, field_range, first_keyword};
-pub use field::{Fields, LONGEST_LINE};
+pub use entry::{Entry, faulty_field, first_keyword, line_entry};
+pub use field::{FieldRange, Fields, LONGEST_LINE, is_allowed};
 pub use format::{Format, FormatPart};
 pub use link::Link;
 pub use moment::Moment;

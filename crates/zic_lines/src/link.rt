@@ -8,6 +8,7 @@ ghost use Rattle.zic_lines.specs.code.Entries.{IsOtherLine};
 ghost use Rattle.zic_lines.specs.code.Texts.{texts_of, BeginsWith};
 
 use crate::entry::Entry;
+use crate::field_fault::FieldFault;
 use std::alloc::{AllocError, Global};
 use std::borrow::CowSlice;
 use zic_base::{Kind, Place};
@@ -41,26 +42,26 @@ fn link_of(
     })
 }
 
-/// Returns the entry of the fields of a Link line, or the kind of their first fault.
+/// Returns the entry of the fields of a Link line, or their first fault.
 pub(crate) fn link_line(
     alloc: Global,
     place: Place,
     fields: &[CowSlice<'_, u8>],
-) -> Result<Result<Entry, AllocError>, Kind>
+) -> Result<Result<Entry, AllocError>, FieldFault>
     requires { BeginsWith keywords.Link (texts_of fields.now) }
     ensures ok { OnOk result (first_failed (link_checks (texts_of fields.now)) ≡ None) }
     ensures says { IfOk result (λ made. IfOk made (IsOtherLine place (texts_of fields.now))) }
     ensures fault { IfErr result
-        (λ kind. first_failed (link_checks (texts_of fields.now)) ≡ Some kind) }
+        (λ fault. first_failed (link_checks (texts_of fields.now)) ≡ Some fault) }
 {
     let [_, target, name] = fields else {
-        return Err(Kind::FieldCount);
+        return Err(FieldFault::Count);
     };
     let Some(target) = Name::parse(alloc, target.as_slice()) else {
-        return Err(Kind::Name);
+        return Err(FieldFault::At(Kind::Name, 1));
     };
     let Some(name) = Name::parse(alloc, name.as_slice()) else {
-        return Err(Kind::Name);
+        return Err(FieldFault::At(Kind::Name, 2));
     };
     Ok(link_of(place, target, name).map(Entry::Link))
 }

@@ -9,6 +9,7 @@ ghost use Rattle.zic_lines.specs.code.LineParts.{year_checks, SayYears, moment_c
 ghost use Rattle.zic_lines.specs.code.Texts.{texts_of, BeginsWith};
 
 use crate::entry::Entry;
+use crate::field_fault::FieldFault;
 use crate::moment::Moment;
 use crate::rule::Rule;
 use std::alloc::{AllocError, Global};
@@ -27,37 +28,37 @@ struct Years {
     last: Option<u16>,
 }
 
-/// Returns the years of FROM and TO, or the kind of their first fault.
-fn rule_years(from: &[u8], to: &[u8]) -> Result<Years, Kind>
+/// Returns the years of FROM and TO, or their first fault.
+fn rule_years(from: &[u8], to: &[u8]) -> Result<Years, FieldFault>
     ensures says { IfOk result (SayYears from.now to.now) }
-    ensures fault { IfErr result (λ kind. first_failed (year_checks from.now to.now) ≡ Some kind) }
+    ensures fault { IfErr result (λ fault. first_failed (year_checks from.now to.now) ≡ Some fault) }
 {
     let Some(first) = parse_year(from) else {
-        return Err(Kind::Year);
+        return Err(FieldFault::At(Kind::Year, 2));
     };
     let Some(last) = last_year(first, to) else {
-        return Err(Kind::Year);
+        return Err(FieldFault::At(Kind::Year, 3));
     };
     if ends_before(last, first) {
-        return Err(Kind::YearOrder);
+        return Err(FieldFault::At(Kind::YearOrder, 3));
     }
     Ok(Years { first, last })
 }
 
-/// Returns the moment of IN, ON and AT of a rule for these years, or the kind of their first fault.
-fn rule_moment(years: Years, month: &[u8], day: &[u8], time: &[u8]) -> Result<Moment, Kind>
+/// Returns the moment of IN, ON and AT of a rule for these years, or their first fault.
+fn rule_moment(years: Years, month: &[u8], day: &[u8], time: &[u8]) -> Result<Moment, FieldFault>
     ensures says { IfOk result (SayMoment years month.now day.now time.now) }
     ensures fault { IfErr result
-        (λ kind. first_failed (moment_checks years month.now day.now time.now) ≡ Some kind) }
+        (λ fault. first_failed (moment_checks years month.now day.now time.now) ≡ Some fault) }
 {
     let Some(month) = parse_month(month) else {
-        return Err(Kind::Month);
+        return Err(FieldFault::At(Kind::Month, 5));
     };
     let Some(on) = parse_day_form(is_one_leap_year(years.first, years.last), month, day) else {
-        return Err(Kind::Day);
+        return Err(FieldFault::At(Kind::Day, 6));
     };
     let Some(at) = clock_time(time) else {
-        return Err(Kind::Time);
+        return Err(FieldFault::At(Kind::Time, 7));
     };
     Ok(Moment { month, on, at })
 }
@@ -69,7 +70,7 @@ struct Times {
     moment: Moment,
 }
 
-/// Returns the years and the moment of FROM, TO, the reserved field, IN, ON and AT, or the kind of
+/// Returns the years and the moment of FROM, TO, the reserved field, IN, ON and AT, or
 /// their first fault.
 fn rule_times(
     from: &[u8],
@@ -78,16 +79,16 @@ fn rule_times(
     month: &[u8],
     day: &[u8],
     time: &[u8],
-) -> Result<Times, Kind>
+) -> Result<Times, FieldFault>
     ensures says { IfOk result
         (SayTimes from.now to.now reserved.now month.now day.now time.now) }
     ensures fault { IfErr result
-        (λ kind. first_failed (time_checks from.now to.now reserved.now month.now day.now time.now)
-        ≡ Some kind) }
+        (λ fault. first_failed (time_checks from.now to.now reserved.now month.now day.now time.now)
+        ≡ Some fault) }
 {
     let years = rule_years(from, to)?;
     if !is_dash(reserved) {
-        return Err(Kind::Reserved);
+        return Err(FieldFault::At(Kind::Reserved, 4));
     }
     let moment = rule_moment(years, month, day, time)?;
     Ok(Times { years, moment })
@@ -100,17 +101,17 @@ struct Effect {
     letter: Letter,
 }
 
-/// Returns what SAVE and LETTER say, or the kind of their first fault.
-fn rule_effect(alloc: Global, saved: &[u8], letter: &[u8]) -> Result<Effect, Kind>
+/// Returns what SAVE and LETTER say, or their first fault.
+fn rule_effect(alloc: Global, saved: &[u8], letter: &[u8]) -> Result<Effect, FieldFault>
     ensures says { IfOk result (SayEffect saved.now letter.now) }
     ensures fault { IfErr result
-        (λ kind. first_failed (effect_checks saved.now letter.now) ≡ Some kind) }
+        (λ fault. first_failed (effect_checks saved.now letter.now) ≡ Some fault) }
 {
     let Some(saving) = save(saved) else {
-        return Err(Kind::Save);
+        return Err(FieldFault::At(Kind::Save, 8));
     };
     let Some(letter) = Letter::parse(alloc, letter) else {
-        return Err(Kind::Letter);
+        return Err(FieldFault::At(Kind::Letter, 9));
     };
     Ok(Effect { saving, letter })
 }
@@ -137,23 +138,23 @@ fn rule_of(
     })
 }
 
-/// Returns the entry of the fields of a Rule line, or the kind of their first fault.
+/// Returns the entry of the fields of a Rule line, or their first fault.
 pub(crate) fn rule_line(
     alloc: Global,
     place: Place,
     fields: &[CowSlice<'_, u8>],
-) -> Result<Result<Entry, AllocError>, Kind>
+) -> Result<Result<Entry, AllocError>, FieldFault>
     requires { BeginsWith keywords.Rule (texts_of fields.now) }
     ensures ok { OnOk result (first_failed (rule_checks (texts_of fields.now)) ≡ None) }
     ensures says { IfOk result (λ made. IfOk made (IsOtherLine place (texts_of fields.now))) }
     ensures fault { IfErr result
-        (λ kind. first_failed (rule_checks (texts_of fields.now)) ≡ Some kind) }
+        (λ fault. first_failed (rule_checks (texts_of fields.now)) ≡ Some fault) }
 {
     let [_, name, from, to, reserved, month, day, time, saved, letter] = fields else {
-        return Err(Kind::FieldCount);
+        return Err(FieldFault::Count);
     };
     let Some(name) = SetName::parse(alloc, name.as_slice()) else {
-        return Err(Kind::Name);
+        return Err(FieldFault::At(Kind::Name, 1));
     };
     let times = rule_times(
         from.as_slice(),

@@ -1,8 +1,10 @@
 //! The RULES of a zone's line.
 
 ghost use Rattle.std.specs.Prelude.{◌≡◌, OnOk, IfOk, IfErr, is_some, Some, None, true};
+ghost use Rattle.zic_lines.specs.declared.field_fault.FieldFault.TheVariants.{At};
 ghost use Rattle.zic_lines.specs.RulesField.{begins_amount, rules_of, rules_kind};
 
+use crate::field_fault::FieldFault;
 use std::alloc::{AllocError, Global};
 use zic_base::Kind;
 use zic_words::{Saving, SetName, is_dash, save};
@@ -28,21 +30,25 @@ fn begins_amount(field: &[u8]) -> bool
     }
 }
 
-/// Returns the RULES that the field is, or the kind of its fault.
+/// Returns the RULES that the field of this number is, or its fault.
 #[tactic(auto, unfolding(crate::specs::RulesField::rules_of))]
-pub(crate) fn parse_rules(alloc: Global, field: &[u8]) -> Result<Result<Rules, AllocError>, Kind>
+pub(crate) fn parse_rules(
+    alloc: Global,
+    number: usize,
+    field: &[u8],
+) -> Result<Result<Rules, AllocError>, FieldFault>
     ensures ok { OnOk result (is_some (rules_of field.now) ≡ true) }
     ensures says { IfOk result (λ made. IfOk made (λ rules. rules_of field.now ≡ Some rules)) }
     ensures wrong { IfErr result (λ _. rules_of field.now ≡ None) }
-    ensures fault { IfErr result (λ kind. kind ≡ rules_kind field.now) }
+    ensures fault { IfErr result (λ fault. fault ≡ At (rules_kind field.now) number) }
 {
     if is_dash(field) {
         return Ok(Ok(Rules::Standard));
     }
     if begins_amount(field) {
-        let saving = save(field).ok_or(Kind::Save)?;
+        let saving = save(field).ok_or(FieldFault::At(Kind::Save, number))?;
         return Ok(Ok(Rules::Amount(saving)));
     }
-    let name = SetName::parse(alloc, field).ok_or(Kind::Name)?;
+    let name = SetName::parse(alloc, field).ok_or(FieldFault::At(Kind::Name, number))?;
     Ok(name.map(Rules::Set))
 }

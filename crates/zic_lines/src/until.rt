@@ -1,11 +1,15 @@
 //! The UNTIL of a zone's line.
 
-ghost use Rattle.std.specs.Prelude.{◌≡◌, ◌≤◌, length, slice_index_or};
+ghost use Rattle.std.specs.Prelude.{◌≡◌, ◌≤◌, IfOk, IfErr, Some, length, slice_index_or};
+ghost use Rattle.zic_base.specs.Check.{first_failed};
+ghost use Rattle.zic_lines.specs.Checks.{date_checks, until_checks};
 ghost use Rattle.zic_lines.specs.Until.{until_of, until_at};
 ghost use Rattle.zic_lines.specs.code.Texts.{texts_of};
 
+use crate::field_fault::FieldFault;
 use crate::moment::Moment;
 use std::borrow::CowSlice;
+use zic_base::Kind;
 use zic_calendar::is_leap_year;
 use zic_words::{clock_time, parse_day_form, parse_month, parse_year};
 
@@ -18,17 +22,36 @@ pub struct Until {
     pub moment: Moment,
 }
 
-/// Returns the UNTIL of the fields YEAR MONTH DAY TIME, or `None` where one of them is wrong.
+/// Returns the UNTIL of the fields YEAR MONTH DAY TIME, of which the first has this number, or the first
+/// fault.
 #[tactic(auto, unfolding(crate::specs::Until::until_at))]
-fn until_at(year: &[u8], month: &[u8], day: &[u8], time: &[u8]) -> Option<Until>
-    ensures { result ≡ until_at year.now month.now day.now time.now }
+fn until_at(
+    first: usize,
+    year: &[u8],
+    month: &[u8],
+    day: &[u8],
+    time: &[u8],
+) -> Result<Until, FieldFault>
+    requires { first ≤ 5 }
+    ensures says { IfOk result
+        (λ until. until_at year.now month.now day.now time.now ≡ Some until) }
+    ensures fault { IfErr result
+        (λ fault. first_failed (date_checks first year.now month.now day.now time.now) ≡ Some fault) }
 {
-    let year = parse_year(year)?;
-    let month = parse_month(month)?;
-    let on = parse_day_form(is_leap_year(i64::from(year)), month, day)?;
-    let at = clock_time(time)?;
+    let Some(year) = parse_year(year) else {
+        return Err(FieldFault::At(Kind::Until, first));
+    };
+    let Some(month) = parse_month(month) else {
+        return Err(FieldFault::At(Kind::Until, first + 1));
+    };
+    let Some(on) = parse_day_form(is_leap_year(i64::from(year)), month, day) else {
+        return Err(FieldFault::At(Kind::Until, first + 2));
+    };
+    let Some(at) = clock_time(time) else {
+        return Err(FieldFault::At(Kind::Until, first + 3));
+    };
     let moment = Moment { month, on, at };
-    Some(Until { year, moment })
+    Ok(Until { year, moment })
 }
 
 /// Returns the text of the field at this index, or this one where there is no such field.
@@ -46,18 +69,24 @@ pub(crate) fn text_or<'a>(
     }
 }
 
-/// Returns the UNTIL of the fields YEAR [MONTH [DAY [TIME]]], and `Some(None)` of no field; `None`
-/// where a field is wrong.
-pub(crate) fn parse_until(fields: &[CowSlice<'_, u8>]) -> Option<Option<Until>>
-    requires { length fields.now ≤ 4 }
-    ensures { result ≡ until_of (texts_of fields.now) }
+/// Returns the UNTIL of the fields YEAR [MONTH [DAY [TIME]]], of which the first has this number, and
+/// `None` of no field; or the first fault.
+pub(crate) fn parse_until(
+    first: usize,
+    fields: &[CowSlice<'_, u8>],
+) -> Result<Option<Until>, FieldFault>
+    requires few { length fields.now ≤ 4 }
+    requires number { first ≤ 5 }
+    ensures says { IfOk result (λ until. until_of (texts_of fields.now) ≡ Some until) }
+    ensures fault { IfErr result
+        (λ fault. first_failed (until_checks first (texts_of fields.now)) ≡ Some fault) }
 {
     if fields.is_empty() {
-        return Some(None);
+        return Ok(None);
     }
     let year = text_or(fields, 0, b"");
     let month = text_or(fields, 1, b"Jan");
     let day = text_or(fields, 2, b"1");
     let time = text_or(fields, 3, b"-");
-    Some(Some(until_at(year, month, day, time)?))
+    Ok(Some(until_at(first, year, month, day, time)?))
 }

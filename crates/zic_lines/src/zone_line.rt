@@ -12,6 +12,7 @@ ghost use Rattle.zic_lines.specs.code.LineParts.{shown_checks};
 ghost use Rattle.zic_lines.specs.code.Texts.{texts_of, BeginsWith};
 
 use crate::entry::Entry;
+use crate::field_fault::FieldFault;
 use crate::format::{Format, parse_format};
 use crate::rules::{Rules, parse_rules};
 use crate::until::{Until, parse_until};
@@ -36,33 +37,41 @@ pub struct ZoneLine {
     pub until: Option<Until>,
 }
 
+/// Where STDOFF stands: the place of its line, and its number among the fields.
+#[derive(Clone, Copy)]
+struct Start {
+    place: Place,
+    first: usize,
+}
+
 /// Returns the line of STDOFF, RULES, FORMAT and the fields of an UNTIL, which Zone and
-/// continuation lines have in common, or the kind of their first fault.
+/// continuation lines have in common, or their first fault.
 fn zone_part(
     alloc: Global,
-    place: Place,
+    start: Start,
     stdoff: &[u8],
     rules: &[u8],
     format: &[u8],
     until: &[CowSlice<'_, u8>],
-) -> Result<Result<ZoneLine, AllocError>, Kind>
-    requires { length until.now ≤ 4 }
+) -> Result<Result<ZoneLine, AllocError>, FieldFault>
+    requires few { length until.now ≤ 4 }
+    requires number { start.first ≤ 2 }
     ensures ok { OnOk result
-        (first_failed (zone_part_checks stdoff.now rules.now format.now (texts_of until.now))
+        (first_failed (zone_part_checks start.first stdoff.now rules.now format.now (texts_of until.now))
         ≡ None) }
     ensures says { IfOk result
         (λ made. IfOk made
-        (IsContinuationLine place (stdoff.now ∷ rules.now ∷ format.now ∷ texts_of until.now))) }
+        (IsContinuationLine start.place (stdoff.now ∷ rules.now ∷ format.now ∷ texts_of until.now))) }
     ensures fault { IfErr result
-        (λ kind. first_failed
-        (zone_part_checks stdoff.now rules.now format.now (texts_of until.now)) ≡ Some kind) }
+        (λ fault. first_failed
+        (zone_part_checks start.first stdoff.now rules.now format.now (texts_of until.now)) ≡ Some fault) }
 {
     let Some(offset) = offset(stdoff) else {
-        return Err(Kind::Offset);
+        return Err(FieldFault::At(Kind::Offset, start.first));
     };
-    let rules = parse_rules(alloc, rules)?;
-    let shown = shown_until(alloc, format, until)?;
-    Ok(zone_line_of(place, offset, rules, shown))
+    let rules = parse_rules(alloc, start.first + 1, rules)?;
+    let shown = shown_until(alloc, start.first, format, until)?;
+    Ok(zone_line_of(start.place, offset, rules, shown))
 }
 
 /// What a line shows, and until when.
@@ -72,22 +81,26 @@ struct ShownUntil {
     until: Option<Until>,
 }
 
-/// Returns what FORMAT and the fields of an UNTIL say, or the kind of their first fault.
-fn shown_until(alloc: Global, format: &[u8], until: &[CowSlice<'_, u8>]) -> Result<ShownUntil, Kind>
-    requires { length until.now ≤ 4 }
+/// Returns what FORMAT and the fields of an UNTIL say, or their first fault, where STDOFF has this number.
+fn shown_until(
+    alloc: Global,
+    first: usize,
+    format: &[u8],
+    until: &[CowSlice<'_, u8>],
+) -> Result<ShownUntil, FieldFault>
+    requires few { length until.now ≤ 4 }
+    requires number { first ≤ 2 }
     ensures format { IfOk result
         (λ shown. IfOk shown.format (λ made. format_of format.now ≡ Some made)) }
     ensures just { OnOk result (is_some (format_of format.now) ≡ true) }
     ensures until { IfOk result (λ shown. until_of (texts_of until.now) ≡ Some shown.until) }
     ensures fault { IfErr result
-        (λ kind. first_failed (shown_checks format.now (texts_of until.now)) ≡ Some kind) }
+        (λ fault. first_failed (shown_checks first format.now (texts_of until.now)) ≡ Some fault) }
 {
     let Some(format) = parse_format(alloc, format) else {
-        return Err(Kind::Format);
+        return Err(FieldFault::At(Kind::Format, first + 2));
     };
-    let Some(until) = parse_until(until) else {
-        return Err(Kind::Until);
-    };
+    let until = parse_until(first + 3, until)?;
     Ok(ShownUntil { format, until })
 }
 
@@ -113,27 +126,27 @@ fn zone_line_of(
     })
 }
 
-/// Returns the line of the fields of a continuation line, or the kind of their first fault.
+/// Returns the line of the fields of a continuation line, or their first fault.
 pub(crate) fn continuation_line(
     alloc: Global,
     place: Place,
     fields: &[CowSlice<'_, u8>],
-) -> Result<Result<ZoneLine, AllocError>, Kind>
+) -> Result<Result<ZoneLine, AllocError>, FieldFault>
     ensures ok { OnOk result (first_failed (continuation_checks (texts_of fields.now)) ≡ None) }
     ensures says { IfOk result
         (λ made. IfOk made (IsContinuationLine place (texts_of fields.now))) }
     ensures fault { IfErr result
-        (λ kind. first_failed (continuation_checks (texts_of fields.now)) ≡ Some kind) }
+        (λ fault. first_failed (continuation_checks (texts_of fields.now)) ≡ Some fault) }
 {
     let [stdoff, rules, format, until @ ..] = fields else {
-        return Err(Kind::FieldCount);
+        return Err(FieldFault::Count);
     };
     if until.len() > 4 {
-        return Err(Kind::FieldCount);
+        return Err(FieldFault::Count);
     }
     zone_part(
         alloc,
-        place,
+        Start { place, first: 0 },
         stdoff.as_slice(),
         rules.as_slice(),
         format.as_slice(),
@@ -141,30 +154,30 @@ pub(crate) fn continuation_line(
     )
 }
 
-/// Returns the entry of the fields of a Zone line, or the kind of their first fault.
+/// Returns the entry of the fields of a Zone line, or their first fault.
 pub(crate) fn zone_line(
     alloc: Global,
     place: Place,
     fields: &[CowSlice<'_, u8>],
-) -> Result<Result<Entry, AllocError>, Kind>
+) -> Result<Result<Entry, AllocError>, FieldFault>
     requires { BeginsWith keywords.Zone (texts_of fields.now) }
     ensures ok { OnOk result (first_failed (zone_checks (texts_of fields.now)) ≡ None) }
     ensures says { IfOk result (λ made. IfOk made (IsOtherLine place (texts_of fields.now))) }
     ensures fault { IfErr result
-        (λ kind. first_failed (zone_checks (texts_of fields.now)) ≡ Some kind) }
+        (λ fault. first_failed (zone_checks (texts_of fields.now)) ≡ Some fault) }
 {
     let [_, name, stdoff, rules, format, until @ ..] = fields else {
-        return Err(Kind::FieldCount);
+        return Err(FieldFault::Count);
     };
     if until.len() > 4 {
-        return Err(Kind::FieldCount);
+        return Err(FieldFault::Count);
     }
     let Some(name) = Name::parse(alloc, name.as_slice()) else {
-        return Err(Kind::Name);
+        return Err(FieldFault::At(Kind::Name, 1));
     };
     let line = zone_part(
         alloc,
-        place,
+        Start { place, first: 2 },
         stdoff.as_slice(),
         rules.as_slice(),
         format.as_slice(),

@@ -1,7 +1,8 @@
-use Rattle.std.proofs.Common.{◌≡◌, ◌≤◌, ◌-◌, length, drop, false}
+use Rattle.std.proofs.Common.{◌≡◌, ◌≤◌, ◌-◌, length, map, [], false}
 use Rattle.std.specs.Prelude.{slice_range}
-use Rattle.zic_lines.specs.code.Taken.{scan, without_quotes, taken_fields}
-use Rattle.zic_lines.proofs.FieldEnds.{with_begun}
+use Rattle.zic_lines.specs.Field.{text_in}
+use Rattle.zic_lines.specs.code.Taken.{without_quotes}
+use Rattle.zic_lines.proofs.Ranges.{outcome_at}
 use Rattle.zic_lines.proofs.field.Fields.take_code.Given as goal
 
 abbrev pub invariant-loop-end : goal.invariant-loop-end
@@ -9,7 +10,8 @@ invariant-loop-end l = record {
   rises : l.start ≤ l.«end»;
   inside : l.«end» ≤ length l.line;
   bare : l.has_quotes ≡ false → without_quotes (slice_range l.line l.start l.«end») ≡ slice_range l.line l.start l.«end»;
-  so_far : scan l.quoted (with_begun l.self (slice_range l.line l.start l.«end»)) (drop l.«end» l.line) ≡ taken_fields l.line;
+  texts : l.self.texts ≡ map (text_in l.line) l.self.ranges;
+  so_far : outcome_at l.line l.self.ranges l.quoted l.start l.«end» ≡ outcome_at l.line [] false 0 0;
 }
 
 abbrev pub decreases-loop-end : goal.decreases-loop-end

@@ -13,7 +13,7 @@ use Rattle.zic_source.proofs.reader.Reader.read_line.Goals as goal
 
 pub returns-then-len-eq0-clause-read : goal.returns-then-len-eq0-clause-read
 returns-then-len-eq0-clause-read c =
-    let none : c.take_line.new.self ≡ [] = nil_from_length c.take_line.new.self (sym c.len.ensures ∙ c.if-len-eq0.true) in
+    let none : c.take_line.new.self.texts ≡ [] = nil_from_length c.take_line.new.self.texts (sym c.len.ensures ∙ c.if-len-eq0.true) in
     blank_leads (source_lines c.args.self.now.lines) (record { place = c.args.place; bytes = c.args.line.now }) (c.in_ok-take_line.ensures.ok.0, sym c.in_ok-take_line.ensures.ok.1 ∙ none)
 
 pub returns-then-len-eq0-clause-tracks : goal.returns-then-len-eq0-clause-tracks
@@ -30,7 +30,7 @@ returns-in_err-entry-clause-fault c =
     let p = err_from_is_err_and c.from_residual-in_err-entry.result c.from_residual-in_err-entry.ensures.1 in
     let awaited : c.is_some-awaited.result ≡ is_open (source_lines c.args.self.now.lines) = c.is_some-awaited.ensures ∙ open_is (source_lines c.args.self.now.lines) c.open_place.result c.open_place.ensures in
     rw (p.1, p.2) (if_some_map (fault_of c.in_err-entry.field-0.0) _ _
-    (λ fault h. inl (h.0, fields_fail c.args.line.now c.take_line.new.self c.is_some-awaited.result _ fault.kind c.in_ok-take_line.ensures.ok.0 c.in_ok-take_line.ensures.ok.1 awaited h.1)) c.in_err-entry.ensures.fault)
+    (λ fault h. inl (h.0, fields_fail c.args.line.now c.take_line.new.self.texts c.is_some-awaited.result _ fault.kind c.in_ok-take_line.ensures.ok.0 c.in_ok-take_line.ensures.ok.1 awaited h.1)) c.in_err-entry.ensures.fault)
 
 pub returns-clause-read : goal.returns-clause-read
 returns-clause-read c =
