@@ -1,8 +1,9 @@
 #!/usr/bin/env bash
 # Checks that the program overwrites nothing by surprise.
 # It has standard streams that are closed, lists of faults that are another file of the command, runs that stop before their rows,
-# names that look like leftovers of `build`, symbolic links that would lead to no file, control characters in words, and trees
-# with pipes and devices. It checks too that `build --sync` syncs each file and folder, and `convert` its lists, by `strace`, how the program is linked,
+# names that look like leftovers of `build`, files of an earlier build, symbolic links that would lead to no file, control
+# characters in words, and trees with pipes and devices. It checks too that `build --sync` syncs each file and folder, and
+# `convert` its lists, by `strace`, how the program is linked,
 # by `readelf`, and that 512 KiB of stack are enough. As root, it makes leftovers of another user.
 # Parts need: strace, readelf, root, tzdata
 set -euo pipefail
@@ -234,6 +235,37 @@ calls=$((calls + 1))
 got=$(cd leftovers && LC_ALL=C && echo *)
 [ "$got" = "UTC $kept" ] || differ "build left '$got', and not 'UTC $kept'"
 
+# ------------------------------------------------------------------ files of an earlier build
+
+# A file that has its bytes already is left, and one with another owner, other permissions or a link in its place is made anew. So
+# is the first.
+for zone in A/First Same Changed Private Linked Foreign; do echo "Zone $zone 1 - +01"; done >earlier.zi
+sed 's/Changed 1/Changed 2/' earlier.zi >later.zi
+"$program" build earlier earlier.zi
+chmod 600 earlier/Private
+mv earlier/Linked linked.file
+ln -s ../linked.file earlier/Linked
+if [ "$(id -u)" = 0 ]; then chown nobody earlier/Foreign; else rm earlier/Foreign; fi
+same=$(stat -c %i earlier/Same)
+for zone in A/First Changed Private Foreign; do ln "earlier/$zone" "$(basename "$zone").kept" 2>/dev/null || true; done
+"$program" build earlier later.zi
+"$program" build fresh later.zi
+calls=$((calls + 1))
+diff -r earlier fresh || differ 'a build over an earlier one has other files'
+[ "$(stat -c %i earlier/Same)" = "$same" ] || differ 'a file that has its bytes already was made anew'
+[ ! -L earlier/Linked ] || differ 'a symbolic link was left in the place of a file'
+for zone in A/First Changed Private Foreign; do
+    [ ! "earlier/$zone" -ef "$(basename "$zone").kept" ] || differ "$zone was left"
+    [ "$(stat -c %a,%u "earlier/$zone")" = "$(stat -c %a,%u "fresh/$zone")" ] || differ "$zone has other permissions, or another owner"
+done
+
+# Files that are one by hard links become files of their own where links are copied.
+printf '%s\n' 'Zone A 1 - +01' 'Zone B 1 - +01' 'Link B C' >linked.zi
+"$program" build --links hard hard linked.zi
+"$program" build --links copy hard linked.zi
+calls=$((calls + 1))
+[ "$(stat -c %h hard/B hard/C | tr '\n' ' ')" = '1 1 ' ] || differ 'build --links copy left hard links'
+
 # ------------------------------------------------------------------ symbolic links
 
 mkdir -p linked elsewhere/deep
@@ -283,8 +315,9 @@ fsync(<./new>)
 fsync(<.>)'
     trace --sync --links symlink new/traced
     told 'pzic build --sync --links symlink' 0 '' ''
-    # no folder was made, so only those with the files and the link are synced
-    holds <(tail -n +6 ../calls | LC_ALL=C sort) 'fsync(<./new/traced/A>)
+    # no folder was made, so only those with the files and the link are synced; a file that has its bytes already is synced as it is
+    holds <(sed -n 3p ../calls) 'fsync(<./new/traced/A/West>)'
+    holds <(tail -n +5 ../calls | LC_ALL=C sort) 'fsync(<./new/traced/A>)
 fsync(<./new/traced/Etc>)
 fsync(<./new/traced>)'
     trace new/traced

@@ -9,7 +9,7 @@ use crate::list_file::folder_of;
 use crate::sources::path_in;
 use std::alloc::{AllocError, AllocFailed, Global};
 use std::collections::HashSet;
-use std::fs::{self, File, Files as FileSystem, OpenFile};
+use std::fs::{self, File, Files as FileSystem, Metadata, OpenFile};
 use std::io::{self, ErrorKind, Read, Write};
 use std::os::unix::fs::{MetadataExt, symlink};
 
@@ -35,33 +35,30 @@ pub enum Unplaced {
     Memory,
 }
 
-impl From<io::Error> for Unplaced {
-    ghost use Rattle.zic_io.specs.declared.tree.Unplaced.TheVariants.{Refused};
+/// Why the system doesn't make a file, a link or a folder.
+#[derive(Clone, Copy)]
+enum Unmade {
+    /// It gives an error of this kind.
+    Refused(ErrorKind),
+    /// Memory ran out.
+    Memory,
+}
 
-    ghost from_gives = { λ _ e. e ≡ Refused };
-
-    fn from(_e: io::Error) -> Unplaced {
-        Unplaced::Refused
+impl From<io::Error> for Unmade {
+    fn from(e: io::Error) -> Unmade {
+        Unmade::Refused(e.kind())
     }
 }
 
-impl<T: Drop> From<AllocFailed<T>> for Unplaced {
-    ghost use Rattle.zic_io.specs.declared.tree.Unplaced.TheVariants.{Memory};
-
-    ghost from_gives = { λ _ e. e ≡ Memory };
-
-    fn from(_e: AllocFailed<T>) -> Unplaced {
-        Unplaced::Memory
+impl<T: Drop> From<AllocFailed<T>> for Unmade {
+    fn from(_e: AllocFailed<T>) -> Unmade {
+        Unmade::Memory
     }
 }
 
-impl From<AllocError> for Unplaced {
-    ghost use Rattle.zic_io.specs.declared.tree.Unplaced.TheVariants.{Memory};
-
-    ghost from_gives = { λ _ e. e ≡ Memory };
-
-    fn from(_e: AllocError) -> Unplaced {
-        Unplaced::Memory
+impl From<AllocError> for Unmade {
+    fn from(_e: AllocError) -> Unmade {
+        Unmade::Memory
     }
 }
 
@@ -108,7 +105,20 @@ pub enum Durability {
     Synced,
 }
 
+/// Whose a file is, who may read and write it, and how many names it has.
+#[derive(Clone, Copy, PartialEq, Eq)]
+struct Rights {
+    user: u32,
+    group: u32,
+    mode: u32,
+    names: u64,
+}
+
 /// A tree in a file system, about whose files and links no contract says anything.
+///
+/// A file that has the bytes already is left as it is, unless it has other names too, or the run would
+/// make it another user's or give it other permissions. The first file of a run is always made, and shows
+/// which these are.
 ///
 /// Several runs may place files in one tree at the same time: each file is that of one of them, and
 /// whole. Each run has temporary names of its own. What a run that was ended left is removed
@@ -121,10 +131,14 @@ pub struct Disk<'a, F> {
     /// The number in temporary names.
     number: u64,
     durability: Durability,
+    /// The rights of a file that the run made. `None` before the first.
+    rights: Option<Rights>,
     /// The folders that were entered.
     folders: HashSet<String>,
     /// The folders in which names are to be synced.
     unsynced: HashSet<String>,
+    /// The kind of the last error for which the system refused a file, a link or a folder.
+    reason: Option<ErrorKind>,
 }
 
 /// What is to have a path.
@@ -156,9 +170,17 @@ impl<'a, F: FileSystem> Disk<'a, F> {
             system,
             number,
             durability,
+            rights: None,
             folders: HashSet::new(alloc),
             unsynced: HashSet::new(alloc),
+            reason: None,
         }
+    }
+
+    /// Returns the kind of the last error for which the system refused a file, a link or a folder, if it
+    /// refused one.
+    pub fn reason(&self) -> Option<ErrorKind> {
+        self.reason
     }
 
     /// Has the system write the names that folders got. After that a tree whose files are synced is
@@ -167,22 +189,18 @@ impl<'a, F: FileSystem> Disk<'a, F> {
     /// # Errors
     ///
     /// `CannotWrite` with the path of a folder that can't be synced, or memory ran out.
-    pub fn sync(&self) -> Result<(), Failure> {
+    pub fn sync(&mut self) -> Result<(), Failure> {
         for folder in &self.unsynced {
-            if self.sync_folder(folder.as_str()).is_err() {
+            if let Err(e) = sync_folder(self.system, folder.as_str()) {
+                self.reason = Some(e.kind());
                 return Err(Failure::CannotWrite(folder.clone()?));
             }
         }
         Ok(())
     }
 
-    /// Has the system write the names in a folder.
-    fn sync_folder(&self, folder: &str) -> io::Result<()> {
-        File::open(self.system, folder)?.sync_all()
-    }
-
     /// Makes a folder, or removes the temporary files of earlier runs from it. Does so once.
-    fn enter(&mut self, folder: &str) -> Result<(), Unplaced> {
+    fn enter(&mut self, folder: &str) -> Result<(), Unmade> {
         if self.folders.contains(folder) {
             return Ok(());
         }
@@ -260,10 +278,25 @@ impl<'a, F: FileSystem> Disk<'a, F> {
         }
     }
 
+    /// Places a file or a link at a path, or keeps why the system refuses it.
+    fn place_content(&mut self, path: &str, content: Content<'_>) -> Result<(), Unplaced> {
+        match self.make(path, content) {
+            Ok(()) => Ok(()),
+            Err(Unmade::Refused(kind)) => {
+                self.reason = Some(kind);
+                Err(Unplaced::Refused)
+            }
+            Err(Unmade::Memory) => Err(Unplaced::Memory),
+        }
+    }
+
     /// Makes a file or a link at a path.
-    fn make(&mut self, path: &str, content: Content<'_>) -> Result<(), Unplaced> {
+    fn make(&mut self, path: &str, content: Content<'_>) -> Result<(), Unmade> {
         let folder = parent(path);
         self.enter(folder)?;
+        if self.has(path, content) {
+            return Ok(());
+        }
         for _ in 0..TRIES {
             let temporary = format!(in self.alloc; "{folder}/{TEMPORARY}{}", self.number)?;
             let temporary = temporary.as_str();
@@ -280,14 +313,49 @@ impl<'a, F: FileSystem> Disk<'a, F> {
                 Written::Removed => {}
             }
         }
-        Err(Unplaced::Refused)
+        Err(Unmade::Refused(ErrorKind::AlreadyExists))
+    }
+
+    /// Returns whether the path is that of a file with this content, as the run would make it.
+    fn has(&self, path: &str, content: Content<'_>) -> bool {
+        let Content::Bytes(bytes) = content else {
+            return false;
+        };
+        match fs::symlink_metadata(self.system, path) {
+            Ok(found) if found.is_file() && Some(rights_of(&found)) == self.rights => {
+                self.holds(path, bytes).unwrap_or(false)
+            }
+            _ => false,
+        }
+    }
+
+    /// Returns whether a file holds these bytes and no others. Has the system write it to its disk if
+    /// files are synced.
+    fn holds(&self, path: &str, bytes: &[u8]) -> io::Result<bool> {
+        let mut file = File::open(self.system, path)?;
+        if !gives(&mut file, bytes)? {
+            return Ok(false);
+        }
+        if self.durability == Durability::Synced {
+            file.sync_all()?;
+        }
+        Ok(true)
+    }
+
+    /// Takes note of the rights of a file that the run made, if it is the first.
+    fn note_rights(&mut self, path: &str) {
+        if self.rights.is_none() {
+            if let Ok(made) = fs::symlink_metadata(self.system, path) {
+                self.rights = Some(rights_of(&made));
+            }
+        }
     }
 
     /// Writes the bytes under the temporary name, and then renames that to the path.
     fn write(&self, temporary: &str, path: &str, bytes: &[u8]) -> io::Result<Written> {
         let file = match File::create_new(self.system, temporary) {
             Ok(file) => file,
-            Err(e) => return unmade(e),
+            Err(e) => return taken_or(e),
         };
         let placed = match write_and_close(file, bytes, self.durability) {
             Ok(()) => fs::rename(self.system, temporary, path),
@@ -302,7 +370,7 @@ impl<'a, F: FileSystem> Disk<'a, F> {
             Ok(()) => {}
             // Another run gave the path of the zone's file to a file of its own at that moment.
             Err(e) if e.kind() == ErrorKind::NotFound => return Ok(Written::Removed),
-            Err(e) => return unmade(e),
+            Err(e) => return taken_or(e),
         }
         let written = self.finish(temporary, fs::rename(self.system, temporary, path));
         if written.is_ok() {
@@ -314,10 +382,10 @@ impl<'a, F: FileSystem> Disk<'a, F> {
 
     /// Makes the symbolic link under the temporary name, and renames that to the path once the link
     /// is known to lead to its file. Below a folder that is a link itself, `..` leads elsewhere.
-    fn write_symlink(&self, temporary: &str, path: &str, text: &str) -> Result<Written, Unplaced> {
+    fn write_symlink(&self, temporary: &str, path: &str, text: &str) -> Result<Written, Unmade> {
         let file = path_of_text(self.alloc, temporary, text)?;
         if let Err(e) = symlink(self.system, text, temporary) {
-            return Ok(unmade(e)?);
+            return Ok(taken_or(e)?);
         }
         match self.leads_to(temporary, file.as_str()) {
             Ok(true) => Ok(self.finish(temporary, fs::rename(self.system, temporary, path))?),
@@ -326,9 +394,9 @@ impl<'a, F: FileSystem> Disk<'a, F> {
                 let _ = fs::remove_file(self.system, temporary);
                 Ok(Written::Removed)
             }
-            Err(_) => match fs::remove_file(self.system, temporary) {
+            Err(e) => match fs::remove_file(self.system, temporary) {
                 Err(gone) if gone.kind() == ErrorKind::NotFound => Ok(Written::Removed),
-                _ => Err(Unplaced::Refused),
+                _ => Err(Unmade::Refused(e.kind())),
             },
         }
     }
@@ -356,16 +424,48 @@ impl<'a, F: FileSystem> Disk<'a, F> {
 
 impl<'a, F: FileSystem> Tree for Disk<'a, F> {
     fn place(&mut self, path: &str, bytes: &[u8]) -> Result<(), Unplaced> {
-        self.make(path, Content::Bytes(bytes))
+        self.place_content(path, Content::Bytes(bytes))?;
+        self.note_rights(path);
+        Ok(())
     }
 
     fn link(&mut self, kind: LinkKind, target: &str, path: &str) -> Result<(), Unplaced> {
-        self.make(path, Content::Link(kind, target))
+        self.place_content(path, Content::Link(kind, target))
     }
 }
 
-/// Returns what came of a file or a link that can't be made for this reason.
-fn unmade(e: io::Error) -> io::Result<Written> {
+/// Returns the rights of a file.
+fn rights_of(file: &Metadata) -> Rights {
+    Rights {
+        user: file.uid(),
+        group: file.gid(),
+        mode: file.mode(),
+        names: file.nlink(),
+    }
+}
+
+/// Returns whether a reader gives these bytes and no others.
+fn gives<R: Read>(reader: &mut R, bytes: &[u8]) -> io::Result<bool> {
+    let mut block = [0; BLOCK];
+    let mut rest = bytes;
+    for _ in 0..u64::MAX {
+        let count = reader.read(&mut block)?;
+        match rest.strip_prefix(&block[..count]) {
+            Some(_) if count == 0 => return Ok(rest.is_empty()),
+            Some(left) => rest = left,
+            None => return Ok(false),
+        }
+    }
+    Ok(false)
+}
+
+/// Has the system write the names in a folder.
+fn sync_folder<F: FileSystem>(system: &F, folder: &str) -> io::Result<()> {
+    File::open(system, folder)?.sync_all()
+}
+
+/// Returns that the temporary name is taken, or the error for which a file or a link can't be made.
+fn taken_or(e: io::Error) -> io::Result<Written> {
     if e.kind() == ErrorKind::AlreadyExists {
         Ok(Written::Taken)
     } else {
