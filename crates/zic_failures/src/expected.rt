@@ -1,9 +1,9 @@
 //! What is expected of a row in the layout that the options give.
 
+use crate::record::RecordForm;
 use std::alloc::{AllocError, Global};
 use zic_base::RowKind;
 use zic_explain::{Entry, expectation};
-use zic_places::RecordForm;
 use zic_plan::{FieldCount, TimeFrom, Unit};
 
 /// What records of a column have.
@@ -27,6 +27,7 @@ impl Expected {
         kind: RowKind,
     ) -> Result<String, AllocError> {
         match kind {
+            RowKind::RowInstant => self.instant(alloc, entries),
             RowKind::RowRange => self.range(alloc, entries),
             RowKind::RowFields if !self.is_plain() => self.fields(alloc, entries),
             RowKind::RowTooLong => self.length(alloc, entries),
@@ -50,6 +51,31 @@ impl Expected {
             (self.form.from, self.form.unit),
             (TimeFrom::Count, Unit::Second)
         )
+    }
+
+    /// Returns what is expected where a field has no instant.
+    fn instant(&self, alloc: Global, entries: &[Entry]) -> Result<String, AllocError> {
+        let entry = expectation(alloc, entries, "RowInstant")?;
+        let (units, digits) = match (self.form.from, self.form.unit) {
+            (TimeFrom::Count, Unit::Second) => return Ok(entry),
+            (TimeFrom::Count, Unit::Millisecond) => ("Milliseconds", "21"),
+            (TimeFrom::Count, Unit::Microsecond) => ("Microseconds", "24"),
+            (TimeFrom::Count, Unit::Nanosecond) => ("Nanoseconds", "27"),
+            (TimeFrom::Rfc3339 | TimeFrom::Local(_), _) => {
+                return String::from_str(alloc, OFFSET_TIMES);
+            }
+        };
+        let start = [
+            "\nExpected:\n  ",
+            units,
+            " since 1970-01-01T00:00:00 UT: 1 to ",
+            digits,
+        ];
+        let mut text = start.concat(alloc)?;
+        text.push_str(" digits, with `-` before\n  them for earlier instants, ")?;
+        text.push_str("without `+`, spaces or a fraction.\n")?;
+        text.push_str(after(entry.as_str(), "\nUsual cause:"))?;
+        Ok(text)
     }
 
     /// Returns what is expected where an instant is out of range.
@@ -130,6 +156,19 @@ fn after<'a>(text: &'a str, part: &str) -> &'a str {
         None => "",
     }
 }
+
+/// What is expected of an instant in the form of RFC 3339.
+const OFFSET_TIMES: &str = r#"
+Expected:
+  A date and a time with its seconds and a UT offset or `Z`, as
+  `1970-01-01T00:00:00Z` or `1970-01-01 01:00:00+01:00`, in the years 1 to 9999.
+  With `--unit` a fraction of at most 3, 6 or 9 digits.
+
+Usual cause:
+  A time without its seconds, one without a UT offset, which `--from local`
+  takes, a date without a time, a count of seconds, or the two fields swapped. A
+  leap second, `23:59:60`, is none.
+"#;
 
 /// What is expected where an instant in milliseconds is out of range.
 const MILLISECONDS: &str = r#"

@@ -2,21 +2,25 @@
 
 use crate::column::{column_start, find_record};
 use crate::expected::Expected;
-use crate::reason::{unread, unwritten};
+use crate::nearest::{nearest_rules, nearest_zone};
+use crate::place::{line_place, quote_place, row_place};
+use crate::reason::{Paths, unwritten};
+use crate::record::RecordForm;
 use crate::refused::refused_file;
+use crate::related::{TextLine, bad_abbreviation, first_name};
 use crate::scan::{Found, Sought};
 use std::alloc::{AllocError, Global};
 use std::fs::Files;
+use std::io::ErrorKind;
 use std::slice;
 use zic_base::{Kind, RowKind};
 use zic_command_line::{Building, Request, Zones};
 use zic_explain::{entries, expectation, shown_word};
 use zic_io::Failure;
-use zic_places::{
-    RecordForm, TextLine, bad_abbreviation, first_name, line_place, nearest_rules, nearest_zone,
-    quote_place, row_place,
-};
 use zic_plan::{Header, Layout, Records, ZoneFrom};
+
+/// The bytes with which a file begins that gzip made.
+const GZIP: &[u8] = b"\x1f\x8b";
 
 /// Explains the failure of a request.
 #[derive(Drop)]
@@ -37,8 +41,12 @@ pub struct Explainer {
     records: Records,
     /// What the records of the column have.
     expected: Expected,
-    /// The folder of the files of zones, if one has them.
+    /// The folder that has the files of zones, or that is to have them, if the words name one.
     folder: Option<String>,
+    /// What the paths are of.
+    paths: Paths,
+    /// Why the system refused what was placed, if that was noted.
+    reason: Option<ErrorKind>,
 }
 
 impl Explainer {
@@ -58,12 +66,19 @@ impl Explainer {
             records: records_of(request),
             expected: expected_of(request),
             folder: folder_of(request)?,
+            paths: Paths::of(request),
+            reason: None,
         })
     }
 
     /// Takes the layout of the column, where its header says which fields are read.
     pub fn read_by(&mut self, layout: &Layout) {
         self.expected = expected_by(layout);
+    }
+
+    /// Takes note of why the system refused what was placed, if it did.
+    pub fn refused_for(&mut self, reason: Option<ErrorKind>) {
+        self.reason = reason;
     }
 
     /// Returns the lines that explain a failure of a request over sources of these texts, without the last
@@ -178,8 +193,8 @@ impl Explainer {
             Failure::UnknownZone(name) => {
                 nearest_zone(alloc, self.text(self.zones), name.as_bytes())
             }
-            Failure::CannotRead(path) => unread(rt, path.as_str()),
-            Failure::CannotWrite(path) => unwritten(rt, path.as_str()),
+            Failure::CannotRead(path) => self.paths.unread(rt, path.as_str(), self.folder()),
+            Failure::CannotWrite(path) => unwritten(rt, path.as_str(), self.reason),
             _ => Ok(String::new(alloc)),
         }
     }
@@ -242,6 +257,9 @@ impl Explainer {
             return row_place(alloc, kind, row, self.expected.form, None);
         };
         let mut place = row_place(alloc, kind, row, self.expected.form, Some(&record.text[..]))?;
+        if record.text.starts_with(GZIP) {
+            place.push_str("The column is compressed: gzip -d makes its text.\n")?;
+        }
         if let Some(lines) = record.lines {
             place.push_str(quote_place(alloc, lines)?.as_str())?;
         }
@@ -267,6 +285,14 @@ impl Explainer {
             zone: self.expected.form.zone,
         };
         find_record(rt, self.start?, sought)
+    }
+
+    /// Returns the folder that the words name, or an empty text.
+    fn folder(&self) -> &str {
+        match &self.folder {
+            Some(folder) => folder.as_str(),
+            None => "",
+        }
     }
 
     /// Returns the word at this index, or an empty text.
@@ -329,9 +355,12 @@ fn expected_by(layout: &Layout) -> Expected {
     }
 }
 
-/// Returns the folder of the files of zones, if one has them.
+/// Returns the folder that has the files of zones, or that is to have them, if the words name one.
 fn folder_of(request: &Request) -> Result<Option<String>, AllocError> {
     match request {
+        Request::Build(Building { folder, .. }) | Request::Verify { folder, .. } => {
+            Ok(Some(folder.clone()?))
+        }
         Request::Convert(order) => match &order.zones {
             Zones::Tree(folder) => Ok(Some(folder.clone()?)),
             Zones::Source(_) => Ok(None),
@@ -376,7 +405,7 @@ fn named_in(request: &Request) -> &[String] {
         | Request::Diff { sources, .. } => sources,
         Request::Show { file, .. } | Request::ShowLocal { file, .. } | Request::Dump { file, .. } =>
             slice::from_ref(file),
-        Request::Explain { .. } | Request::Version { .. } => &[],
+        Request::Explain { .. } | Request::Version { .. } | Request::Help { .. } => &[],
     }
 }
 

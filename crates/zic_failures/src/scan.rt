@@ -1,7 +1,7 @@
 //! The search for a record of a column, byte by byte, which keeps of it only what is shown.
 
+use crate::place::QuotedLines;
 use std::alloc::{AllocError, Global};
-use zic_places::QuotedLines;
 use zic_plan::Records;
 
 /// The greatest number of bytes that are stored of a record.

@@ -1,7 +1,7 @@
 //! Where a fault is.
 
 ghost use Rattle.std.specs.Prelude.{◌≡◌, OnOk, IfOk, string_bytes};
-ghost use Rattle.zic_places.specs.Place.{line_head, quote_line, row_head, GoesOnShown};
+ghost use Rattle.zic_failures.specs.Place.{line_head, quote_line, row_head, GoesOnShown};
 ghost use Rattle.zic_explain.specs.Shown.{IsShownText, StaysShown};
 
 use crate::faulty::faulty_line;

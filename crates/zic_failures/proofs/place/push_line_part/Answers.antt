@@ -1,5 +1,5 @@
 use Rattle.std.proofs.lemmas.Result.{on_ok_weaker}
-use Rattle.zic_places.proofs.place.push_line_part.Goals as goal
+use Rattle.zic_failures.proofs.place.push_line_part.Goals as goal
 
 pub returns : goal.returns
 returns c =

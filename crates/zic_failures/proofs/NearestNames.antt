@@ -4,7 +4,7 @@ use Rattle.std.specs.Prelude.{All}
 use Rattle.std.proofs.lemmas.List.{take_all}
 use Rattle.std.proofs.lemmas.List.Elements.{All-more}
 use Rattle.zic_explain.specs.Explanation.{edits}
-use Rattle.zic_places.specs.code.Nearest.{IsNearestAt}
+use Rattle.zic_failures.specs.code.Nearest.{IsNearestAt}
 
 -- `least` is the number of edits to the name at the index; none of the first names takes fewer
 pub record NearestAt (names : List (List ℕ)) (name : List ℕ) (count index least : ℕ) : Type 0 where

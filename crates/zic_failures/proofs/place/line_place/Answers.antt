@@ -1,7 +1,7 @@
 use Rattle.std.proofs.Common.{string_bytes, arith}
 use Rattle.std.proofs.lemmas.Grind.{common_steps}
 use Rattle.std.proofs.lemmas.Result.{IfOk-weaker}
-use Rattle.zic_places.proofs.place.line_place.Goals as goal
+use Rattle.zic_failures.proofs.place.line_place.Goals as goal
 
 pub returns : goal.returns
 returns c =

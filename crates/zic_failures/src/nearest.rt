@@ -2,7 +2,7 @@
 
 ghost use Rattle.std.specs.Prelude.{◌<◌, length, map, string_bytes, IfOk, OnOk};
 ghost use Rattle.zic_explain.specs.Shown.{IsShownText, StaysShown};
-ghost use Rattle.zic_places.specs.code.Nearest.{IsNearestAt};
+ghost use Rattle.zic_failures.specs.code.Nearest.{IsNearestAt};
 
 use crate::line::{entry_of, goes_on, is_line_feed};
 use crate::related::{TextLine, entry_at};

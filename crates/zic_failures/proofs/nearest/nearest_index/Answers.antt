@@ -1,9 +1,9 @@
 use Rattle.std.proofs.Common.{rules, ◌≡◌, ◌<◌, [], length, map, get_or, string_bytes, arith}
 use Rattle.std.proofs.lemmas.List.{get_or-map, length-map}
 use Rattle.zic_explain.specs.Explanation.{edits}
-use Rattle.zic_places.proofs.NearestNames.{nearer, no_nearer, nearest_at_all}
-use Rattle.zic_places.proofs.nearest.nearest_index.Goals as goal
-use Rattle.zic_places.proofs.nearest.nearest_index.Goals.{then-edits-least, else-edits-least}
+use Rattle.zic_failures.proofs.NearestNames.{nearer, no_nearer, nearest_at_all}
+use Rattle.zic_failures.proofs.nearest.nearest_index.Goals as goal
+use Rattle.zic_failures.proofs.nearest.nearest_index.Goals.{then-edits-least, else-edits-least}
 
 pub loop-index-preserved : goal.loop-index-preserved
 loop-index-preserved c =

@@ -1,6 +1,6 @@
 use Rattle.std.proofs.Common.{map, string_bytes}
-use Rattle.zic_places.proofs.NearestNames.{NearestAt}
-use Rattle.zic_places.proofs.nearest.nearest_index.Given as goal
+use Rattle.zic_failures.proofs.NearestNames.{NearestAt}
+use Rattle.zic_failures.proofs.nearest.nearest_index.Given as goal
 
 -- the nearest of the names so far
 abbrev pub invariant-loop-index : goal.invariant-loop-index

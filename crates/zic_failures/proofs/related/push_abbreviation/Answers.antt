@@ -1,5 +1,5 @@
 use Rattle.std.proofs.lemmas.Result.{on_ok_weaker}
-use Rattle.zic_places.proofs.related.push_abbreviation.Goals as goal
+use Rattle.zic_failures.proofs.related.push_abbreviation.Goals as goal
 
 pub returns : goal.returns
 returns c =

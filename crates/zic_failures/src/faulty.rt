@@ -5,7 +5,7 @@ use crate::line::has_fields;
 use std::alloc::{AllocError, Global};
 use zic_base::Kind;
 use zic_explain::Span;
-use zic_lines::{Fields, faulty_field, field_range, first_keyword};
+use zic_lines::{Fields, faulty_field, first_keyword, is_allowed};
 
 /// The part of a line or a record that a fault is about.
 #[derive(Clone, Copy)]
@@ -43,7 +43,7 @@ pub(crate) fn faulty_line(
         number => number,
     };
     let range = match number {
-        Some(number) => field_range(alloc, line, number)?,
+        Some(number) => fields.range(number),
         None => None,
     };
     let part = match range {
@@ -147,9 +147,4 @@ fn refused_bytes(code: &[u8]) -> Option<Span> {
         .unwrap_or(rest.len());
     let end = start.saturating_add(count);
     Some(Span { start, end })
-}
-
-/// Returns whether the byte may stand outside a comment.
-fn is_allowed(byte: u8) -> bool {
-    matches!(byte, b'\t' | 0x0b..=0x0d | b' '..=b'~')
 }

@@ -1,4 +1,4 @@
-use Rattle.zic_places.proofs.place.quote_place.Goals as goal
+use Rattle.zic_failures.proofs.place.quote_place.Goals as goal
 
 pub returns-in-Some : goal.returns-in-Some
 returns-in-Some c = rw c.in-Some.is c.format.ensures.ok
