@@ -22,7 +22,7 @@ _pzic() {
     local current=${COMP_WORDS[COMP_CWORD]} previous=${COMP_WORDS[COMP_CWORD - 1]} options='' takes=''
     COMPREPLY=()
     # made by tools/options: bash-commands
-    local commands='check build verify diff convert show dump explain'
+    local commands='check build verify diff convert show dump explain help'
     # made by hand again
     if [ "$COMP_CWORD" -eq 1 ]; then
         if [[ $current = -* ]]; then takes='--help --version'; else takes=$commands; fi
@@ -40,6 +40,7 @@ _pzic() {
     show) options='--local --explain --help' ;;
     dump) options='--from --to --explain --help' ;;
     explain) options='--help' ;;
+    help) options='--help' ;;
     # made by hand again
     *) return ;;
     esac
@@ -63,7 +64,12 @@ _pzic() {
     *:--faults-with) takes='line value line,value' ;;
     # made by hand again
     *)
-        if [[ $current = -* ]]; then takes=$options; elif [ "${COMP_WORDS[1]}" = explain ]; then takes=errors; else takes=files; fi
+        case ${COMP_WORDS[1]}:$current in
+        *:-*) takes=$options ;;
+        explain:*) takes=errors ;;
+        help:*) takes=$commands ;;
+        *) takes=files ;;
+        esac
         ;;
     esac
     _pzic_offer "$takes"

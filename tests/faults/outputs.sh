@@ -103,6 +103,29 @@ for mode in 000 444; do
     done
     chmod 755 new.tree/Z
 done
+# With --explain the second line tells why.
+second_line() {
+    [ "$(sed -n 2p ../err)" = "$2" ] || differ "$1: the second line is '$(sed -n 2p ../err)', and not '$2'"
+    calls=$((calls + 1))
+}
+chmod 000 two
+"${run[@]}" "$program" check --explain two >../out 2>../err || true
+second_line 'pzic check, of a file that may not be read' '--> two: permission denied'
+chmod 644 two
+mkdir closed
+chmod 755 closed
+if [ "${#run[@]}" = 0 ]; then chmod 555 closed; fi
+"${run[@]}" "$program" build --explain closed two >../out 2>../err || true
+second_line 'pzic build, of a folder that may not be written' '--> closed/Etc/UTC: permission denied'
+"${run[@]}" "$program" convert --explain --keep-going --faults closed/list two <zones.csv >../out 2>../err || true
+second_line 'pzic convert --faults, of a folder that may not be written' '--> closed/list: permission denied'
+rm -rf closed
+if strace -o /dev/null true 2>/dev/null; then
+    strace -f -o ../trace -e 'trace=rename,renameat,renameat2' -e 'inject=rename,renameat,renameat2:error=ENOSPC' \
+        "$program" build --explain filled two >../out 2>../err || true
+    second_line 'pzic build, on a full disk' '--> filled/Etc/UTC: no space left on device'
+    rm -r filled
+fi
 # What leads to no file is missing: a link in a circle, a file in the place of a folder, and a name longer than a file's.
 ln -s loop new.tree/loop
 long=$(printf 'Z%.0s' {1..300})
@@ -122,7 +145,7 @@ rm $'new.tree/a\nextra b'
 # A name that isn't UTF-8 is listed, of a file or a folder.
 : >$'new.tree/Z/b \xc3('
 mkdir $'new.tree/a\xff'
-expect 1 'extra Z/b\x20\xc3(
+expect 1 'extra Z/b \xc3(
 extra a\xff' 'tree differs' verify --strict new.tree two
 expect 0 '' '' verify new.tree two
 rm -r $'new.tree/Z/b \xc3(' $'new.tree/a\xff'
@@ -252,6 +275,12 @@ for kilobytes in 0 1; do
     told "pzic build tree big, with at most $kilobytes KiB a file" 3 '' "cannot write tree/$name"
     expect_tree tree "$wanted"
 done
+(
+    trap '' XFSZ
+    ulimit -f 1
+    "$program" build --explain tree big 2>&1
+) | sed -n 2p >../out || true
+[ "$(cat ../out)" = '--> tree/B: file too large' ] || differ "pzic build --explain, with at most 1 KiB a file: '$(cat ../out)'"
 
 # ------------------------------------------------------------------ lists that can't be written
 

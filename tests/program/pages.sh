@@ -235,6 +235,8 @@ for page in docs/help/*.txt; do
             "$pzic" ${name/#pzic/} $word >"$work/out" 2>"$work/told" && status=0 || status=$?
             [ "$status" = 2 ] && [ ! -s "$work/out" ] && cmp -s "$work/told" "$page" || differ "pzic $name $word prints another page"
         done
+        # shellcheck disable=SC2086
+        "$pzic" help ${name/#pzic/} | cmp -s - <(sed '$d' "$page") || differ "pzic help $name prints another page"
     fi
     grep -qx -- "\.B $name" man/pzic.1 || [[ $name = @(pzic|version) ]] || differ "man/pzic.1 doesn't tell of the command $name"
 done
@@ -251,12 +253,12 @@ completed() {
         _pzic
         printf "%s\n" "${COMPREPLY[@]}"' bash "$@" | sort
 }
-for name in check build verify diff convert show dump explain; do
+for name in check build verify diff convert show dump explain help; do
     words=$(completed pzic "$name" --)
     [ "$words" = "$(options_of "$name")" ] || differ "bash completes 'pzic $name --' by '$words'"
 done
 words=$(completed pzic '')
-[ "$words" = $'build\ncheck\nconvert\ndiff\ndump\nexplain\nshow\nverify' ] || differ "bash completes 'pzic' by '$words'"
+[ "$words" = $'build\ncheck\nconvert\ndiff\ndump\nexplain\nhelp\nshow\nverify' ] || differ "bash completes 'pzic' by '$words'"
 printf 'Zone Test/One 1 - CET\nZone Test/Two 2 - EET\n' >"$work/two.zi"
 mkdir "$work/bin"
 ln -s "$PWD/$pzic" "$work/bin/pzic"
@@ -311,18 +313,16 @@ tools/make-index.py >"$work/index" || differ 'tools/make-index.py can not print 
 for page in README.md docs/*.md; do check_links "$page" "$(dirname "$page")"; done
 check_links "$work/index" docs
 tools/make-index.py --check >"$work/lacks" || differ "tools/make-index.py finds: $(cat "$work/lacks")"
-# PROOF.md names only definitions that exist, and describes every crate.
+# PROOF.md and the heads of the crates' sources name only definitions that exist, and PROOF.md lists every crate.
 find crates/*/specs -name '*.antt' -exec cat {} + | grep -oE '[A-Z][A-Za-z]+' | sort -u >"$work/definitions"
 verbs='Is|Are|Writes|Converts|Answers|Reads|Goes|Gives|Shows|Means|Spells|Counts|Takes|Yields|Columns|Reports'
 verbs+='|May|Image|Compile|Needs|Notes|Ends|Holds|Has|Appends|Keeps|Within|On|If'
-grep -oE "\`($verbs)[A-Za-z]*\`" docs/PROOF.md | tr -d '`' | sort -u |
+{ cat docs/PROOF.md && grep -h '^//!' crates/*/src/lib.rt; } | grep -oE "\`($verbs)[A-Za-z]*\`" | tr -d '`' | sort -u |
     comm -23 - "$work/definitions" >"$work/unknown"
-[ ! -s "$work/unknown" ] || differ "docs/PROOF.md names what no definition is: $(tr '\n' ' ' <"$work/unknown")"
+[ ! -s "$work/unknown" ] || differ "docs/PROOF.md or the head of a crate names what no definition is: $(tr '\n' ' ' <"$work/unknown")"
 for crate in $(sed -n 's/^\(zic_[a-z_]*\).*:.*/\1/p' crates.txt); do
-    grep -q "^\*\*$crate\*\*" docs/PROOF.md || differ "docs/PROOF.md tells nothing of $crate"
+    grep -q "^- \[$crate\](../crates/$crate/src/" docs/PROOF.md || differ "docs/PROOF.md doesn't list $crate"
 done
-sed -n '/^| Test | What/,/^$/p' docs/TESTING.md | cmp -s - <(tests/run --list && echo) ||
-    differ 'docs/TESTING.md has another table than tests/run --list'
 
 echo "pages: $(wc -l <"$log") differences"
 [ ! -s "$log" ]

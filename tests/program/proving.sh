@@ -89,6 +89,8 @@ tells() { grep -qx -- "$1" err || differ "it has no message '$1': $(cat err)"; }
 
 run 2 0 house/pzic check --help
 cmp err house/docs/help/check.txt || differ 'help is another before the program is there'
+run 0 0 house/pzic help check
+sed '$d' house/docs/help/check.txt | cmp - out || differ 'help of its own is another before the program is there'
 run 0 1 house/pzic check -
 shows 'of zic_main'
 tells 'tools/prove: proved low (1 of 2), about 1 minute left'

@@ -130,4 +130,8 @@ line=$'\r[0-9]+ rows, [0-9]+ rows a second\x1b\\[K'
 grep -Exq "($line){2,6}" ../err || differ "on a terminal: '$(cat -v ../err)'"
 : >../err
 told 'pzic convert --progress plain, on a terminal' 0 "$utc"$'\n'"$utc"$'\n'"$utc" ''
+# A failure that isn't explained names the option that explains it there, and nowhere else.
+status=0
+python3 "$columns" terminal ../out "$program" check faulty >../err || status=$?
+told 'pzic check faulty, on a terminal' 1 '' $'line 1: Keyword\n--explain says more'
 leave streams

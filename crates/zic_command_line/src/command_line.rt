@@ -1,9 +1,11 @@
 //! The words that the program is given.
 
+use crate::advice::advised;
 use crate::commands::commands;
 use crate::fields::{FieldNames, FieldWords};
 use crate::instant::{parse_instant_word, parse_local_word};
 use crate::layout::{fault_fields, layout, max_faults};
+use crate::message::error_in;
 use crate::no_request::NoRequest;
 use crate::release::is_release;
 use clap::error::ErrorKind;
@@ -139,6 +141,10 @@ pub enum Request {
     Version {
         text: String,
     },
+    /// Tell what the program or a command takes.
+    Help {
+        text: String,
+    },
 }
 
 /// Where the zones of a column come from.
@@ -227,8 +233,8 @@ fn matched(alloc: Global, matches: &ArgMatches<'_>) -> Result<CommandLine, NoReq
 }
 
 /// The commands, by their names.
-const COMMANDS: [&str; 8] = [
-    "check", "build", "verify", "diff", "convert", "show", "dump", "explain",
+const COMMANDS: [&str; 9] = [
+    "check", "build", "verify", "diff", "convert", "show", "dump", "explain", "help",
 ];
 
 /// Returns the first word, if it is the name of a command, or an empty text.
@@ -279,6 +285,7 @@ fn command(alloc: Global, matches: &ArgMatches<'_>) -> Result<Request, NoRequest
         Some(("show", m)) => show(alloc, m),
         Some(("dump", m)) => dump(alloc, m),
         Some(("explain", m)) => explain(alloc, m),
+        Some(("help", m)) => help(alloc, m),
         _ => Err(usage(alloc, "no such command")),
     }
 }
@@ -326,8 +333,8 @@ fn refusal_of(alloc: Global, e: &Error, name: &str) -> Result<NoRequest, AllocEr
     match e.kind() {
         ErrorKind::OutOfMemory => Ok(NoRequest::Memory),
         _ => {
-            let refusal = NoRequest::Usage(e.to_string(alloc)?);
-            Ok(hinted(alloc, refusal, name))
+            let text = advised(alloc, e.to_string(alloc)?, name)?;
+            Ok(hinted(alloc, NoRequest::Usage(text), name))
         }
     }
 }
@@ -647,10 +654,44 @@ fn explain(alloc: Global, matches: &ArgMatches<'_>) -> Result<Request, NoRequest
         let text = index(alloc, &entries)?;
         return Ok(Request::Explain { text });
     };
-    match explanation(alloc, &entries, name) {
+    match explanation(alloc, &entries, error_in(&entries, name)) {
         Ok(text) => Ok(Request::Explain { text }),
         Err(Unexplained::NoError { nearest }) => Err(no_error(alloc, name, nearest)),
         Err(Unexplained::Memory) => Err(NoRequest::Memory),
+    }
+}
+
+/// Returns the text of help, of a command if one is named.
+fn help(alloc: Global, matches: &ArgMatches<'_>) -> Result<Request, NoRequest> {
+    match matches.get_str("COMMAND") {
+        Some(name) => help_for(alloc, &["pzic", name, "--help"]),
+        None => help_for(alloc, &["pzic", "--help"]),
+    }
+}
+
+/// Returns the text of help for which these words call.
+fn help_for(alloc: Global, words: &[&str]) -> Result<Request, NoRequest> {
+    match commands(alloc)?.try_get_matches_from(words) {
+        Ok(matches) => {
+            drop(matches);
+            Err(usage(alloc, "no such command"))
+        }
+        Err(e) => {
+            let request = help_of(alloc, &e);
+            drop(e);
+            request
+        }
+    }
+}
+
+/// Returns the text of help that was called for, or the refusal of a word that is no command.
+fn help_of(alloc: Global, e: &Error) -> Result<Request, NoRequest> {
+    match e.kind() {
+        ErrorKind::OutOfMemory => Err(NoRequest::Memory),
+        ErrorKind::DisplayHelp => Ok(Request::Help {
+            text: e.to_string(alloc)?,
+        }),
+        _ => Err(usage(alloc, "COMMAND is none of those that 'pzic help' lists")),
     }
 }
 
@@ -726,10 +767,21 @@ pub fn usage_of(alloc: Global, name: &str, text: &str) -> NoRequest {
     hinted(alloc, usage(alloc, text), name)
 }
 
-/// Returns the refusal of a word that is no number of seconds, at the place for one.
+/// Returns the refusal of a word that is no number of seconds, at the place for one. A date is told how to
+/// become one.
 fn no_seconds(alloc: Global, word: &str, place: &str) -> NoRequest {
-    let why = "not a whole number of seconds from -9223372036854775808 to 9223372036854775807";
+    let why = if is_date(word) {
+        "not a whole number of seconds, as 'date -d 2026-11-29 +%s' prints them"
+    } else {
+        "not a whole number of seconds from -9223372036854775808 to 9223372036854775807"
+    };
     bad_value(alloc, word, place, why)
+}
+
+/// Returns whether a word has a hyphen or a colon after a digit, as dates and times have.
+fn is_date(word: &str) -> bool {
+    let digits = word.trim_start_matches(|c: char| c.is_ascii_digit());
+    digits.len() < word.len() && (digits.starts_with('-') || digits.starts_with(':'))
 }
 
 /// Returns the refusal of a word that can't stand at its place.

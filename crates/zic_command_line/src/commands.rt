@@ -496,7 +496,13 @@ static NAMES: [Word; 1] = [Word {
     form: Form::Optional,
 }];
 
-static COMMANDS: [Described; 8] = [
+static HELP: [Word; 1] = [Word {
+    name: "COMMAND",
+    help: "The name of a command; without it all are listed",
+    form: Form::Optional,
+}];
+
+static COMMANDS: [Described; 9] = [
     Described {
         name: "check",
         about: "Compiles a source and lists its files: NAME BYTES FOOTER",
@@ -535,7 +541,12 @@ static COMMANDS: [Described; 8] = [
     Described {
         name: "explain",
         about: "Explains an error: what it means, examples and what to do",
-        after: "Example:\n  pzic explain NoFooter",
+        after: "Example:\n  pzic explain NoFooter\n  pzic explain 'line 3: NoFooter'",
+    },
+    Described {
+        name: "help",
+        about: "Prints what a command takes, as its --help on standard output",
+        after: "Example:\n  pzic help convert | less",
     },
 ];
 
@@ -582,6 +593,7 @@ fn words<'a>(command: &str) -> &'a [Word] {
         "convert" => &CONVERT,
         "show" => &SHOW,
         "dump" => &DUMP,
+        "help" => &HELP,
         _ => &NAMES,
     }
 }

@@ -108,7 +108,7 @@ fn is_number(word: &str) -> bool {
 /// Returns the refusal of a number that no field has, given as the option of this name.
 fn no_field(alloc: Global, id: &str, word: &str) -> Result<NoRequest, AllocError> {
     let most = MOST_FIELDS;
-    let why = format!(in alloc; "{word} is not in 1..={most}")?;
+    let why = format!(in alloc; "not from 1 to {most}")?;
     let option = ["--", id, " <F>"].concat(alloc)?;
     Ok(bad_value(alloc, word, option.as_str(), why.as_str()))
 }

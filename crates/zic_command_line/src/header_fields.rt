@@ -92,13 +92,16 @@ impl<'a> HeaderFields<'a> {
     }
 
     /// Returns the layout in which the fields with these names are read, where the header of the column has
-    /// these fields.
+    /// these fields. Where the column has no header, since it is empty, the layout is as it was.
     ///
     /// # Errors
     ///
     /// The text of usage where no field has a name, or several have it, or both names are of one field, or
     /// memory ran out.
     pub fn layout_by(&self, alloc: Global, layout: Layout) -> Result<Layout, NoRequest> {
+        if self.count == 0 {
+            return Ok(layout);
+        }
         let mut layout = layout;
         match self.name_fields(alloc, &mut layout) {
             Ok(()) => Ok(layout),
@@ -166,9 +169,6 @@ impl<'a> HeaderFields<'a> {
     /// Returns the fields as they are shown to people, between quotes, and how many more there are where
     /// these are too many.
     fn shown_fields(&self, alloc: Global) -> Result<String, AllocError> {
-        if self.count == 0 {
-            return String::from_str(alloc, "none");
-        }
         let fields = self.shown.join(alloc, "', '")?;
         let more = self.count.saturating_sub(MOST_SHOWN);
         if more == 0 {

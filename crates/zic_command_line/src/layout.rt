@@ -257,7 +257,7 @@ fn delimiter(alloc: Global, matches: &ArgMatches<'_>) -> Result<Delimiter, NoReq
         Some(delimiter) => Ok(delimiter),
         None => Err(usage(
             alloc,
-            "--delimiter is tab, or an ASCII character that no field of a row has",
+            "--delimiter is the word tab, or an ASCII character that no field of a row has",
         )),
     }
 }

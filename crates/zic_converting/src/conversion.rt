@@ -12,7 +12,7 @@ use crate::ready::ready_releases;
 use crate::rows::convert_rows;
 use std::alloc::Global;
 use std::fs::Files;
-use std::io::{Input, IsTerminal, Write};
+use std::io::{ErrorKind, Input, IsTerminal, Write};
 use std::mem;
 use std::random::RandomSource;
 use std::sync::Wait;
@@ -32,6 +32,8 @@ pub struct Noted {
     pub ended: Option<Failure>,
     /// The faults of rows after which a run went on, where something else ended it.
     pub faults: Option<Failure>,
+    /// Why the system refused what was to be written, as far as that is known.
+    pub reason: Option<ErrorKind>,
 }
 
 impl Noted {
@@ -42,6 +44,7 @@ impl Noted {
             head: Head::new(alloc),
             ended: None,
             faults: None,
+            reason: None,
         }
     }
 }
@@ -83,7 +86,7 @@ fn convert_listed<
     R: Files + Input + Print + Clock + RandomSource + AllocGlobal + Threads + Wait + Sync,
     E: Write + Drop,
 >(rt: &R, order: &Conversion, noted: &mut Noted, line: ProgressLine<E>) -> Result<(), Failure> {
-    let mut lists = Lists::open(rt, order)?;
+    let mut lists = Lists::open(rt, order, &mut noted.reason)?;
     let converted = convert_rows(rt, order, &mut *noted, line, &mut lists.list);
     end(order, noted, lists, converted)
 }

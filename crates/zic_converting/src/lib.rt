@@ -1,5 +1,28 @@
 //! `convert`: converts a column by the sources and folders that words name, with the fields that its header
 //! names, and with the files for the faults of rows and for their records.
+//!
+//! # What is proved
+//!
+//! `convert`, `read_header`, `expect_own_lists` and `Noted` have no clause, since they read and
+//! write files, nor `take_stack`: what stack a thread has, no clause sees. What the program tells
+//! in the end is proved of the functions by which they decide it:
+//!
+//! - a run ends by what ended the rows, or else by the faults after which it went on (`ended`,
+//!   `failure_of`); where a row ended it, more bytes than there may be, or a list that can't be
+//!   written, these faults are told beside that (`told_beside`)
+//! - that a list can't be written comes first, whatever ended the run (`IsReport`), and what else
+//!   ended it is told behind it (`behind_of`); the list of faults comes before that of records
+//!   (`first_unwritten`)
+//! - earlier lists stay as they are where no fault was noted and the run ended before rows were
+//!   made (`keeps_lists`)
+//! - where rows ended for lack of memory and the path of a file was noted that can't be read, that
+//!   file ended them (`by_unread`)
+//! - what is reported and told beside it is this for the faults that the list has noted
+//!   (`faults_in`, `IsReportOf`)
+//! - the files of OLD are those of the first text (`old_texts`, `AreFilesOfTexts`)
+//! - the number of rows that were made is told where rows are compared with those of another
+//!   release (`rows_made`)
+//! - a fault of a text has the number of the text where there are several (`numbered`)
 #![tactic(auto)]
 
 mod column;

@@ -20,14 +20,18 @@ pub(crate) struct Lists<'a, R: Files> {
 }
 
 impl<'a, R: Files + RandomSource + AllocGlobal> Lists<'a, R> {
-    /// Opens the files, and writes nothing to them.
+    /// Opens the files, and writes nothing to them. Takes note of why the system refuses one.
     ///
     /// # Errors
     ///
     /// `CannotWrite` with the path of a file that can't be made or opened, or `Memory`.
-    pub(crate) fn open(rt: &'a R, order: &Conversion) -> Result<Lists<'a, R>, Failure> {
-        let faults = list_file(rt, &order.faults)?;
-        match list_file(rt, &order.rejects) {
+    pub(crate) fn open(
+        rt: &'a R,
+        order: &Conversion,
+        reason: &mut Option<ErrorKind>,
+    ) -> Result<Lists<'a, R>, Failure> {
+        let faults = list_file(rt, &order.faults, reason)?;
+        match list_file(rt, &order.rejects, reason) {
             Ok(rejects) => Ok(Lists {
                 list: FaultList::new(rt.alloc(), faults, rejects, order.fault_fields),
             }),
@@ -69,11 +73,12 @@ impl<R: Files> Lists<'_, R> {
 fn list_file<'a, R: Files + RandomSource + AllocGlobal>(
     rt: &'a R,
     path: &Option<String>,
+    reason: &mut Option<ErrorKind>,
 ) -> Result<Option<BufWriter<ListFile<'a, R>>>, Failure> {
     let Some(path) = path else {
         return Ok(None);
     };
-    let file = open_file(rt, path)?;
+    let file = open_file(rt, path, reason)?;
     match BufWriter::new(rt.alloc(), file) {
         Ok(file) => Ok(Some(file)),
         Err(_) => Err(Failure::Memory),
@@ -84,11 +89,15 @@ fn list_file<'a, R: Files + RandomSource + AllocGlobal>(
 fn open_file<'a, R: Files + RandomSource + AllocGlobal>(
     rt: &'a R,
     path: &String,
+    reason: &mut Option<ErrorKind>,
 ) -> Result<ListFile<'a, R>, Failure> {
     match ListFile::open(rt.alloc(), rt, path.as_str(), random_number(rt)) {
         Ok(file) => Ok(file),
         Err(e) if e.kind() == ErrorKind::OutOfMemory => Err(Failure::Memory),
-        Err(_) => Err(Failure::CannotWrite(path.clone()?)),
+        Err(e) => {
+            *reason = Some(e.kind());
+            Err(Failure::CannotWrite(path.clone()?))
+        }
     }
 }
 

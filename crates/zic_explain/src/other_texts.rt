@@ -1,4 +1,4 @@
-//! The texts of the errors of columns, files and runs. This file is made of docs/errors.txt by docs/errors.py.
+//! The texts of the errors of columns, files and runs. This file is made of docs/errors.txt by tools/errors.py.
 
 use crate::entry::Entry;
 use std::alloc::AllocError;
@@ -131,7 +131,8 @@ const GROUP_1: [Entry; 6] = [
         right: "  $ printf 'zone,instant\\nEtc/UTC,0\\n' | pzic convert --header utc.zi\n",
         cause: r#"  In row 1: a header, which `--header` passes over. Otherwise a name of
   another release or of `backward`, or an abbreviation such as `PST`. With
-  `--tree` also the path of another folder, or a file with leap seconds.
+  `--tree` also the path of another folder, or a file with leap seconds:
+  `pzic show --explain FILE 0` tells why a file is refused.
 "#,
     },
     Entry {
@@ -189,16 +190,16 @@ const GROUP_2: [Entry; 6] = [
         name: "RowLocal",
         meaning: "The field of the local time doesn't hold a local time.",
         says: "  The field of the local time doesn't hold a local time.\n",
-        expected: r#"  A date and a time of day without a UT offset, as `1970-01-01T00:00:00` or
-  with a space in place of the `T`, in the years 1 to 9999. With `--unit` a
-  fraction of at most 3, 6 or 9 digits.
+        expected: r#"  A date and a time of day with seconds and without a UT offset, as
+  `1970-01-01T00:00:00` or with a space in place of the `T`, in the years 1 to
+  9999. With `--unit` a fraction of at most 3, 6 or 9 digits.
 "#,
         setup: SETUP_1,
         wrong: "  $ echo 'Etc/UTC,1970-01-01T00:00:00Z' | pzic convert --from local utc.zi\n",
         prints: "  row 1: RowLocal\n",
         right: "  $ echo 'Etc/UTC,1970-01-01T00:00:00' | pzic convert --from local utc.zi\n",
-        cause: r#"  A date with a `Z` or a UT offset, which `--from rfc3339` takes, a date
-  without a time of day, or the two fields swapped.
+        cause: r#"  A time without its seconds, a date without a time of day, a `Z` or a UT
+  offset, which `--from rfc3339` takes, or the two fields swapped.
 "#,
     },
     Entry {
@@ -474,7 +475,9 @@ const GROUP_5: [Entry; 6] = [
         wrong: "  $ pzic check nowhere.zi\n",
         prints: "  cannot read nowhere.zi\n",
         right: "  $ pzic check utc.zi\n",
-        cause: "  A wrong path, a folder in place of a file, or missing permissions.\n",
+        cause: r#"  A wrong path, a folder in place of a file, missing permissions, or the words
+  in another order: DIR comes before SOURCE.
+"#,
     },
     Entry {
         name: "cannot read column",

@@ -1,4 +1,4 @@
-//! The texts of the errors of a source. This file is made of docs/errors.txt by docs/errors.py.
+//! The texts of the errors of a source. This file is made of docs/errors.txt by tools/errors.py.
 
 use crate::entry::Entry;
 use std::alloc::AllocError;

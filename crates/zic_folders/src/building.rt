@@ -3,7 +3,7 @@
 use crate::ending::Ending;
 use crate::extras::Extras;
 use std::fs::Files;
-use std::io::Input;
+use std::io::{ErrorKind, Input};
 use std::random::RandomSource;
 use std::sync::Wait;
 use std::thread::Threads;
@@ -12,7 +12,7 @@ use zic_host::{Refusal, random_number, read_texts};
 use zic_io::{Disk, Durability, Failure, LinkKind, LinkedFolder};
 
 /// Compiles sources, and places their files in a folder, with tables and the name of a release if these
-/// are requested.
+/// are requested. Takes note of why the system refuses one.
 ///
 /// # Errors
 ///
@@ -22,12 +22,13 @@ pub fn build<R: Files + Input + RandomSource + AllocGlobal + Threads + Wait + Sy
     rt: &R,
     order: &Building,
     texts: &mut Vec<Vec<u8>>,
+    reason: &mut Option<ErrorKind>,
 ) -> Result<Ending, Refusal> {
     read_texts(rt, &order.sources, texts)?;
     let Some(extras) = Extras::of(rt, &order.release_files, texts)? else {
         return Ok(Ending::NoRelease);
     };
-    let placed = place_with(rt, order, texts, &extras);
+    let placed = place_with(rt, order, texts, &extras, reason);
     drop(extras);
     placed
 }
@@ -38,9 +39,10 @@ fn place_with<R: Files + RandomSource + AllocGlobal + Threads + Wait + Sync>(
     order: &Building,
     texts: &[Vec<u8>],
     extras: &Extras,
+    reason: &mut Option<ErrorKind>,
 ) -> Result<Ending, Refusal> {
     extras.expect_room(rt.alloc(), "build", texts)?;
-    Ok(place(rt, order, texts, extras)?)
+    Ok(place(rt, order, texts, extras, reason)?)
 }
 
 /// Places the files of the texts and these others in the folder.
@@ -49,6 +51,7 @@ fn place<R: Files + RandomSource + AllocGlobal + Threads + Wait + Sync>(
     order: &Building,
     texts: &[Vec<u8>],
     extras: &Extras,
+    reason: &mut Option<ErrorKind>,
 ) -> Result<Ending, Failure> {
     let durability = if order.sync {
         Durability::Synced
@@ -57,6 +60,7 @@ fn place<R: Files + RandomSource + AllocGlobal + Threads + Wait + Sync>(
     };
     let mut disk = Disk::new(rt.alloc(), rt, random_number(rt), durability);
     let placed = place_on(rt, order, texts, extras, &mut disk);
+    *reason = disk.reason();
     drop(disk);
     placed
 }

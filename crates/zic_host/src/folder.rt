@@ -3,6 +3,7 @@
 use std::alloc::{AllocError, Global};
 use std::fs::{self, DirEntry, Files};
 use std::io::{self, ErrorKind, Read};
+use zic_explain::push_bytes;
 use zic_io::Failure;
 
 /// Refuses a path that isn't that of a folder.
@@ -170,20 +171,8 @@ fn push_others(
     for name in names.split(|byte| *byte == 0) {
         if str::from_utf8(name).is_err() {
             let mut shown = String::from_str(alloc, folder)?;
-            push_shown(alloc, name, &mut shown)?;
+            push_bytes(&mut shown, name)?;
             others.push(shown)?;
-        }
-    }
-    Ok(())
-}
-
-/// Adds the bytes of a name: visible ASCII as it is, and any other byte as `\xff`.
-fn push_shown(alloc: Global, name: &[u8], shown: &mut String) -> Result<(), AllocError> {
-    for byte in name {
-        if byte.is_ascii_graphic() {
-            shown.push(char::from(*byte))?;
-        } else {
-            shown.push_str(format!(in alloc; "\\x{:02x}", *byte)?.as_str())?;
         }
     }
     Ok(())

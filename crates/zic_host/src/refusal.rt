@@ -49,9 +49,9 @@ impl Refusal {
     /// shown as `\x1b`, so that a terminal takes none for a command, and none begins a line of its own.
     pub fn shown(self, alloc: Global) -> Refusal {
         match self {
-            Refusal::Command(failure) => Refusal::Command(shown(alloc, failure)),
+            Refusal::Command(failure) => Refusal::Command(shown_failure(alloc, failure)),
             Refusal::Explained { failure, text } => Refusal::Explained {
-                failure: shown(alloc, failure),
+                failure: shown_failure(alloc, failure),
                 text,
             },
             other => other,
@@ -60,7 +60,7 @@ impl Refusal {
 }
 
 /// Returns a failure with its path or name as it is shown, or that memory ran out.
-fn shown(alloc: Global, failure: Failure) -> Failure {
+pub fn shown_failure(alloc: Global, failure: Failure) -> Failure {
     match with_shown_word(alloc, failure) {
         Ok(failure) => failure,
         Err(_) => Failure::Memory,

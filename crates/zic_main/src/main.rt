@@ -1,5 +1,9 @@
 //! `pzic`: compiles time zone source to TZif files, converts instants by them, and reads such files. The
 //! program is in `zic_program`: here it begins, and ends with its status.
+//!
+//! # What is proved
+//!
+//! `main` and the standard streams have no clause.
 #![tactic(auto)]
 
 mod standard;

@@ -19,7 +19,7 @@ pub(crate) fn answer<
 >(rt: &R, errors: E, request: &Request, noted: &mut Noted) -> Result<Ending, Refusal> {
     let texts = &mut noted.texts;
     let done = match request {
-        Request::Build(order) => return build(rt, order, texts),
+        Request::Build(order) => return build(rt, order, texts, &mut noted.reason),
         Request::Verify {
             folder,
             sources,
@@ -59,7 +59,9 @@ pub(crate) fn answer<
         Request::Show { file, instant } => show(rt, file.as_str(), *instant),
         Request::ShowLocal { file, local } => show_local(rt, file.as_str(), local),
         Request::Dump { file, years } => dump(rt, file.as_str(), years),
-        Request::Explain { text } | Request::Version { text } => tell(rt, text.as_bytes()),
+        Request::Explain { text } | Request::Version { text } | Request::Help { text } => {
+            tell(rt, text.as_bytes())
+        }
     };
     match done {
         Ok(()) => Ok(Ending::Done),

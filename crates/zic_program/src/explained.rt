@@ -1,10 +1,10 @@
 //! The lines after the first about a failure.
 
-use std::alloc::AllocError;
+use std::alloc::{AllocError, Global};
 use std::fs::Files;
 use zic_converting::Noted;
 use zic_failures::Explainer;
-use zic_host::Refusal;
+use zic_host::{Refusal, shown_failure};
 use zic_io::Failure;
 
 /// Returns a refusal, with the lines after its first if it is the failure of a command.
@@ -21,6 +21,15 @@ pub(crate) fn explained<R: Files + AllocGlobal>(
             drop(noted);
             other
         }
+    }
+}
+
+/// Returns a refusal with a line that names `--explain`, if it is the failure of a command and has no lines
+/// after its first.
+pub(crate) fn with_hint(alloc: Global, refusal: Refusal) -> Refusal {
+    match (refusal, String::from_str(alloc, "--explain says more")) {
+        (Refusal::Command(failure), Ok(text)) => Refusal::Explained { failure, text },
+        (other, _) => other,
     }
 }
 
@@ -49,17 +58,30 @@ fn lines_after<R: Files + AllocGlobal>(
         texts,
         ended,
         faults,
+        reason,
         ..
     } = noted;
     let mut text = match explainer {
-        Some(explainer) => explainer.explanation(rt, failure, texts)?,
+        Some(mut explainer) => {
+            explainer.refused_for(reason);
+            explainer.explanation(rt, failure, texts)?
+        }
         None => String::new(rt.alloc()),
     };
+    let ended = shown(rt.alloc(), ended);
     let pushed = push_both(rt, &mut text, &ended, &faults);
     drop(ended);
     drop(faults);
     pushed?;
     Ok(text)
+}
+
+/// Returns a failure as people see it, if there is one.
+fn shown(alloc: Global, failure: Option<Failure>) -> Option<Failure> {
+    match failure {
+        Some(failure) => Some(shown_failure(alloc, failure)),
+        None => None,
+    }
 }
 
 /// Adds what ended a run besides its failure, and the faults before that, if there are any.

@@ -4,7 +4,7 @@ ghost use Rattle.std.specs.Prelude.{◌≡◌};
 ghost use Rattle.zic_program.specs.Run.{ended};
 
 use crate::answer::answer;
-use crate::explained::explained;
+use crate::explained::{explained, with_hint};
 use std::fs::Files;
 use std::io::{Input, IsTerminal, Read, Write};
 use std::random::RandomSource;
@@ -40,13 +40,29 @@ fn run_line<
 >(rt: &R, errors: E, line: &mut CommandLine) -> Result<(), Refusal> {
     let mut explainer = explainer_of(rt, line)?;
     let mut noted = Noted::new(rt.alloc());
+    let has_hint = explainer.is_none() && errors.is_terminal() && takes_explain(&line.request);
     match run_noted(rt, errors, &mut line.request, &mut explainer, &mut noted) {
         Ok(ending) => {
             drop(explainer);
             drop(noted);
             ended(ending)
         }
-        Err(reason) => Err(explained(rt, explainer, noted, reason).shown(rt.alloc())),
+        Err(reason) => {
+            let refusal = explained(rt, explainer, noted, reason).shown(rt.alloc());
+            Err(if has_hint {
+                with_hint(rt.alloc(), refusal)
+            } else {
+                refusal
+            })
+        }
+    }
+}
+
+/// Returns whether a request is one that `--explain` may stand with.
+fn takes_explain(request: &Request) -> bool {
+    match request {
+        Request::Explain { .. } | Request::Version { .. } | Request::Help { .. } => false,
+        _ => true,
     }
 }
 

@@ -1,0 +1,97 @@
+//! Sentences that help where the command line refuses words that people try.
+
+use std::alloc::{AllocError, Global};
+
+/// The begin of the line that refuses a word, which stands between quotes after it.
+const REFUSES_WORD: [&str; 2] = [
+    "error: unexpected argument '",
+    "error: unrecognized subcommand '",
+];
+
+/// The end of a text of usage.
+const END: &str = "\n\nFor more information, try '--help'.\n";
+
+/// Returns a text of usage, of the command of this name, in words that help more: its first line says in
+/// plain words what a number has to be, and a sentence stands in place of the lines below it where there is
+/// one for the word that is refused.
+pub(crate) fn advised(alloc: Global, text: String, command: &str) -> Result<String, AllocError> {
+    let (line, rest) = text.split_once('\n').unwrap_or((text.as_str(), ""));
+    match refused_word(line).and_then(|word| advice(command, word)) {
+        Some(advice) => [line, "\n\n  tip: ", advice, END].concat(alloc),
+        None => plain(alloc, line, rest),
+    }
+}
+
+/// Returns the word that a line refuses, if it refuses one.
+fn refused_word(line: &str) -> Option<&str> {
+    for start in &REFUSES_WORD {
+        if let Some(rest) = line.strip_prefix(*start) {
+            return Some(rest.rsplit_once('\'')?.0);
+        }
+    }
+    None
+}
+
+/// Returns the sentence that helps where the command of this name, or the program, refuses a word.
+fn advice(command: &str, word: &str) -> Option<&'static str> {
+    let is_option = word.starts_with('-');
+    match (command, word) {
+        ("build" | "verify", "-d") => Some(
+            "DIR is the first word, without -d: 'pzic build DIR SOURCE'",
+        ),
+        ("build" | "verify", "-b") => Some(
+            "there is no -b: files are as slim as those of zic -b slim",
+        ),
+        ("build" | "verify", "-L") => Some("there is no -L: files have no leap seconds"),
+        ("convert", "--timezone" | "--time-zone" | "--tz") => Some(
+            "--zone names the zone of all rows",
+        ),
+        ("convert", _) if !is_option => {
+            Some("the column is standard input: 'pzic convert SOURCE <COLUMN'")
+        }
+        ("check", _) if !is_option => Some("check takes one SOURCE; build and verify take several"),
+        ("dump", "-i") => Some("dump prints what zdump -i does, without -i"),
+        ("dump", "-c") => Some("in place of -c, --from YEAR and --to YEAR name the years"),
+        ("", _) if word.contains('/') || word.ends_with(".zi") => {
+            Some("a command comes first, as in 'pzic check SOURCE'")
+        }
+        _ => None,
+    }
+}
+
+/// Returns a line and the lines below it, where the first says in plain words what is wrong with a number, if
+/// something is.
+fn plain(alloc: Global, line: &str, rest: &str) -> Result<String, AllocError> {
+    for (words, plain) in &NO_NUMBERS {
+        if let Some(start) = line.strip_suffix(*words) {
+            return [start, plain, "\n", rest].concat(alloc);
+        }
+    }
+    match range_in(line) {
+        Some((start, least, most)) => {
+            [start, ": not from ", least, " to ", most, "\n", rest].concat(alloc)
+        }
+        None => [line, "\n", rest].concat(alloc),
+    }
+}
+
+/// What the parser of words says of what is no number, and what is said in place of it.
+const NO_NUMBERS: [(&str, &str); 3] = [
+    (": invalid digit found in string", ": not a whole number"),
+    (
+        ": cannot parse integer from empty string",
+        ": not a whole number",
+    ),
+    (
+        ": number too large to fit in target type",
+        ": too large a number",
+    ),
+];
+
+/// Returns what a line says before a number that isn't within a range, and the ends of the range.
+fn range_in(line: &str) -> Option<(&str, &str, &str)> {
+    let (start, range) = line.rsplit_once(" is not in ")?;
+    let (start, _) = start.rsplit_once(": ")?;
+    let (least, most) = range.split_once("..=")?;
+    Some((start, least, most))
+}
