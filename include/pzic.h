@@ -43,7 +43,7 @@ extern "C" {
 uint32_t pzic_version(void);
 
 /* The most bytes of the stack that a call uses; those of pzic_zone_at, pzic_zone_span and pzic_zone_instants few. */
-enum { PZIC_STACK = 163840 };
+enum { PZIC_STACK = 98304 };
 
 /* What a call answers. */
 enum {

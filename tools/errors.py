@@ -103,7 +103,7 @@ def struct(entry, setups):
 
 def texts(found, name, what):
     """Returns a file with the texts of these errors."""
-    text = f'//! The texts of {what}. This file is made of docs/errors.txt by docs/errors.py.\n\n'
+    text = f'//! The texts of {what}. This file is made of docs/errors.txt by tools/errors.py.\n\n'
     text += 'use crate::entry::Entry;\nuse std::alloc::AllocError;\n\n'
     setups = {'': '""'}
     for part in [entry.part for entry in found if 'setup' in entry.part.texts]:

@@ -7,7 +7,7 @@ Prints a page in Markdown, with links as from docs/. With --check, prints in its
 in must-fail/ or plants/, nor a test nor a line of docs/index-exceptions.txt, each line there that no function needs, each line of docs/promises.txt
 that names no clause, each line of docs/wrong-bodies.txt that names no edit in must-fail/ and no test, each edit whose text its file hasn't just
 once, each definition that a clause cites and docs/DEFINITIONS.md doesn't name, and each public function
-that docs/PROOF.md doesn't name; the status is 1 if there is any.
+that the head of its crate's sources doesn't name; the status is 1 if there is any.
 
 An edit belongs to the function whose text it changes, or to those that use the constant that it changes. Where that one is
 private, it belongs to the public functions that call it through private ones. What C calls has the edits of the function
@@ -27,7 +27,8 @@ HEAD = """# Index
 
 First the promises, each with the clauses and laws that make it. Then each public function, with the names of its clauses,
 the definitions that they cite, the edits of its code that the prover refuses, and a test that calls it, and each law,
-with the definition that states it. [PROOF.md](PROOF.md) explains the promises, crate by crate.
+with the definition that states it. The head of each crate's sources explains its promises
+([PROOF.md](PROOF.md#crate-by-crate)).
 
 - What is read and written is promised for readers and writers whose bytes are known, and what is placed in a tree, or
   read of one, for trees that tell it ([PROOF.md](PROOF.md#what-isnt-proved)). A failure is one that was counted; the
@@ -152,15 +153,13 @@ class Index:
         yield from self.untold()
 
     def untold(self):
-        """Yields the public functions that docs/PROOF.md doesn't name where it tells of their crate. What a trait asks for is
-        told with the trait, and `new`, `len`, `bytes` and `octets` with their type."""
-        page = (CRATES.parent / 'docs/PROOF.md').read_text()
-        parts = re.split(r'^\*\*(\w+)\*\*', page, flags=re.M)
-        named = {crate: set(re.findall(r'\w+', ' '.join(re.findall('`([^`]*)`', part)))) for crate, part in zip(parts[1::2], parts[2::2])}
+        """Yields the public functions that the head of their crate's sources doesn't name. What a trait asks for is told with
+        the trait, and `new`, `len`, `bytes` and `octets` with their type."""
+        named = {crate: set(re.findall(r'\w+', ' '.join(re.findall('`([^`]*)`', head)))) for crate, head in heads()}
         with_type = {'new', 'len', 'bytes', 'octets'}
         for f in self.public:
             if not f.is_law and not f.trait and f.name not in named.get(f.module.crate, set()) | with_type:
-                yield f'docs/PROOF.md lacks {f.key}'
+                yield f'the head of {f.module.crate} lacks {f.key}'
 
     def page(self):
         yield HEAD
@@ -234,6 +233,13 @@ def link(name, path):
 def definitions(f, clauses=None):
     clauses = f.clauses if clauses is None else clauses
     return ', '.join(dict.fromkeys(link(*found) for _, clause in clauses for found in f.module.cited(clause)))
+
+
+def heads():
+    """Yields each crate with the comment at the head of its sources, which tells what is proved of it."""
+    for path in sorted(CRATES.glob('*/src/*.rt')):
+        if path.name in ('lib.rt', 'main.rt'):
+            yield path.parts[-3], re.match(r'(?://!.*\n)*', path.read_text())[0].replace('\n//!', '')
 
 
 def edits():

@@ -1,6 +1,14 @@
 //! Types and texts that all crates share: places of lines, faults of sources, zones and rows, why a
 //! run ends early, short texts, the bytes of abbreviations, digits, states, limits, and the word for
 //! standard input.
+//!
+//! # What is proved
+//!
+//! `Kind::number`, `RowKind::number`, `Place::is_before`, `Stop::at` and `ZoneStop::at` agree with
+//! the definitions. `Kind::name` and `RowKind::name` are the variants' names, and `name_of_fault`
+//! finds one by its number, or none just where there is none (`IsFaultName`). `ShortText` keeps its
+//! bytes (`octets`). `is_abbreviation_byte`, `are_abbreviation_bytes`, `two_digits`, `clock_text`
+//! and `offset_text` are the definitions of these names.
 #![tactic(auto)]
 
 mod byte;

@@ -1,5 +1,9 @@
 //! The proleptic Gregorian calendar: day numbers, weekdays, the day forms of time zone rules, and
 //! civil time. Nothing here takes memory or fails.
+//!
+//! # What is proved
+//!
+//! `day_of`, `weekday`, `civil`, `is_leap_year` and `days_in_month` are the calendar's.
 #![tactic(auto)]
 
 mod civil_time;

@@ -1,6 +1,20 @@
 //! What the clocks of a TZif file show, and the changes of local time that it answers: the date and the
 //! time of day at an instant, the changes before and after it, and the text of all changes between two
 //! years, that of `zdump -i` (zdump(8)).
+//!
+//! # What is proved
+//!
+//! `dump` gives the text of `zdump -i`: what the file answers at the start of the first year, and
+//! each instant after it, up to and including the start of the second, at which it answers
+//! otherwise than a second before, with its local time (`IsDump`, `AreChanges`); or the first check
+//! that the bytes fail (`IsFault`). `Years::new` gives the years 2 to 9999 in order, and no others
+//! (`IsYears`), `Years::instants` the instants between their starts, and `are_same` tells whether
+//! two answers are the same. `civil_at` gives the date and the time of day that clocks with a UT
+//! offset show at an instant, any `i64` (`date`, `time`). `next_change` gives the first change of
+//! local time after an instant, `previous_change` the last before it and after the least instant of
+//! 64 bits, or there is none (`IsNextChange`, `IsPreviousChange`, `StaysSame`). `write_changes`
+//! writes just the changes between two instants, in order, as many as there is room for
+//! (`AreChangesWritten`).
 #![tactic(auto)]
 
 mod changes;

@@ -1,5 +1,14 @@
 //! POSIX TZ strings, as footers of TZif files have them: from text, as text, and what they mean at
 //! every instant.
+//!
+//! # What is proved
+//!
+//! Unless memory runs out, `parse` accepts exactly the grammar of version 2 or 3 (`ok`, `only`).
+//! `print` gives one text that spells the string (`spells`). `Footer::state` is its meaning at
+//! every instant of an `i64` (`Means`), and `Footer::span` the instants round one with the same
+//! meaning (`MeansThroughout`); `PreparedFooter` gives the same by a table (`standard_state`,
+//! `daylight_state`). `Footer::version` is the version that a string needs, and
+//! `Instants::contains` means `Includes`.
 #![tactic(auto)]
 
 mod footer;

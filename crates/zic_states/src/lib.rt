@@ -1,4 +1,11 @@
 //! The states of lines and zones: what a zone shows at an instant.
+//!
+//! # What is proved
+//!
+//! `until_instant` gives the instant of an UNTIL (`IsUntil`), `abbreviation` the filled FORMAT, or
+//! NoLetter or BadAbbreviation just where it has to (`err`), and `observance_by` what is in force
+//! by a rule of RULES (`IsInForceBy`). `before` and `rule_at` read a list of occurrences;
+//! `is_abbreviation` and `Abbreviation` (`parse`) have the limits.
 #![tactic(auto)]
 
 mod abbreviation;

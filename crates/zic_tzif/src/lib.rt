@@ -1,5 +1,17 @@
 //! TZif files, as RFC 9636 has them: their content, from bytes, as bytes, and what they answer at
 //! an instant.
+//!
+//! # What is proved
+//!
+//! `read` accepts only files of the format (`ok`) and refuses none but for lack of memory (`only`);
+//! of other bytes it gives the first check that fails (`err`). `write` gives the written form byte
+//! for byte (`written`), which a reader accepts with that content (`read`). `Zone::at` answers
+//! every instant of an `i64` (`Answers`), `Zone::span` gives the instants round it with the same
+//! answer, up to a transition or an edge of the footer (`AreBetween`, `AnswersThroughout`),
+//! `Zone::last_transition` the instant of the last transition, if there is one
+//! (`IsLastTransitionAt`), and `Zone::state` the state of each number below `state_count`
+//! (`IsStateOfNumber`). `Table::changes`, `types`, `names`, `footer_text` and `version` give its
+//! parts. `Reason::number`, `name` and `name_of_reason` agree (`IsReasonName`).
 #![tactic(auto)]
 
 mod content;

@@ -4,6 +4,14 @@
 //! copies of names.
 //!
 //! The input format is that of zic(8); `docs/DEFINITIONS.md` lists where each rule is stated.
+//!
+//! # What is proved
+//!
+//! `Name::parse`, `SetName::parse`, `Letter::parse`, `parse_keyword`, `parse_year`, `last_year`,
+//! `parse_month`, `parse_day_form`, `clock_time`, `save` and `offset` give what a field says, by
+//! the definition of each, or nothing; results are in range, and a day form fits its month in each
+//! year. `is_dash`, `split_at_most_once`, `ends_before` and `is_one_leap_year` are the definitions
+//! of these names.
 #![tactic(auto)]
 
 mod clock;
