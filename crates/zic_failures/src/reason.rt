@@ -11,12 +11,6 @@ use zic_io::MAX_SOURCE;
 /// What is said of a folder where a file is needed.
 const DIRECTORY: &str = "is a directory";
 
-/// What is said of a path that nothing has.
-const MISSING: &str = "no such file or directory";
-
-/// The folder in which programs look for the files of zones.
-const ZONEINFO: &str = "/usr/share/zoneinfo/";
-
 /// What the words of a request name, as far as it helps where one can't be read.
 #[derive(Clone, Copy)]
 pub(crate) enum Paths {
@@ -24,8 +18,6 @@ pub(crate) enum Paths {
     SourcesOr(&'static str),
     /// Sources, after the folder for their files.
     SourcesAfterFolder,
-    /// The file of a zone.
-    ZoneFile,
     /// Sources, or nothing.
     Others,
 }
@@ -40,8 +32,6 @@ impl Paths {
             },
             Request::Diff { trees: false, .. } => Paths::SourcesOr("--trees"),
             Request::Build(_) | Request::Verify { .. } => Paths::SourcesAfterFolder,
-            Request::Show { .. } | Request::ShowLocal { .. } | Request::Dump { .. } =>
-                Paths::ZoneFile,
             _ => Paths::Others,
         }
     }
@@ -62,7 +52,6 @@ impl Paths {
         let advice = match self {
             Paths::SourcesOr(option) if reason == DIRECTORY => tree_option(rt.alloc(), option)?,
             Paths::SourcesAfterFolder if is_file(rt, folder) => order(rt.alloc(), folder)?,
-            Paths::ZoneFile if reason == MISSING => zone_file(rt, path)?,
             _ => return Ok(lines),
         };
         lines.push_str(advice.as_str())?;
@@ -84,17 +73,6 @@ fn order(alloc: Global, file: &str) -> Result<String, AllocError> {
         " is a file.\n",
     ]
     .concat(alloc)
-}
-
-/// Returns a line with the path of the file that the system has of the zone of this name, if it has one.
-fn zone_file<R: Files + AllocGlobal>(rt: &R, name: &str) -> Result<String, AllocError> {
-    let alloc = rt.alloc();
-    let path = [ZONEINFO, name].concat(alloc)?;
-    if !is_file(rt, path.as_str()) {
-        return Ok(String::new(alloc));
-    }
-    let path = shown_word(alloc, path.as_str())?;
-    ["FILE is a path: there is ", path.as_str(), ".\n"].concat(alloc)
 }
 
 /// Returns why a path can't be read, as far as the system says so again.
@@ -168,7 +146,7 @@ fn line(alloc: Global, path: &str, reason: &str) -> Result<String, AllocError> {
 /// Returns the words for an error of the system.
 fn words(kind: ErrorKind) -> &'static str {
     match kind {
-        ErrorKind::NotFound => MISSING,
+        ErrorKind::NotFound => "no such file or directory",
         ErrorKind::PermissionDenied => "permission denied",
         ErrorKind::NotADirectory => "not a directory",
         ErrorKind::IsADirectory => DIRECTORY,

@@ -4,6 +4,7 @@ use crate::file::{check, dump, show, show_local};
 use std::fs::Files;
 use std::io::{Input, IsTerminal, Write};
 use std::random::RandomSource;
+use std::rt::Env;
 use std::sync::Wait;
 use std::thread::Threads;
 use std::time::Clock;
@@ -14,7 +15,7 @@ use zic_host::{Refusal, tell};
 
 /// Does what a request asks for.
 pub(crate) fn answer<
-    R: Files + Input + Print + Clock + RandomSource + AllocGlobal + Threads + Wait + Sync,
+    R: Env + Files + Input + Print + Clock + RandomSource + AllocGlobal + Threads + Wait + Sync,
     E: Write + IsTerminal + Drop,
 >(rt: &R, errors: E, request: &Request, noted: &mut Noted) -> Result<Ending, Refusal> {
     let texts = &mut noted.texts;

@@ -1,7 +1,9 @@
 //! The commands that print what one source or file says.
 
+use crate::zone_file::path_of;
 use std::fs::Files;
 use std::io::{self, Input};
+use std::rt::Env;
 use std::slice;
 use std::sync::Wait;
 use std::thread::Threads;
@@ -25,34 +27,37 @@ pub(crate) fn check<R: Files + Input + Print + AllocGlobal + Threads + Wait + Sy
 }
 
 /// Prints what a file says about an instant.
-pub(crate) fn show<R: Files + Print + AllocGlobal>(
+pub(crate) fn show<R: Env + Files + Print + AllocGlobal>(
     rt: &R,
     file: &str,
     instant: i64,
 ) -> Result<(), Failure> {
-    let bytes = read_file(rt.alloc(), rt, file)?;
+    let path = path_of(rt, file)?;
+    let bytes = read_file(rt.alloc(), rt, path.as_str())?;
     let mut output = Counted::new(io::writer(rt));
     zic_file_commands::show(rt.alloc(), &bytes, instant, &mut output)
 }
 
 /// Prints what a file says about a local time.
-pub(crate) fn show_local<R: Files + Print + AllocGlobal>(
+pub(crate) fn show_local<R: Env + Files + Print + AllocGlobal>(
     rt: &R,
     file: &str,
     local: &LocalTime,
 ) -> Result<(), Failure> {
-    let bytes = read_file(rt.alloc(), rt, file)?;
+    let path = path_of(rt, file)?;
+    let bytes = read_file(rt.alloc(), rt, path.as_str())?;
     let mut output = Counted::new(io::writer(rt));
     zic_file_commands::show_local(rt.alloc(), &bytes, local, &mut output)
 }
 
 /// Lists the changes of a file.
-pub(crate) fn dump<R: Files + Print + AllocGlobal>(
+pub(crate) fn dump<R: Env + Files + Print + AllocGlobal>(
     rt: &R,
     file: &str,
     years: &Years,
 ) -> Result<(), Failure> {
-    let bytes = read_file(rt.alloc(), rt, file)?;
+    let path = path_of(rt, file)?;
+    let bytes = read_file(rt.alloc(), rt, path.as_str())?;
     let mut output = Counted::new(io::writer(rt));
     zic_file_commands::dump(rt.alloc(), file, &bytes, years, &mut output)
 }

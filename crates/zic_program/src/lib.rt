@@ -10,5 +10,6 @@ mod answer;
 mod explained;
 mod file;
 mod program;
+mod zone_file;
 
 pub use program::run;

@@ -35,7 +35,7 @@ pub fn run<
 
 /// Does what the words ask for, of which the fields that have names get their numbers.
 fn run_line<
-    R: Files + Input + Print + Clock + RandomSource + AllocGlobal + Threads + Wait + Sync,
+    R: Env + Files + Input + Print + Clock + RandomSource + AllocGlobal + Threads + Wait + Sync,
     E: Write + IsTerminal + Drop,
 >(rt: &R, errors: E, line: &mut CommandLine) -> Result<(), Refusal> {
     let mut explainer = explainer_of(rt, line)?;
@@ -84,7 +84,7 @@ fn explainer_of<R: Files + AllocGlobal>(
 
 /// Does what a request asks for, and takes note of what an explanation needs.
 fn run_noted<
-    R: Files + Input + Print + Clock + RandomSource + AllocGlobal + Threads + Wait + Sync,
+    R: Env + Files + Input + Print + Clock + RandomSource + AllocGlobal + Threads + Wait + Sync,
     E: Write + IsTerminal + Drop,
 >(
     rt: &R,
