@@ -3,8 +3,8 @@
 use std::alloc::AllocError;
 use std::env::{self, VarError};
 use std::fs::{self, Files};
-use std::io::ErrorKind;
 use std::rt::Env;
+use zic_host::is_missing;
 
 /// The folder in which the files of zones are looked for last.
 const ZONEINFO: &str = "/usr/share/zoneinfo";
@@ -43,14 +43,6 @@ fn zone_folder<R: Env + AllocGlobal>(rt: &R) -> Result<Option<String>, AllocErro
         Ok(folder) => Ok(Some(folder)),
         Err(VarError::OutOfMemory) => Err(AllocError),
         Err(_) => Ok(None),
-    }
-}
-
-/// Returns whether nothing has a path.
-fn is_missing<R: Files>(rt: &R, path: &str) -> bool {
-    match fs::metadata(rt, path) {
-        Ok(_) => false,
-        Err(e) => e.kind() == ErrorKind::NotFound,
     }
 }
 
