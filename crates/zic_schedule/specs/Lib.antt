@@ -1,0 +1,4 @@
+pub mod code
+pub mod Due
+pub mod Laws
+pub mod Weekdays
