@@ -1,14 +1,15 @@
 #!/usr/bin/env python3
-"""Makes of docs/errors.txt the page docs/ERRORS.md and the texts of `pzic explain`, the files
-crates/zic_explain/src/{source,other}_texts.rt. It prints
+"""Makes of docs/errors.txt the page docs/ERRORS.md and the texts of `pzic explain` and `--explain`, the files
+crates/zic_explain/src/{source_texts,other_texts,cases}.rt. It prints
 
-    page        docs/ERRORS.md
-    source      the texts of the errors of a source, as source_texts.rt has them
-    other       those of all other errors, as other_texts.rt has them
-    examples    a line of shell for each entry: its name and what its example has, as assignments
-    explain     what `pzic explain NAME` prints, where NAME follows
+    page            docs/ERRORS.md
+    source_texts    the texts of the errors of a source, as source_texts.rt has them
+    other_texts     those of all other errors, as other_texts.rt has them
+    cases           what `--explain` tells in special cases, as cases.rt has it
+    examples        a line of shell for each entry: its name and what its example has, as assignments
+    explain         what `pzic explain NAME` prints, where NAME follows
 
-Called without a word it writes the three files.
+Called without a word it writes the four files.
 """
 import re
 import sys
@@ -19,7 +20,10 @@ ROOT = Path(__file__).resolve().parent.parent
 DOCS, SOURCES = ROOT / 'docs', ROOT / 'crates/zic_explain/src'
 # The number of entries in one constant: the prover writes it out whole.
 GROUP = 6
+FILES = ('source_texts', 'other_texts', 'cases')
 WORDS = ('says', 'expected', 'wrong', 'prints', 'right', 'meant', 'setup')
+# The words of a case, and how a line of it marks the place of a word.
+CASE_WORDS, PLACE = ('expected', 'meant', 'line'), '{}'
 
 INTRODUCTION = (
     'Every error by name: what it means, what is expected, and the cause. `pzic explain NAME` also prints an example that '
@@ -30,11 +34,12 @@ INTRODUCTION = (
 
 @dataclass
 class Entry:
-    """A part of the page, or an error in it: its name, and its texts by their words, each a list of lines."""
+    """A part of the page, an error in it, or a case of one of them: its name, and its texts by their words, each a list of lines."""
 
     name: str
     part: 'Entry' = None
     texts: dict = field(default_factory=dict)
+    cases: list = field(default_factory=list)
 
     def text(self, word, indent=''):
         return ''.join(f'{indent}{line}\n' for line in self.texts.get(word, []))
@@ -46,18 +51,24 @@ class Entry:
 
 def entries():
     """Returns the parts and errors of errors.txt in their order."""
-    found, word = [], None
+    found, texts = [], {}
+    words, word = WORDS, None
     for number, line in enumerate((DOCS / 'errors.txt').read_text().splitlines(), 1):
-        heading = re.fullmatch('(##?) (.+)', line)
+        heading = re.fullmatch('(#{1,3}) (.+)', line)
         if line.startswith(';') or not line:
             continue
-        if heading:
+        if heading and heading[1] == '###':
+            found[-1].cases.append(Entry(heading[2]))
+            words, texts = CASE_WORDS, found[-1].cases[-1].texts
+        elif heading:
             part = next((entry for entry in reversed(found) if not entry.part), None)
             found.append(Entry(heading[2], part if heading[1] == '##' else None))
-        elif line[:-1] in WORDS and line.endswith(':'):
+            words, texts = WORDS, found[-1].texts
+        elif line[:-1] in words and line.endswith(':'):
             word = line[:-1]
-        elif line.startswith('  ') and '"#' not in line:
-            found[-1].texts.setdefault(word, []).append(line[2:])
+            texts[word] = []
+        elif line.startswith('  ') and '"#' not in line and word in texts:
+            texts[word].append(line[2:])
         else:
             sys.exit(f'errors.txt:{number}: {line}')
     return found
@@ -125,6 +136,40 @@ def texts(found, name, what):
     return text
 
 
+def constant(entry, case):
+    """Returns the name of the constant for a case."""
+    words = re.sub('(?<=[a-z])(?=[A-Z])', ' ', entry.name).split() + re.findall('[a-z0-9]+', case.name)
+    return '_'.join(words).upper()
+
+
+def literal(kind, **fields):
+    """Returns a struct with these texts, as the program's source has it."""
+    return f'{kind} {{\n' + ''.join(f'    {name}: {quoted(text)},\n' for name, text in fields.items()) + '}'
+
+
+def case_value(entry, case):
+    """Returns what a case is, the type of its constant, and its value."""
+    if 'line' not in case.texts:
+        cause = (case if 'meant' in case.texts else entry).text('meant', '  ')
+        value = literal('Expectation', expected=case.text('expected', '  '), cause=cause)
+        return f'What is expected with `{case.name}`, where the error is `{entry.name}`', 'Expectation', value
+    [line] = case.texts['line']
+    before, place, after = line.partition(PLACE)
+    if not place:
+        return f'A line for `{entry.name}`', '&str', quoted(line)
+    return f'A line for `{entry.name}`', 'Sentence', literal('Sentence', before=before, after=after)
+
+
+def cases(found):
+    """Returns the file with the texts of the cases."""
+    text = '//! What `--explain` tells in special cases. This file is made of docs/errors.txt by tools/errors.py.\n\n'
+    text += 'use crate::entry::{Expectation, Sentence};\n'
+    for entry, case in [(entry, case) for entry in found for case in entry.cases]:
+        what, kind, value = case_value(entry, case)
+        text += f'\n/// {what}.\npub const {constant(entry, case)}: {kind} = {value};\n'
+    return text
+
+
 def shell_word(text):
     """Returns a text as a word of bash, on one line."""
     return "$'" + text.replace('\\', '\\\\').replace("'", "\\'").replace('\n', '\\n') + "'"
@@ -155,8 +200,9 @@ def main():
     first = errors[0].part
     made = {
         'page': page(found),
-        'source': texts([e for e in errors if e.part is first], 'push_source_errors', 'the errors of a source'),
-        'other': texts([e for e in errors if e.part is not first], 'push_other_errors', 'the errors of columns, files and runs'),
+        'source_texts': texts([e for e in errors if e.part is first], 'push_source_errors', 'the errors of a source'),
+        'other_texts': texts([e for e in errors if e.part is not first], 'push_other_errors', 'the errors of columns, files and runs'),
+        'cases': cases(found),
         'examples': examples(found),
     }
     if sys.argv[1:2] == ['explain']:
@@ -166,8 +212,8 @@ def main():
         sys.stdout.write(made[sys.argv[1]])
         return
     (DOCS / 'ERRORS.md').write_text(made['page'])
-    (SOURCES / 'source_texts.rt').write_text(made['source'])
-    (SOURCES / 'other_texts.rt').write_text(made['other'])
+    for name in FILES:
+        (SOURCES / f'{name}.rt').write_text(made[name])
 
 
 main()

@@ -1,4 +1,4 @@
-//! The parts of the text about an error.
+//! The parts of the texts about errors.
 
 use crate::other_texts::push_other_errors;
 use crate::source_texts::push_source_errors;
@@ -26,6 +26,21 @@ pub struct Entry {
     pub right: &'static str,
     /// What people usually meant.
     pub cause: &'static str,
+}
+
+/// What is expected where an option makes a difference, and what people usually meant then: texts as
+/// those of an [`Entry`].
+#[derive(Clone, Copy, Debug)]
+pub struct Expectation {
+    pub expected: &'static str,
+    pub cause: &'static str,
+}
+
+/// A line about a word or a path: what stands before it, and what after it, without the line end.
+#[derive(Clone, Copy, Debug)]
+pub struct Sentence {
+    pub before: &'static str,
+    pub after: &'static str,
 }
 
 /// Returns the texts about each error of the program, in the order of docs/ERRORS.md.

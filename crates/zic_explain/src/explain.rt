@@ -1,12 +1,13 @@
 //! Explains errors.
 
-ghost use Rattle.std.specs.Prelude.{◌≡◌, ◌<◌, ◌++◌, length, string_bytes, IfOk, IfErr, IfSome, IfNone, OnOk};
-ghost use Rattle.std.specs.List.{flat_map};
-ghost use Rattle.zic_explain.specs.Explanation.{section, explanation_text, index_line, IsExplanation, IsExpectation, IsUnexplained, HasName, HasNoName, IsNearest, IsNearName};
+ghost use Rattle.std.specs.Prelude.{◌≡◌, ◌++◌, map, string_bytes, IfOk, IfErr, IfSome, IfNone, OnOk};
+ghost use Rattle.std.specs.List.{flat_map, Contains};
+ghost use Rattle.zic_explain.specs.Explanation.{section, explanation_text, index_line, names_of, IsExplanation, IsUnexplained, HasName, HasNoName, NamesError};
+ghost use Rattle.zic_explain.specs.Nearest.{IsNearName};
 
 use crate::entry::Entry;
+use crate::nearest::near_name;
 use std::alloc::{AllocError, Global};
-use strsim::levenshtein;
 
 /// Why there is no explanation.
 #[derive(Clone, Copy, Debug, PartialEq, Eq)]
@@ -40,25 +41,12 @@ pub fn explanation(alloc: Global, entries: &[Entry], name: &str) -> Result<Strin
     ensures ok { IfOk result (λ text. IsExplanation entries.now name.now (string_bytes text)) }
     ensures err { IfErr result (IsUnexplained entries.now name.now) }
 {
-    match find(entries, name) {
+    match entry_named(entries, name) {
         Some(entry) => Ok(text_of(alloc, &entry)?),
         None => Err(Unexplained::NoError {
-            nearest: near_name(alloc, entries, name)?,
+            nearest: near_error(alloc, entries, name)?,
         }),
     }
-}
-
-/// Returns the sections that say what is expected, and what people usually meant, where an error
-/// has this name, or an empty text where none has it.
-pub fn expectation(alloc: Global, entries: &[Entry], name: &str) -> Result<String, AllocError>
-    ensures { IfOk result (λ lines. IsExpectation entries.now name.now (string_bytes lines)) }
-{
-    let mut lines = String::new(alloc);
-    if let Some(entry) = find(entries, name) {
-        push_section(&mut lines, "Expected", entry.expected)?;
-        push_section(&mut lines, "Usual cause", entry.cause)?;
-    }
-    Ok(lines)
 }
 
 /// Returns a line for each entry, with its name and the first sentence of what it means.
@@ -73,7 +61,7 @@ pub fn index(alloc: Global, entries: &[Entry]) -> Result<String, AllocError>
 }
 
 /// Returns the entry of this name.
-fn find(entries: &[Entry], name: &str) -> Option<Entry>
+pub fn entry_named(entries: &[Entry], name: &str) -> Option<Entry>
     ensures found { IfSome result (HasName entries.now name.now) }
     ensures none { IfNone result (HasNoName entries.now name.now) }
 {
@@ -85,42 +73,92 @@ fn find(entries: &[Entry], name: &str) -> Option<Entry>
     None
 }
 
-/// Returns the name that takes the fewest edits from this name, unless that is a third of it or more.
-fn near_name(
+/// Returns the name of the error that a message names, or the message itself where it names none. A message
+/// may be the name, or have it after its last colon, in upper or lower case; or it begins as the name does,
+/// and goes on with a path or a zone in place of `PATH` or `NAME`. Only its first line is looked at. The
+/// contract says that an error has the name; which of them it is, is tested.
+pub fn error_in<'a>(entries: &[Entry], message: &'a str) -> &'a str
+    ensures { NamesError entries.now message.now result.now }
+{
+    match entry_named(entries, message) {
+        Some(_) => message,
+        None => match entry_in(entries, message.lines().next().unwrap_or("")) {
+            Some(entry) => entry.name,
+            None => message,
+        },
+    }
+}
+
+/// Returns the entry of the error that a line names.
+fn entry_in(entries: &[Entry], line: &str) -> Option<Entry>
+    ensures { IfSome result (Contains entries.now) }
+{
+    match entry_named(entries, line) {
+        None => match entry_of_path(entries, line) {
+            None => entry_at_end(entries, line),
+            found => found,
+        },
+        found => found,
+    }
+}
+
+/// Returns the entry whose name a line begins with, up to its path or its zone.
+fn entry_of_path(entries: &[Entry], line: &str) -> Option<Entry>
+    ensures { IfSome result (Contains entries.now) }
+{
+    for entry in entries {
+        if is_about(entry.name, line) {
+            return Some(*entry);
+        }
+    }
+    None
+}
+
+/// Returns whether a line begins as the name of an error does before its path or its zone.
+fn is_about(name: &str, line: &str) -> bool {
+    match name.strip_suffix("PATH").or(name.strip_suffix("NAME")) {
+        Some(start) => line.starts_with(start),
+        None => false,
+    }
+}
+
+/// Returns the entry whose name stands after the last colon of a line, or is all of it.
+fn entry_at_end(entries: &[Entry], line: &str) -> Option<Entry>
+    ensures { IfSome result (Contains entries.now) }
+{
+    let name = match line.rsplit_once(": ") {
+        Some((_, name)) => name,
+        None => line,
+    };
+    for entry in entries {
+        if entry.name.eq_ignore_ascii_case(name) {
+            return Some(*entry);
+        }
+    }
+    None
+}
+
+/// Returns the name of an error that is nearest to this name, if that is near.
+fn near_error(
     alloc: Global,
     entries: &[Entry],
     name: &str,
 ) -> Result<Option<&'static str>, AllocError>
-    ensures { IfOk result (IsNearName entries.now name.now) }
+    ensures { IfOk result (IsNearName (names_of entries.now) name.now) }
 {
-    if entries.is_empty() {
-        return Ok(None);
-    }
-    let nearest = nearest(alloc, entries, name)?;
-    let edits = levenshtein(alloc, name, nearest)?;
-    if edits.saturating_mul(3) < nearest.len() {
-        Ok(Some(nearest))
-    } else {
-        Ok(None)
-    }
+    let names = names(alloc, entries)?;
+    near_name(alloc, &names, name)
 }
 
-/// Returns the name that takes the fewest edits from this name.
-#[tactic(auto, using(crate::proofs::Names::first_name))]
-fn nearest(alloc: Global, entries: &[Entry], name: &str) -> Result<&'static str, AllocError>
-    requires { 0 < length entries.now }
-    ensures { IfOk result (λ nearest. IsNearest entries.now name.now nearest.now) }
+/// Returns the names of entries.
+fn names(alloc: Global, entries: &[Entry]) -> Result<Vec<&'static str>, AllocError>
+    ensures { IfOk result (λ names. map (λ name. name.now) names.items ≡ names_of entries.now) }
 {
-    let mut nearest = entries[0].name;
-    let mut least = levenshtein(alloc, name, nearest)?;
+    let mut names = Vec::with_capacity(alloc, entries.len())?;
     for entry in entries {
-        let edits = levenshtein(alloc, name, entry.name)?;
-        if edits < least {
-            least = edits;
-            nearest = entry.name;
-        }
+        names.push(entry.name)?;
     }
-    Ok(nearest)
+    Ok(names)
 }
 
 /// Returns the explanation of an error.
@@ -138,8 +176,12 @@ fn text_of(alloc: Global, entry: &Entry) -> Result<String, AllocError>
     Ok(text)
 }
 
-/// Adds a title and its lines, if there are any.
-fn push_section(text: &mut String, title: &str, lines: &str) -> Result<(), AllocError>
+/// Adds an empty line, a title and its lines, or nothing where there are no lines.
+///
+/// # Errors
+///
+/// Memory ran out.
+pub fn push_section(text: &mut String, title: &str, lines: &str) -> Result<(), AllocError>
     ensures { OnOk result
         (string_bytes text.new ≡ string_bytes text.old ++ section title.now lines.now) }
 {

@@ -1,2 +1,3 @@
-pub mod code
+pub mod Expectation
 pub mod Place
+pub mod Underlined

@@ -1,10 +1,42 @@
-//! What is expected of a row in the layout that the options give.
+//! What is expected where a failure is, and in the layout that the options give.
+
+ghost use Rattle.std.specs.Prelude.{◌≡◌, string_bytes, IfOk};
+ghost use Rattle.zic_failures.specs.Expectation.{expectation_text, IsExpectation};
 
 use crate::record::RecordForm;
 use std::alloc::{AllocError, Global};
 use zic_base::RowKind;
-use zic_explain::{Entry, expectation};
+use zic_explain::cases::{
+    ROW_INSTANT_FROM_RFC3339, ROW_INSTANT_UNIT_MS, ROW_INSTANT_UNIT_NS, ROW_INSTANT_UNIT_US,
+    ROW_RANGE_FROM_RFC3339, ROW_RANGE_UNIT_MS, ROW_RANGE_UNIT_NS, ROW_RANGE_UNIT_US,
+};
+use zic_explain::{Entry, Expectation, entry_named, push_bytes, push_section};
 use zic_plan::{FieldCount, TimeFrom, Unit};
+
+/// Returns the sections that say what is expected, and what people usually meant, where an error has
+/// this name, or an empty text where none has it.
+///
+/// # Errors
+///
+/// Memory ran out.
+pub fn expectation(alloc: Global, entries: &[Entry], name: &str) -> Result<String, AllocError>
+    ensures { IfOk result (λ lines. IsExpectation entries.now name.now (string_bytes lines)) }
+{
+    match entry_named(entries, name) {
+        Some(entry) => sections(alloc, entry.expected, entry.cause),
+        None => Ok(String::new(alloc)),
+    }
+}
+
+/// Returns the sections that say what is expected, and what people usually meant.
+fn sections(alloc: Global, expected: &str, cause: &str) -> Result<String, AllocError>
+    ensures { IfOk result (λ lines. string_bytes lines ≡ expectation_text expected.now cause.now) }
+{
+    let mut lines = String::new(alloc);
+    push_section(&mut lines, "Expected", expected)?;
+    push_section(&mut lines, "Usual cause", cause)?;
+    Ok(lines)
+}
 
 /// What records of a column have.
 #[derive(Clone, Copy)]
@@ -23,15 +55,16 @@ impl Expected {
     pub(crate) fn sections(
         &self,
         alloc: Global,
-        entries: &[Entry],
         kind: RowKind,
+        entry: &Entry,
     ) -> Result<String, AllocError> {
-        match kind {
-            RowKind::RowInstant => self.instant(alloc, entries),
-            RowKind::RowRange => self.range(alloc, entries),
-            RowKind::RowFields if !self.is_plain() => self.fields(alloc, entries),
-            RowKind::RowTooLong => self.length(alloc, entries),
-            _ => expectation(alloc, entries, kind.name()),
+        match (kind, self.max_record) {
+            (RowKind::RowFields, _) if !self.is_plain() => self.fields(alloc, entry.cause),
+            (RowKind::RowTooLong, Some(most)) => length(alloc, most, entry.cause),
+            _ => {
+                let Expectation { expected, cause } = self.by_options(kind, entry);
+                sections(alloc, expected, cause)
+            }
         }
     }
 
@@ -53,64 +86,39 @@ impl Expected {
         )
     }
 
-    /// Returns what is expected where a field has no instant.
-    fn instant(&self, alloc: Global, entries: &[Entry]) -> Result<String, AllocError> {
-        let entry = expectation(alloc, entries, "RowInstant")?;
-        let (units, digits) = match (self.form.from, self.form.unit) {
-            (TimeFrom::Count, Unit::Second) => return Ok(entry),
-            (TimeFrom::Count, Unit::Millisecond) => ("Milliseconds", "21"),
-            (TimeFrom::Count, Unit::Microsecond) => ("Microseconds", "24"),
-            (TimeFrom::Count, Unit::Nanosecond) => ("Nanoseconds", "27"),
-            (TimeFrom::Rfc3339 | TimeFrom::Local(_), _) => {
-                return String::from_str(alloc, OFFSET_TIMES);
-            }
-        };
-        let start = [
-            "\nExpected:\n  ",
-            units,
-            " since 1970-01-01T00:00:00 UT: 1 to ",
-            digits,
-        ];
-        let mut text = start.concat(alloc)?;
-        text.push_str(" digits, with `-` before\n  them for earlier instants, ")?;
-        text.push_str("without `+`, spaces or a fraction.\n")?;
-        text.push_str(after(entry.as_str(), "\nUsual cause:"))?;
-        Ok(text)
+    /// Returns what is expected where a row has a fault of this kind: what its entry says, or what holds for
+    /// the form of instants.
+    fn by_options(&self, kind: RowKind, entry: &Entry) -> Expectation {
+        match (kind, self.form.from, self.form.unit) {
+            (RowKind::RowInstant, TimeFrom::Rfc3339 | TimeFrom::Local(_), _) =>
+                ROW_INSTANT_FROM_RFC3339,
+            (RowKind::RowInstant, _, Unit::Millisecond) => ROW_INSTANT_UNIT_MS,
+            (RowKind::RowInstant, _, Unit::Microsecond) => ROW_INSTANT_UNIT_US,
+            (RowKind::RowInstant, _, Unit::Nanosecond) => ROW_INSTANT_UNIT_NS,
+            (RowKind::RowRange, TimeFrom::Rfc3339 | TimeFrom::Local(_), _) =>
+                ROW_RANGE_FROM_RFC3339,
+            (RowKind::RowRange, _, Unit::Millisecond) => ROW_RANGE_UNIT_MS,
+            (RowKind::RowRange, _, Unit::Microsecond) => ROW_RANGE_UNIT_US,
+            (RowKind::RowRange, _, Unit::Nanosecond) => ROW_RANGE_UNIT_NS,
+            _ => Expectation {
+                expected: entry.expected,
+                cause: entry.cause,
+            },
+        }
     }
 
-    /// Returns what is expected where an instant is out of range.
-    fn range(&self, alloc: Global, entries: &[Entry]) -> Result<String, AllocError> {
-        let text = match (self.form.from, self.form.unit) {
-            (TimeFrom::Count, Unit::Second) => return expectation(alloc, entries, "RowRange"),
-            (TimeFrom::Count, Unit::Millisecond) => MILLISECONDS,
-            (TimeFrom::Count, Unit::Microsecond) => MICROSECONDS,
-            (TimeFrom::Count, Unit::Nanosecond) => NANOSECONDS,
-            (TimeFrom::Rfc3339 | TimeFrom::Local(_), _) => DATES,
-        };
-        String::from_str(alloc, text)
+    /// Returns the sections about a record with too few or too many fields.
+    fn fields(&self, alloc: Global, cause: &str) -> Result<String, AllocError> {
+        let expected = self.all_fields(alloc)?;
+        sections(alloc, expected.as_str(), cause)
     }
 
-    /// Returns what is expected where a record has too many bytes.
-    fn length(&self, alloc: Global, entries: &[Entry]) -> Result<String, AllocError> {
-        let entry = expectation(alloc, entries, "RowTooLong")?;
-        let Some(most) = self.max_record else {
-            return Ok(entry);
-        };
-        let s = if most == 1 { "" } else { "s" };
-        let mut text = format!(in alloc; "\nExpected:\n  At most {most} byte{s}.\n")?;
-        text.push_str(after(entry.as_str(), "\nUsual cause:"))?;
-        Ok(text)
-    }
-
-    /// Returns what is expected where a record has too few or too many fields.
-    fn fields(&self, alloc: Global, entries: &[Entry]) -> Result<String, AllocError> {
+    /// Returns lines that say how many fields a record has, what stands between them, and which is which.
+    fn all_fields(&self, alloc: Global) -> Result<String, AllocError> {
         let count = self.counted_fields(alloc)?;
         let between = self.between_fields(alloc)?;
         let named = self.named_fields(alloc)?;
-        let entry = expectation(alloc, entries, "RowFields")?;
-        let cause = after(entry.as_str(), "\nUsual cause:");
-        let (count, between, named) = (count.as_str(), between.as_str(), named.as_str());
-        ["\nExpected:\n  ", count, between, named, cause].concat(alloc)
+        ["  ", count.as_str(), between.as_str(), named.as_str()].concat(alloc)
     }
 
     /// Returns how many fields a record has.
@@ -131,8 +139,10 @@ impl Expected {
         if self.form.delimiter == b'\t' {
             return String::from_str(alloc, " with a tab between two of them");
         }
-        let delimiter = char::from(self.form.delimiter);
-        format!(in alloc; " with `{delimiter}` between two of them")
+        let mut text = String::from_str(alloc, " with `")?;
+        push_bytes(&mut text, &[self.form.delimiter])?;
+        text.push_str("` between two of them")?;
+        Ok(text)
     }
 
     /// Returns the end of a line, and a line that says which field is which.
@@ -149,56 +159,9 @@ impl Expected {
     }
 }
 
-/// Returns a text from where this part of it begins.
-fn after<'a>(text: &'a str, part: &str) -> &'a str {
-    match text.find(part) {
-        Some(start) => text.get(start..).unwrap_or(""),
-        None => "",
-    }
+/// Returns the sections about a record with more bytes than this.
+fn length(alloc: Global, most: u64, cause: &str) -> Result<String, AllocError> {
+    let s = if most == 1 { "" } else { "s" };
+    let expected = format!(in alloc; "  At most {most} byte{s}.\n")?;
+    sections(alloc, expected.as_str(), cause)
 }
-
-/// What is expected of an instant in the form of RFC 3339.
-const OFFSET_TIMES: &str = r#"
-Expected:
-  A date and a time with its seconds and a UT offset or `Z`, as
-  `1970-01-01T00:00:00Z` or `1970-01-01 01:00:00+01:00`, in the years 1 to 9999.
-  With `--unit` a fraction of at most 3, 6 or 9 digits.
-
-Usual cause:
-  A time without its seconds, one without a UT offset, which `--from local`
-  takes, a date without a time, a count of seconds, or the two fields swapped. A
-  leap second, `23:59:60`, is none.
-"#;
-
-/// What is expected where an instant in milliseconds is out of range.
-const MILLISECONDS: &str = r#"
-Expected:
-  -62135510400000 to 253402214399999 milliseconds, which is 0001-01-02T00:00:00
-  to 9999-12-30T23:59:59 UT.
-
-Usual cause:
-  Microseconds or nanoseconds, which `--unit us` and `--unit ns` take.
-"#;
-
-/// The same in microseconds.
-const MICROSECONDS: &str = r#"
-Expected:
-  -62135510400000000 to 253402214399999999 microseconds, which is
-  0001-01-02T00:00:00 to 9999-12-30T23:59:59 UT.
-
-Usual cause:
-  Nanoseconds, which `--unit ns` takes.
-"#;
-
-/// The same in nanoseconds.
-const NANOSECONDS: &str = r#"
-Expected:
-  -62135510400000000000 to 253402214399999999999 nanoseconds, which is
-  0001-01-02T00:00:00 to 9999-12-30T23:59:59 UT.
-"#;
-
-/// The same of dates and times.
-const DATES: &str = r#"
-Expected:
-  An instant from 0001-01-02T00:00:00 to 9999-12-30T23:59:59 UT.
-"#;

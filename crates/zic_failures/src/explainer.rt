@@ -1,9 +1,9 @@
 //! Explains a failure, by the request and by what was read.
 
 use crate::column::{column_start, find_record};
-use crate::expected::Expected;
+use crate::expected::{Expected, expectation};
 use crate::nearest::{nearest_rules, nearest_zone};
-use crate::place::{line_place, quote_place, row_place};
+use crate::place::{line_about, line_place, quote_place, row_place};
 use crate::reason::{Paths, unwritten};
 use crate::record::RecordForm;
 use crate::refused::refused_file;
@@ -14,8 +14,9 @@ use std::fs::Files;
 use std::io::ErrorKind;
 use std::slice;
 use zic_base::{Kind, RowKind};
-use zic_command_line::{Building, Request, Zones};
-use zic_explain::{entries, expectation, shown_word};
+use zic_command_line::{Building, Exporting, Request, Zones};
+use zic_explain::cases::{A_COLUMN_GZIP, DUPLICATE_NAME_FIRST};
+use zic_explain::{entries, entry_named, error_in, shown_word};
 use zic_io::Failure;
 use zic_plan::{Header, Layout, Records, ZoneFrom};
 
@@ -142,11 +143,11 @@ impl Explainer {
     /// Returns the sections that say what is expected.
     fn sections(&self, alloc: Global, failure: &Failure) -> Result<String, AllocError> {
         let entries = entries(alloc)?;
-        match failure {
-            Failure::Row { kind, .. }
-            | Failure::Rows { kind, .. }
-            | Failure::Rejected { kind, .. } => { self.expected.sections(alloc, &entries, *kind) }
-            _ => expectation(alloc, &entries, name_of(failure)),
+        let message = message_of(alloc, failure)?;
+        let name = error_in(&entries, message.as_str());
+        match (row_of(failure), entry_named(&entries, name)) {
+            (Some((_, kind)), Some(entry)) => self.expected.sections(alloc, kind, &entry),
+            _ => expectation(alloc, &entries, name),
         }
     }
 
@@ -160,14 +161,15 @@ impl Explainer {
         let Some(folder) = &self.folder else {
             return Ok(String::new(rt.alloc()));
         };
-        match (failure, record) {
-            (Failure::UnknownZone(name), _) => refused_file(rt, folder.as_str(), name.as_bytes()),
-            (
-                Failure::Row { kind, .. }
-                | Failure::Rows { kind, .. }
-                | Failure::Rejected { kind, .. },
-                Some(record),
-            ) if *kind == RowKind::RowZone => { refused_file(rt, folder.as_str(), &record.zone) }
+        match (failure, row_of(failure), record) {
+            (Failure::UnknownZone(name), _, _) => refused_file(
+                rt,
+                folder.as_str(),
+                name.as_bytes(),
+            ),
+            (_, Some((_, RowKind::RowZone)), Some(record)) => {
+                refused_file(rt, folder.as_str(), &record.zone)
+            }
             _ => Ok(String::new(rt.alloc())),
         }
     }
@@ -242,7 +244,8 @@ impl Explainer {
     /// Returns a line that says where a name is given first.
     fn given_first(&self, alloc: Global, text: usize, line: u64) -> Result<String, AllocError> {
         let path = self.word(text);
-        format!(in alloc; "The name is given in {path}:{line} first.\n")
+        let place = format!(in alloc; "{path}:{line}")?;
+        line_about(alloc, &DUPLICATE_NAME_FIRST, place.as_str())
     }
 
     /// Returns the lines that say where the fault of a row is, and which zone's name is nearest.
@@ -258,7 +261,8 @@ impl Explainer {
         };
         let mut place = row_place(alloc, kind, row, self.expected.form, Some(&record.text[..]))?;
         if record.text.starts_with(GZIP) {
-            place.push_str("The column is compressed: gzip -d makes its text.\n")?;
+            place.push_str(A_COLUMN_GZIP)?;
+            place.push('\n')?;
         }
         if let Some(lines) = record.lines {
             place.push_str(quote_place(alloc, lines)?.as_str())?;
@@ -273,11 +277,7 @@ impl Explainer {
     /// Returns what is shown of the record of the row that a failure is about, where it can be read
     /// again.
     fn record<R: Files + AllocGlobal>(&self, rt: &R, failure: &Failure) -> Option<Found> {
-        let row = match failure {
-            Failure::Row { row, .. } | Failure::Rows { row, .. } | Failure::Rejected { row, .. } =>
-                *row,
-            _ => return None,
-        };
+        let (row, _) = row_of(failure)?;
         let sought = Sought {
             number: self.before.saturating_add(row),
             records: self.records,
@@ -395,35 +395,39 @@ fn old_of(request: &Request) -> Option<&String> {
 /// Returns the words of a request that name sources or a file, but for that of [`old_of`].
 fn named_in(request: &Request) -> &[String] {
     match request {
-        Request::Check { source, .. } => slice::from_ref(source),
         Request::Convert(order) => match &order.zones {
             Zones::Source(source) => slice::from_ref(source),
             Zones::Tree(_) => &[],
         },
-        Request::Build(Building { sources, .. })
+        Request::Check { sources, .. }
+        | Request::Build(Building { sources, .. })
         | Request::Verify { sources, .. }
         | Request::Diff { sources, .. } => sources,
-        Request::Show { file, .. } | Request::ShowLocal { file, .. } | Request::Dump { file, .. } =>
-            slice::from_ref(file),
+        Request::Show { file, .. }
+        | Request::ShowLocal { file, .. }
+        | Request::ShowNext { file, .. }
+        | Request::Dump { file, .. }
+        | Request::Export(Exporting { file, .. }) => slice::from_ref(file),
         Request::Explain { .. } | Request::Version { .. } | Request::Help { .. } => &[],
     }
 }
 
-/// Returns the name under which a failure is explained.
-fn name_of(failure: &Failure) -> &'static str {
+/// Returns the message by which the error of a failure is found. A path in it is `PATH`, since a file may
+/// have the name `column`.
+fn message_of(alloc: Global, failure: &Failure) -> Result<String, AllocError> {
     match failure {
-        Failure::Line { kind, .. } | Failure::TextLine { kind, .. } => kind.name(),
-        Failure::Row { kind, .. } | Failure::Rows { kind, .. } => kind.name(),
-        Failure::Rejected { kind, .. } => kind.name(),
-        Failure::ColumnTooLong => "ColumnTooLong",
-        Failure::File(reason) => reason.name(),
-        Failure::CannotRead(_) => "cannot read PATH",
-        Failure::CannotReadColumn => "cannot read column",
-        Failure::CannotWrite(_) | Failure::CannotWriteList => "cannot write PATH",
-        Failure::CannotWriteRows => "cannot write rows",
-        Failure::CannotWriteOutput => "cannot write output",
-        Failure::UnknownZone(_) => "unknown zone NAME",
-        Failure::Memory => "out of memory",
-        Failure::NoThread => "no thread",
+        Failure::CannotRead(_) => String::from_str(alloc, "cannot read PATH"),
+        Failure::CannotWrite(_) => String::from_str(alloc, "cannot write PATH"),
+        _ => format!(in alloc; "{failure}"),
+    }
+}
+
+/// Returns the number of the row that a failure is about, and its fault, if it is about one.
+fn row_of(failure: &Failure) -> Option<(u64, RowKind)> {
+    match failure {
+        Failure::Row { row, kind }
+        | Failure::Rows { row, kind, .. }
+        | Failure::Rejected { row, kind, .. } => Some((*row, *kind)),
+        _ => None,
     }
 }

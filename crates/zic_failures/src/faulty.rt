@@ -1,7 +1,10 @@
 //! Which part of a line a fault is about.
 
-use crate::form::{Form, form_of};
-use crate::line::has_fields;
+ghost use Rattle.std.specs.Prelude.{◌≡◌, IfSome, Some};
+ghost use Rattle.zic_lines.specs.Checks.{faulty_field};
+ghost use Rattle.zic_failures.specs.Underlined.{IsUnderlined};
+
+use crate::line::{Form, form_of, has_fields};
 use std::alloc::{AllocError, Global};
 use zic_base::Kind;
 use zic_explain::Span;
@@ -38,15 +41,44 @@ pub(crate) fn faulty_line(
         return wrong_line(alloc, kind, line, awaited);
     }
     let form = form_of(awaited, first_keyword(&fields));
-    let number = match field_of_kind(kind, form) {
-        None => faulty_field(alloc, awaited, &fields),
-        number => number,
+    Ok(FaultyLine {
+        form,
+        part: underlined(alloc, kind, awaited, &fields, line),
+        fields: fields.len(),
+    })
+}
+
+/// Returns the part that a fault of this kind is about of a line with these fields: the field that the first
+/// of its checks to fail is about; where none fails, the field that the kind is about, or the wrong bytes.
+fn underlined(alloc: Global, kind: Kind, awaited: bool, fields: &Fields, line: &[u8]) -> Part
+    ensures { IsUnderlined (faulty_field awaited fields.now.texts) fields.now.ranges result.span }
+{
+    let number = faulty_number(alloc, kind, awaited, fields);
+    part_of(fields, number, wrong_bytes(kind, line))
+}
+
+/// Returns the number of the field that a fault of this kind is about, if it is about one.
+fn faulty_number(alloc: Global, kind: Kind, awaited: bool, fields: &Fields) -> Option<usize>
+    ensures { IfSome (faulty_field awaited fields.now.texts) (λ number. result ≡ Some number) }
+{
+    match faulty_field(alloc, awaited, fields) {
+        Some(number) => Some(number),
+        None => field_of_kind(kind, form_of(awaited, first_keyword(fields))),
+    }
+}
+
+/// Returns the field of this number as a part of its line, or else the part that stands there.
+fn part_of(fields: &Fields, number: Option<usize>, otherwise: Span) -> Part
+    ensures { IsUnderlined number fields.now.ranges result.span }
+{
+    let all = Part {
+        span: otherwise,
+        field: None,
     };
-    let range = match number {
-        Some(number) => fields.range(number),
-        None => None,
+    let Some(index) = number else {
+        return all;
     };
-    let part = match range {
+    match fields.range(index) {
         Some(range) => Part {
             span: Span {
                 start: range.start,
@@ -54,16 +86,8 @@ pub(crate) fn faulty_line(
             },
             field: number,
         },
-        None => Part {
-            span: wrong_bytes(kind, line),
-            field: None,
-        },
-    };
-    Ok(FaultyLine {
-        form,
-        part,
-        fields: fields.len(),
-    })
+        None => all,
+    }
 }
 
 /// Returns the same of a line that can't be cut into fields. The field is the one where the wrong bytes

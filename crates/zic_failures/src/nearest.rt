@@ -1,22 +1,20 @@
 //! The zone or the rule set whose name is nearest to one that no zone or set has.
 
-ghost use Rattle.std.specs.Prelude.{◌<◌, length, map, string_bytes, IfOk, OnOk};
+ghost use Rattle.std.specs.Prelude.{string_bytes, IfOk, OnOk};
 ghost use Rattle.zic_explain.specs.Shown.{IsShownText, StaysShown};
-ghost use Rattle.zic_failures.specs.code.Nearest.{IsNearestAt};
 
 use crate::line::{entry_of, goes_on, is_line_feed};
 use crate::related::{TextLine, entry_at};
 use std::alloc::{AllocError, Global};
-use strsim::levenshtein;
-use zic_explain::{push_bytes, push_line_end};
+use zic_explain::{near_name, push_bytes, push_line_end};
 use zic_lines::{Entry, Rules};
 
 /// The greatest length of a zone's name. No more is compared of a longer name.
 const LONGEST: usize = 255;
 
-/// Returns a title and the name that takes the fewest edits from this one, among the names of the
-/// zones and links of a source without faults; or an empty text if none is near. A terminal shows every
-/// byte of it. The contract says only this; which name is the nearest is tested.
+/// Returns a title and the name that is nearest to this one, among the names of the zones and links of a
+/// source without faults; or an empty text if none is near. A terminal shows every byte of it. The contract
+/// says only this; which names a source gives is tested.
 ///
 /// # Errors
 ///
@@ -27,7 +25,7 @@ pub fn nearest_zone(alloc: Global, source: &[u8], name: &[u8]) -> Result<String,
     let mut names = Vec::new(alloc);
     push_names(alloc, &mut names, source, Named::Zones)?;
     let name = spelled(alloc, name)?;
-    nearest_of(alloc, &names, &name)
+    nearest_of(alloc, &names, name.as_str())
 }
 
 /// Returns the same among the names of the rule sets of some texts, for the set that a line of one of
@@ -48,7 +46,7 @@ pub fn nearest_rules(
         push_names(alloc, &mut names, text, Named::Rules)?;
     }
     let name = rules_in(alloc, texts, zone_line)?;
-    nearest_of(alloc, &names, &name)
+    nearest_of(alloc, &names, name.as_str())
 }
 
 /// Returns the name of the rule set that a line names, or an empty text.
@@ -66,22 +64,25 @@ fn rules_in(alloc: Global, texts: &[Vec<u8>], at: TextLine) -> Result<String, Al
     }
 }
 
-/// Returns a title and the name of these that takes the fewest edits from this one, if that are fewer
-/// than a third of it.
-fn nearest_of(alloc: Global, names: &[String], name: &String) -> Result<String, AllocError>
+/// Returns a title and the name of these that is nearest to this one, if that is near.
+fn nearest_of(alloc: Global, names: &[String], name: &str) -> Result<String, AllocError>
     ensures { IfOk result (λ text. IsShownText (string_bytes text)) }
 {
     let mut text = String::new(alloc);
-    if names.is_empty() {
-        return Ok(text);
-    }
-    let index = nearest_index(alloc, names, name.as_str())?;
-    let nearest = names[index].as_str();
-    let edits = levenshtein(alloc, name.as_str(), nearest)?;
-    if edits.saturating_mul(3) < nearest.len() {
+    let names = texts_of(alloc, names)?;
+    if let Some(nearest) = near_name(alloc, &names, name)? {
         push_nearest(&mut text, nearest)?;
     }
     Ok(text)
+}
+
+/// Returns the texts of names.
+fn texts_of(alloc: Global, names: &[String]) -> Result<Vec<&str>, AllocError> {
+    let mut texts = Vec::with_capacity(alloc, names.len())?;
+    for name in names {
+        texts.push(name.as_str())?;
+    }
+    Ok(texts)
 }
 
 /// Adds an empty line, a title and a name.
@@ -94,23 +95,6 @@ fn push_nearest(text: &mut String, name: &str) -> Result<(), AllocError>
     push_bytes(text, b"  ")?;
     push_bytes(text, name.as_bytes())?;
     push_line_end(text)
-}
-
-/// Returns the index of a name that takes the fewest edits from this name.
-fn nearest_index(alloc: Global, names: &[String], name: &str) -> Result<usize, AllocError>
-    requires { 0 < length names.now }
-    ensures { IfOk result (IsNearestAt (map string_bytes names.now) name.now) }
-{
-    let mut nearest = 0;
-    let mut least = levenshtein(alloc, name, names[0].as_str())?;
-    for index in 1..names.len() {
-        let edits = levenshtein(alloc, name, names[index].as_str())?;
-        if edits < least {
-            least = edits;
-            nearest = index;
-        }
-    }
-    Ok(nearest)
 }
 
 /// Whose names are looked for.

@@ -9,7 +9,7 @@ use crate::line::{awaits, line_at};
 use crate::record::{RecordForm, faulty_field};
 use std::alloc::{AllocError, Global};
 use zic_base::{Kind, RowKind};
-use zic_explain::{push_bytes, push_line_end, push_shown};
+use zic_explain::{Sentence, push_bytes, push_line_end, push_shown};
 
 /// Returns lines that say where a fault of a source is: `--> PATH:LINE, field F (IN)`, the line
 /// of the text as it stands, and a line that underlines the field. Where the fault is about no one
@@ -130,6 +130,19 @@ fn row_rest(
         push_shown(&mut rest, bytes, part.span)?;
     }
     Ok(rest)
+}
+
+/// Returns a line about a word or a path, which is already as it is shown.
+pub(crate) fn line_about(
+    alloc: Global,
+    sentence: &Sentence,
+    word: &str,
+) -> Result<String, AllocError> {
+    let mut line = String::from_str(alloc, sentence.before)?;
+    line.push_str(word)?;
+    line.push_str(sentence.after)?;
+    line.push('\n')?;
+    Ok(line)
 }
 
 /// Returns what the field at this index is called, or an empty text.

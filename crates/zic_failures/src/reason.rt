@@ -1,10 +1,12 @@
 //! Why the system refuses a file, and what helps where the words name another than was meant.
 
+use crate::place::line_about;
 use std::alloc::{AllocError, Global};
 use std::fs::{self, Files};
 use std::io::ErrorKind;
 use zic_base::STANDARD_INPUT;
 use zic_command_line::{Request, Zones};
+use zic_explain::cases::{CANNOT_READ_PATH_FOLDER, CANNOT_READ_PATH_ORDER};
 use zic_explain::shown_word;
 use zic_io::MAX_SOURCE;
 
@@ -50,7 +52,9 @@ impl Paths {
         let reason = why_unread(rt, path);
         let mut lines = line(rt.alloc(), path, reason)?;
         let advice = match self {
-            Paths::SourcesOr(option) if reason == DIRECTORY => tree_option(rt.alloc(), option)?,
+            Paths::SourcesOr(option) if reason == DIRECTORY => {
+                line_about(rt.alloc(), &CANNOT_READ_PATH_FOLDER, option)?
+            }
             Paths::SourcesAfterFolder if is_file(rt, folder) => order(rt.alloc(), folder)?,
             _ => return Ok(lines),
         };
@@ -59,20 +63,10 @@ impl Paths {
     }
 }
 
-/// Returns a line that names the option by which a folder has the files of zones.
-fn tree_option(alloc: Global, option: &str) -> Result<String, AllocError> {
-    ["`", option, "` takes folders of TZif files.\n"].concat(alloc)
-}
-
 /// Returns a line that names the order of words, where a file stands for the folder.
 fn order(alloc: Global, file: &str) -> Result<String, AllocError> {
     let file = shown_word(alloc, file)?;
-    [
-        "DIR comes before SOURCE, and ",
-        file.as_str(),
-        " is a file.\n",
-    ]
-    .concat(alloc)
+    line_about(alloc, &CANNOT_READ_PATH_ORDER, file.as_str())
 }
 
 /// Returns why a path can't be read, as far as the system says so again.

@@ -1,8 +1,9 @@
 //! Why the file of a zone in a folder is refused.
 
+use crate::expected::expectation;
 use std::alloc::{AllocError, Global};
 use std::fs::{self, Files};
-use zic_explain::{entries, expectation, shown_word};
+use zic_explain::{entries, shown_word};
 use zic_files::{Image, Unfit, ZoneTree};
 use zic_io::ZoneFolder;
 use zic_words::Name;

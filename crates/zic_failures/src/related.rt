@@ -5,9 +5,10 @@ ghost use Rattle.zic_explain.specs.Shown.{IsShownText, StaysShown};
 
 use crate::line::{awaits, entry_of, goes_on, is_line_feed, line_at};
 use std::alloc::{AllocError, Global};
-use zic_base::{LONGEST_ABBREVIATION, SHORTEST_ABBREVIATION, are_abbreviation_bytes};
+use zic_explain::cases::BAD_ABBREVIATION_TEXT;
 use zic_explain::{push_bytes, push_line_end};
 use zic_lines::{Entry, Format, Rules, ZoneLine};
+use zic_states::is_abbreviation;
 use zic_words::SetName;
 
 /// A line of some texts, by the index of its text and by its number there, from 1.
@@ -108,9 +109,9 @@ pub fn bad_abbreviation(
 fn push_abbreviation(text: &mut String, abbreviation: &[u8]) -> Result<(), AllocError>
     ensures { OnOk result (StaysShown (string_bytes text.old) (string_bytes text.new)) }
 {
-    push_bytes(text, b"The abbreviation is \"")?;
+    push_bytes(text, BAD_ABBREVIATION_TEXT.before.as_bytes())?;
     push_bytes(text, abbreviation)?;
-    push_bytes(text, b"\".")?;
+    push_bytes(text, BAD_ABBREVIATION_TEXT.after.as_bytes())?;
     push_line_end(text)
 }
 
@@ -229,8 +230,7 @@ fn bad_text(
     let mut text = Vec::from_slice(alloc, before)?;
     text.extend_from_slice(middle)?;
     text.extend_from_slice(after)?;
-    let fits = SHORTEST_ABBREVIATION <= text.len() && text.len() <= LONGEST_ABBREVIATION;
-    if fits && are_abbreviation_bytes(&text) {
+    if is_abbreviation(&text) {
         Ok(None)
     } else {
         Ok(Some(text))

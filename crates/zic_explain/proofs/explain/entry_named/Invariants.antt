@@ -1,6 +1,6 @@
 use Rattle.std.proofs.Common.{take}
 use Rattle.zic_explain.specs.Explanation.{HasNoName}
-use Rattle.zic_explain.proofs.explain.find.Given as goal
+use Rattle.zic_explain.proofs.explain.entry_named.Given as goal
 
 -- no entry so far has the name
 abbrev pub invariant-loop-entry : goal.invariant-loop-entry

@@ -1,6 +1,6 @@
 use Rattle.std.proofs.Common.{sym}
 use Rattle.zic_explain.proofs.Names.{without_one_more, without_all}
-use Rattle.zic_explain.proofs.explain.find.Goals as goal
+use Rattle.zic_explain.proofs.explain.entry_named.Goals as goal
 
 pub loop-entry-preserved : goal.loop-entry-preserved
 loop-entry-preserved c =
