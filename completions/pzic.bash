@@ -22,7 +22,7 @@ _pzic() {
     local current=${COMP_WORDS[COMP_CWORD]} previous=${COMP_WORDS[COMP_CWORD - 1]} options='' takes=''
     COMPREPLY=()
     # made by tools/options: bash-commands
-    local commands='check build verify diff convert show dump explain help'
+    local commands='check build verify diff convert show dump export explain help'
     # made by hand again
     if [ "$COMP_CWORD" -eq 1 ]; then
         if [[ $current = -* ]]; then takes='--help --version'; else takes=$commands; fi
@@ -37,8 +37,9 @@ _pzic() {
     verify) options='--strict --release --tables --workers --zone-piece --explain --help' ;;
     diff) options='--trees --from --to --ignore --summary --now --show-release --workers --zone-piece --explain --help' ;;
     convert) options='--tree --against --against-tree --workers --zone-piece --row-piece --max-rows --max-bytes --max-record --header --skip-header --zone --zone-field --time-field --delimiter --unit --from --ambiguous --style --records --quotes --append --keep-going --faults --faults-with --rejects --max-faults --progress --show-release --explain --help' ;;
-    show) options='--local --explain --help' ;;
+    show) options='--local --next --weekdays --disambiguation --explain --help' ;;
     dump) options='--from --to --explain --help' ;;
+    export) options='--ics --name --since --until --explain --help' ;;
     explain) options='--help' ;;
     help) options='--help' ;;
     # made by hand again
@@ -49,7 +50,7 @@ _pzic() {
     *:--links) takes='copy hard symlink' ;;
     *:--release) takes='from-source' ;;
     *:--tables | *:--tree | *:--against-tree) takes='folders' ;;
-    diff:--from | dump:--from | *:--to | *:--now | *:--zone-piece | *:--row-piece | *:--max-rows | *:--max-bytes | *:--max-record | *:--zone-field | *:--time-field | *:--max-faults) takes='none' ;;
+    diff:--from | dump:--from | *:--to | *:--now | *:--zone-piece | *:--row-piece | *:--max-rows | *:--max-bytes | *:--max-record | *:--zone-field | *:--time-field | *:--max-faults | *:--next | *:--name | *:--since | *:--until) takes='none' ;;
     *:--ignore) takes='daylight abbreviation daylight,abbreviation' ;;
     *:--against | *:--faults | *:--rejects) takes='files' ;;
     *:--workers) takes='1 2 4 8 16 32 64' ;;
@@ -62,6 +63,8 @@ _pzic() {
     *:--records) takes='csv lines' ;;
     *:--quotes) takes='strict lenient' ;;
     *:--faults-with) takes='line value line,value' ;;
+    *:--weekdays) takes='all mon tue wed thu fri sat sun mon-fri sat-sun' ;;
+    *:--disambiguation) takes='compatible earlier later skip' ;;
     # made by hand again
     *)
         case ${COMP_WORDS[1]}:$current in

@@ -32,27 +32,109 @@ fn refused_word(line: &str) -> Option<&str> {
     None
 }
 
+/// A word that a command refuses, and the sentence that helps there.
+struct Tip {
+    command: &'static str,
+    word: &'static str,
+    text: &'static str,
+}
+
+impl Tip {
+    /// Returns whether it helps where the command of this name refuses a word.
+    fn is_for(&self, command: &str, word: &str) -> bool {
+        let has_command = self.command == command;
+        let has_word = self.word == word;
+        has_command && has_word
+    }
+}
+
+/// The sentence about the word for a folder.
+const FOLDER_FIRST: &str = "DIR is the first word, without -d: 'pzic build DIR SOURCE'";
+
+/// The sentence about how large files are.
+const SLIM: &str = "there is no -b: files are as slim as those of zic -b slim";
+
+/// The sentence about leap seconds.
+const NO_LEAPS: &str = "there is no -L: files have no leap seconds";
+
+/// The sentence about the zone of all rows.
+const ZONE: &str = "--zone names the zone of all rows";
+
+static TIPS: [Tip; 11] = [
+    Tip {
+        command: "build",
+        word: "-d",
+        text: FOLDER_FIRST,
+    },
+    Tip {
+        command: "verify",
+        word: "-d",
+        text: FOLDER_FIRST,
+    },
+    Tip {
+        command: "build",
+        word: "-b",
+        text: SLIM,
+    },
+    Tip {
+        command: "verify",
+        word: "-b",
+        text: SLIM,
+    },
+    Tip {
+        command: "build",
+        word: "-L",
+        text: NO_LEAPS,
+    },
+    Tip {
+        command: "verify",
+        word: "-L",
+        text: NO_LEAPS,
+    },
+    Tip {
+        command: "convert",
+        word: "--timezone",
+        text: ZONE,
+    },
+    Tip {
+        command: "convert",
+        word: "--time-zone",
+        text: ZONE,
+    },
+    Tip {
+        command: "convert",
+        word: "--tz",
+        text: ZONE,
+    },
+    Tip {
+        command: "dump",
+        word: "-i",
+        text: "dump prints what zdump -i does, without -i",
+    },
+    Tip {
+        command: "dump",
+        word: "-c",
+        text: "in place of -c, --from YEAR and --to YEAR name the years",
+    },
+];
+
 /// Returns the sentence that helps where the command of this name, or the program, refuses a word.
 fn advice(command: &str, word: &str) -> Option<&'static str> {
-    let is_option = word.starts_with('-');
-    match (command, word) {
-        ("build" | "verify", "-d") => Some(
-            "DIR is the first word, without -d: 'pzic build DIR SOURCE'",
-        ),
-        ("build" | "verify", "-b") => Some(
-            "there is no -b: files are as slim as those of zic -b slim",
-        ),
-        ("build" | "verify", "-L") => Some("there is no -L: files have no leap seconds"),
-        ("convert", "--timezone" | "--time-zone" | "--tz") => Some(
-            "--zone names the zone of all rows",
-        ),
-        ("convert", _) if !is_option => {
+    for tip in &TIPS {
+        if tip.is_for(command, word) {
+            return Some(tip.text);
+        }
+    }
+    advice_on_place(command, word)
+}
+
+/// Returns the sentence that helps where a word is refused that stands at the wrong place.
+fn advice_on_place(command: &str, word: &str) -> Option<&'static str> {
+    match command {
+        "convert" if !word.starts_with('-') => {
             Some("the column is standard input: 'pzic convert SOURCE <COLUMN'")
         }
-        ("check", _) if !is_option => Some("check takes one SOURCE; build and verify take several"),
-        ("dump", "-i") => Some("dump prints what zdump -i does, without -i"),
-        ("dump", "-c") => Some("in place of -c, --from YEAR and --to YEAR name the years"),
-        ("", _) if word.contains('/') || word.ends_with(".zi") => {
+        "" if word.contains('/') || word.ends_with(".zi") => {
             Some("a command comes first, as in 'pzic check SOURCE'")
         }
         _ => None,

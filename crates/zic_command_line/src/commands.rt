@@ -1,106 +1,13 @@
 //! The commands with their words and options, as help lists them.
 
-use clap::builder::{ValueParser, ValueRange};
+use crate::form::{Form, Value};
 use clap::{Arg, Command};
 use std::alloc::{AllocError, Global};
-use std::slice;
 use zic_dump::{FIRST_YEAR, LAST_YEAR};
 use zic_plan::{MAX_BYTES, MAX_OF_PIECE, MAX_ROWS, MAX_WORKERS};
 
 /// The version of the program, and the kit that it is proved with.
 const VERSION: &str = "0.1.0\nproved with rattle-kit-13f logic dac8208d650f15bf";
-
-/// The words for what the names of Link lines are made as.
-const LINK_WORDS: [&str; 3] = ["copy", "hard", "symlink"];
-
-/// The words for what isn't compared.
-const IGNORE_WORDS: [&str; 4] = [
-    "daylight",
-    "abbreviation",
-    "daylight,abbreviation",
-    "abbreviation,daylight",
-];
-
-/// The words for what an instant counts.
-const UNIT_WORDS: [&str; 4] = ["s", "ms", "us", "ns"];
-
-/// The words for how the field of an instant has it, or of a local time.
-const TIME_WORDS: [&str; 3] = ["count", "rfc3339", "local"];
-
-/// The words for what is taken for local times in gaps and in folds.
-const CHOICE_WORDS: [&str; 4] = ["reject", "earlier", "later", "compatible"];
-
-/// The words for how a row has its local time and its UT offset.
-const STYLE_WORDS: [&str; 2] = ["fields", "iso"];
-
-/// The words for what the list of faults has of each besides its row and its name.
-const DETAIL_WORDS: [&str; 3] = ["line", "value", "line,value"];
-
-/// The words for what a record is.
-const RECORD_WORDS: [&str; 2] = ["csv", "lines"];
-
-/// The words for which double quotes a record may have.
-const QUOTE_WORDS: [&str; 2] = ["strict", "lenient"];
-
-/// What a command takes.
-enum Form {
-    /// A word that must be given.
-    Required,
-    /// Words, of which one must be given.
-    Several,
-    /// A word that may be left out.
-    Optional,
-    /// An option without a value.
-    Flag,
-    /// An option that is a number.
-    Number(Number),
-    /// An option that is one of `LINK_WORDS`, the first by default.
-    Links,
-    /// An option that is one of `IGNORE_WORDS`.
-    Ignore,
-    /// An option that is the name of a zone.
-    Zone,
-    /// An option that is the number of a field, from 1, or its name.
-    Field,
-    /// An option that is the path of a file.
-    Path,
-    /// An option that is the path of a folder.
-    Folder,
-    /// An option that is the path of an older source.
-    Old,
-    /// An option that is one of `DETAIL_WORDS`.
-    Details,
-    /// An option that is the name of a release.
-    Release,
-    /// An option that says what stands between fields, a comma by default.
-    Delimiter,
-    /// An option that is one of `UNIT_WORDS`, the first by default.
-    Unit,
-    /// An option that is one of `TIME_WORDS`, the first by default.
-    Time,
-    /// An option that is one of `CHOICE_WORDS`.
-    Choice,
-    /// An option that is one of `STYLE_WORDS`, the first by default.
-    Style,
-    /// An option that is one of `RECORD_WORDS`, the first by default.
-    Records,
-    /// An option that is one of `QUOTE_WORDS`.
-    Quotes,
-    /// An option that is a number of bytes, from 1.
-    Bytes,
-    /// An option that is a number of rows, from 0.
-    Rows,
-    /// An option that is an instant.
-    Instant,
-}
-
-/// A number in a range.
-struct Number {
-    label: &'static str,
-    default: &'static str,
-    least: u64,
-    most: u64,
-}
 
 /// A word or an option of a command.
 struct Word {
@@ -125,23 +32,23 @@ const FILE: Word = Word {
 const WORKERS: Word = Word {
     name: "workers",
     help: "Threads that work, 1 to 64",
-    form: Form::Number(Number {
-        label: "N",
-        default: "4",
+    form: Form::Number {
+        label: &["N"],
+        default: &["4"],
         least: 1,
         most: MAX_WORKERS,
-    }),
+    },
 };
 
 const ZONE_PIECE: Word = Word {
     name: "zone-piece",
     help: "Zones a thread takes, 1 to 65536",
-    form: Form::Number(Number {
-        label: "N",
-        default: "16",
+    form: Form::Number {
+        label: &["N"],
+        default: &["16"],
         least: 1,
         most: MAX_OF_PIECE,
-    }),
+    },
 };
 
 const EXPLAIN: Word = Word {
@@ -153,8 +60,8 @@ const EXPLAIN: Word = Word {
 static CHECK: [Word; 4] = [
     Word {
         name: "SOURCE",
-        help: "A file of Rule, Zone and Link lines, or - for standard input",
-        form: Form::Required,
+        help: "Files of Rule, Zone and Link lines; one may be -",
+        form: Form::Several,
     },
     WORKERS,
     ZONE_PIECE,
@@ -175,7 +82,7 @@ static BUILD: [Word; 9] = [
     Word {
         name: "links",
         help: "What a link is: copy, hard or symlink",
-        form: Form::Links,
+        form: Form::LINKS,
     },
     Word {
         name: "sync",
@@ -185,12 +92,12 @@ static BUILD: [Word; 9] = [
     Word {
         name: "release",
         help: "Writes NAME to +VERSION; from-source: that of a source",
-        form: Form::Release,
+        form: Form::NAME,
     },
     Word {
         name: "tables",
         help: "Copies tables of a release from here, as zone1970.tab",
-        form: Form::Folder,
+        form: Form::FOLDER,
     },
     WORKERS,
     ZONE_PIECE,
@@ -216,12 +123,12 @@ static VERIFY: [Word; 8] = [
     Word {
         name: "release",
         help: "Compares +VERSION with what build --release writes",
-        form: Form::Release,
+        form: Form::NAME,
     },
     Word {
         name: "tables",
         help: "Compares tables with what build --tables copies",
-        form: Form::Folder,
+        form: Form::FOLDER,
     },
     WORKERS,
     ZONE_PIECE,
@@ -247,27 +154,27 @@ static DIFF: [Word; 12] = [
     Word {
         name: "from",
         help: "From the start of which year, 2 to 9999",
-        form: Form::Number(Number {
-            label: "YEAR",
-            default: "1900",
+        form: Form::Number {
+            label: &["YEAR"],
+            default: &["1900"],
             least: FIRST_YEAR,
             most: LAST_YEAR,
-        }),
+        },
     },
     Word {
         name: "to",
         help: "To the start of which year, 2 to 9999",
-        form: Form::Number(Number {
-            label: "YEAR",
-            default: "2500",
+        form: Form::Number {
+            label: &["YEAR"],
+            default: &["2500"],
             least: FIRST_YEAR,
             most: LAST_YEAR,
-        }),
+        },
     },
     Word {
         name: "ignore",
         help: "What isn't compared: daylight, abbreviation, or both",
-        form: Form::Ignore,
+        form: Form::IGNORE,
     },
     Word {
         name: "summary",
@@ -289,7 +196,7 @@ static DIFF: [Word; 12] = [
     EXPLAIN,
 ];
 
-static CONVERT: [Word; 31] = [
+static CONVERT: [Word; 10] = [
     Word {
         name: "SOURCE",
         help: "A file of Rule, Zone and Link lines",
@@ -298,55 +205,58 @@ static CONVERT: [Word; 31] = [
     Word {
         name: "tree",
         help: "A folder of TZif files, in place of SOURCE",
-        form: Form::Folder,
+        form: Form::FOLDER,
     },
     Word {
         name: "against",
         help: "Writes only rows that OLD answers differently",
-        form: Form::Old,
+        form: Form::OLD,
     },
     Word {
         name: "against-tree",
         help: "The same by a folder of TZif files",
-        form: Form::Folder,
+        form: Form::FOLDER,
     },
     WORKERS,
     ZONE_PIECE,
     Word {
         name: "row-piece",
         help: "Rows a thread takes, 1 to 65536",
-        form: Form::Number(Number {
-            label: "N",
-            default: "1024",
+        form: Form::Number {
+            label: &["N"],
+            default: &["1024"],
             least: 1,
             most: MAX_OF_PIECE,
-        }),
+        },
     },
     Word {
         name: "max-rows",
         help: "Most rows, up to 100000000",
-        form: Form::Number(Number {
-            label: "N",
-            default: "100000000",
+        form: Form::Number {
+            label: &["N"],
+            default: &["100000000"],
             least: 0,
             most: MAX_ROWS,
-        }),
+        },
     },
     Word {
         name: "max-bytes",
         help: "Most bytes, up to 4294967296",
-        form: Form::Number(Number {
-            label: "N",
-            default: "4294967296",
+        form: Form::Number {
+            label: &["N"],
+            default: &["4294967296"],
             least: 0,
             most: MAX_BYTES,
-        }),
+        },
     },
     Word {
         name: "max-record",
         help: "The most bytes of a record, up to 4294967296",
-        form: Form::Bytes,
+        form: Form::BYTES,
     },
+];
+
+static CONVERT_ROWS: [Word; 21] = [
     Word {
         name: "header",
         help: "Takes the first record for a header, writes one",
@@ -360,52 +270,52 @@ static CONVERT: [Word; 31] = [
     Word {
         name: "zone",
         help: "The zone of all rows, in place of a field",
-        form: Form::Zone,
+        form: Form::NAME,
     },
     Word {
         name: "zone-field",
         help: "Field of the zone: number or name [default: 1]",
-        form: Form::Field,
+        form: Form::FIELD,
     },
     Word {
         name: "time-field",
         help: "Field of the time [default: 2, or 1 with --zone]",
-        form: Form::Field,
+        form: Form::FIELD,
     },
     Word {
         name: "delimiter",
         help: "Between fields: a character, or tab",
-        form: Form::Delimiter,
+        form: Form::DELIMITER,
     },
     Word {
         name: "unit",
         help: "What instants count: s, ms, us or ns",
-        form: Form::Unit,
+        form: Form::UNIT,
     },
     Word {
         name: "from",
         help: "Times: count, rfc3339 or local",
-        form: Form::Time,
+        form: Form::TIME,
     },
     Word {
         name: "ambiguous",
         help: "Local times: reject, earlier, later, compatible",
-        form: Form::Choice,
+        form: Form::AMBIGUOUS,
     },
     Word {
         name: "style",
         help: "Form of local time: fields or iso",
-        form: Form::Style,
+        form: Form::STYLE,
     },
     Word {
         name: "records",
         help: "What a record is: csv or lines",
-        form: Form::Records,
+        form: Form::RECORDS,
     },
     Word {
         name: "quotes",
         help: "How double quotes are read: strict or lenient",
-        form: Form::Quotes,
+        form: Form::QUOTES,
     },
     Word {
         name: "append",
@@ -420,22 +330,22 @@ static CONVERT: [Word; 31] = [
     Word {
         name: "faults",
         help: "Where --keep-going writes each fault as ROW,ERROR",
-        form: Form::Path,
+        form: Form::PATH,
     },
     Word {
         name: "faults-with",
         help: "Adds to each of these: line, value or line,value",
-        form: Form::Details,
+        form: Form::DETAILS,
     },
     Word {
         name: "rejects",
         help: "Where --keep-going puts the records of these rows",
-        form: Form::Path,
+        form: Form::PATH,
     },
     Word {
         name: "max-faults",
         help: "The most of these rows after which the run goes on",
-        form: Form::Rows,
+        form: Form::ROWS,
     },
     Word {
         name: "progress",
@@ -450,7 +360,7 @@ static CONVERT: [Word; 31] = [
     EXPLAIN,
 ];
 
-static SHOW: [Word; 4] = [
+static SHOW: [Word; 7] = [
     FILE,
     Word {
         name: "INSTANT",
@@ -462,6 +372,21 @@ static SHOW: [Word; 4] = [
         help: "Takes a local time, as 2007-03-11T01:59:59",
         form: Form::Flag,
     },
+    Word {
+        name: "next",
+        help: "Prints when clocks show TIME next, as 02:30",
+        form: Form::TIME_OF_DAY,
+    },
+    Word {
+        name: "weekdays",
+        help: "On these days, as mon-fri,sun",
+        form: Form::WEEKDAYS,
+    },
+    Word {
+        name: "disambiguation",
+        help: "Gaps, folds: compatible, earlier, later or skip",
+        form: Form::POLICY,
+    },
     EXPLAIN,
 ];
 
@@ -470,22 +395,52 @@ static DUMP: [Word; 4] = [
     Word {
         name: "from",
         help: "From the start of which year, 2 to 9999",
-        form: Form::Number(Number {
-            label: "YEAR",
-            default: "2",
+        form: Form::Number {
+            label: &["YEAR"],
+            default: &["2"],
             least: FIRST_YEAR,
             most: LAST_YEAR,
-        }),
+        },
     },
     Word {
         name: "to",
         help: "To the start of which year, 2 to 9999",
-        form: Form::Number(Number {
-            label: "YEAR",
-            default: "2500",
+        form: Form::Number {
+            label: &["YEAR"],
+            default: &["2500"],
             least: FIRST_YEAR,
             most: LAST_YEAR,
-        }),
+        },
+    },
+    EXPLAIN,
+];
+
+static EXPORT: [Word; 6] = [
+    FILE,
+    Word {
+        name: "ics",
+        help: "As a component VTIMEZONE of iCalendar; required",
+        form: Form::Flag,
+    },
+    Word {
+        name: "name",
+        help: "Its TZID [default: that of FILE]",
+        form: Form::NAME,
+    },
+    Word {
+        name: "since",
+        help: "From the start of which year, 2 to 9999",
+        form: Form::Number {
+            label: &["YEAR"],
+            default: &["1601"],
+            least: FIRST_YEAR,
+            most: LAST_YEAR,
+        },
+    },
+    Word {
+        name: "until",
+        help: "Up to the start of which year [default: for ever]",
+        form: Form::YEAR,
     },
     EXPLAIN,
 ];
@@ -502,10 +457,10 @@ static HELP: [Word; 1] = [Word {
     form: Form::Optional,
 }];
 
-static COMMANDS: [Described; 9] = [
+static COMMANDS: [Described; 10] = [
     Described {
         name: "check",
-        about: "Compiles a source and lists its files: NAME BYTES FOOTER",
+        about: "Compiles sources together and lists their files: NAME BYTES FOOTER",
         after: "Example:\n  echo 'Zone Etc/UTC 0 - UTC' | pzic check -",
     },
     Described {
@@ -531,12 +486,17 @@ static COMMANDS: [Described; 9] = [
     Described {
         name: "show",
         about: "Prints the offset, daylight flag and abbreviation at an instant",
-        after: "Example:\n  pzic show /usr/share/zoneinfo/Europe/Dublin -- -1\n  pzic show --local /usr/share/zoneinfo/Europe/Dublin 2026-10-25T01:30:00",
+        after: "Example:\n  pzic show /usr/share/zoneinfo/Europe/Dublin -- -1\n  pzic show --local /usr/share/zoneinfo/Europe/Dublin 2026-10-25T01:30:00\n  pzic show --next 02:30 --weekdays mon-fri Europe/Dublin 1800000000",
     },
     Described {
         name: "dump",
         about: "Lists the changes of local time of a file, as zdump -i does",
         after: "Example:\n  pzic dump --from 2000 --to 2030 /usr/share/zoneinfo/Europe/Dublin",
+    },
+    Described {
+        name: "export",
+        about: "Prints what a file says as a component of iCalendar (RFC 5545)",
+        after: "Example:\n  pzic export --ics Europe/Dublin >dublin.ics",
     },
     Described {
         name: "explain",
@@ -563,7 +523,7 @@ fn with_commands<'a>(
 ) -> Result<Command<'a>, AllocError> {
     let mut program = program;
     for described in all {
-        program = program.subcommand(command(alloc, described, words(described.name))?)?;
+        program = program.subcommand(command(alloc, described)?)?;
     }
     Ok(program)
 }
@@ -583,30 +543,72 @@ fn program<'a>(alloc: Global) -> Result<Command<'a>, AllocError> {
     )
 }
 
-/// Returns the words and options of the command of a name.
+/// Returns the words and options of the command of a name, or the first of them.
 fn words<'a>(command: &str) -> &'a [Word] {
     match command {
-        "check" => &CHECK,
-        "build" => &BUILD,
-        "verify" => &VERIFY,
-        "diff" => &DIFF,
-        "convert" => &CONVERT,
-        "show" => &SHOW,
-        "dump" => &DUMP,
+        "check" | "build" => building_words(command),
+        "verify" | "diff" => comparing_words(command),
+        "convert" => convert_words(),
+        "show" | "dump" | "export" => file_words(command),
         "help" => &HELP,
         _ => &NAMES,
     }
 }
 
+/// Returns the options of the command of a name that come after those: of `convert`, those about rows.
+fn further_words<'a>(command: &str) -> &'a [Word] {
+    match command {
+        "convert" => &CONVERT_ROWS,
+        _ => &[],
+    }
+}
+
+/// Returns the words and options of a command that compiles sources.
+fn building_words<'a>(command: &str) -> &'a [Word] {
+    match command {
+        "check" => &CHECK,
+        _ => &BUILD,
+    }
+}
+
+/// Returns the words and options of a command that compares what sources make.
+fn comparing_words<'a>(command: &str) -> &'a [Word] {
+    match command {
+        "verify" => &VERIFY,
+        _ => &DIFF,
+    }
+}
+
+/// Returns the words of `convert`, and its options about zones, work and limits.
+fn convert_words<'a>() -> &'a [Word] {
+    &CONVERT
+}
+
+/// Returns the words and options of a command that tells what a compiled file says.
+fn file_words<'a>(command: &str) -> &'a [Word] {
+    match command {
+        "show" => &SHOW,
+        "dump" => &DUMP,
+        _ => &EXPORT,
+    }
+}
+
 /// Returns a command with its words and options.
-fn command<'a>(
-    alloc: Global,
-    described: &'a Described,
-    words: &'a [Word],
-) -> Result<Command<'a>, AllocError> {
-    let mut command = Command::new(alloc, described.name)
+fn command<'a>(alloc: Global, described: &'a Described) -> Result<Command<'a>, AllocError> {
+    let command = Command::new(alloc, described.name)
         .about(described.about)
         .after_help(described.after);
+    let command = with_words(alloc, command, words(described.name))?;
+    with_words(alloc, command, further_words(described.name))
+}
+
+/// Returns a command with these words and options too.
+fn with_words<'a>(
+    alloc: Global,
+    command: Command<'a>,
+    words: &'a [Word],
+) -> Result<Command<'a>, AllocError> {
+    let mut command = command;
     for word in words {
         command = command.arg(argument(alloc, word))?;
     }
@@ -635,112 +637,4 @@ fn option<'a>(argument: Arg<'a>, name: &'a str, value: Value<'a>) -> Arg<'a> {
         .default_values(value.default)
         .hide_possible_values(true)
         .allow_negative_numbers(value.may_be_negative)
-}
-
-/// What an option takes.
-#[derive(Clone, Copy)]
-struct Value<'a> {
-    /// What help calls it; a flag takes none.
-    label: &'a [&'a str],
-    /// What stands for it where the option isn't given, if anything does.
-    default: &'a [&'a str],
-    /// What it has to be.
-    parser: ValueParser<'a>,
-    /// Whether it may be a number below zero, which begins as an option does.
-    may_be_negative: bool,
-}
-
-impl Form {
-    /// Returns whether it must be given.
-    fn is_required(&self) -> bool {
-        matches!(self, Form::Required | Form::Several)
-    }
-
-    /// Returns how many words it takes.
-    fn count(&self) -> ValueRange {
-        match self {
-            Form::Several => ValueRange::new(1..),
-            Form::Flag => ValueRange::EMPTY,
-            _ => ValueRange::SINGLE,
-        }
-    }
-
-    /// Returns what an option of this form takes.
-    fn value<'a>(&'a self) -> Value<'a> {
-        match self {
-            Form::Number(number) => numbered(number),
-            Form::Links => choice(&["KIND"], &LINK_WORDS, &["copy"]),
-            Form::Unit => choice(&["UNIT"], &UNIT_WORDS, &["s"]),
-            Form::Time => choice(&["FORM"], &TIME_WORDS, &["count"]),
-            Form::Choice => choice(&["C"], &CHOICE_WORDS, &[]),
-            Form::Style => choice(&["STYLE"], &STYLE_WORDS, &["fields"]),
-            Form::Records => choice(&["KIND"], &RECORD_WORDS, &["csv"]),
-            Form::Quotes => choice(&["KIND"], &QUOTE_WORDS, &[]),
-            Form::Ignore => choice(&["WHAT"], &IGNORE_WORDS, &[]),
-            Form::Details => choice(&["WHAT"], &DETAIL_WORDS, &[]),
-            Form::Bytes => whole(&["N"], 1, MAX_BYTES),
-            Form::Rows => whole(&["N"], 0, u64::MAX),
-            Form::Instant => instant(),
-            Form::Delimiter => text(&["C"], &[","]),
-            Form::Zone | Form::Release => text(&["NAME"], &[]),
-            Form::Path => text(&["FILE"], &[]),
-            Form::Folder => text(&["DIR"], &[]),
-            Form::Old => text(&["OLD"], &[]),
-            Form::Field => text(&["F"], &[]),
-            Form::Flag | Form::Required | Form::Several | Form::Optional => nothing(),
-        }
-    }
-}
-
-/// Returns the value that is one of these words.
-fn choice<'a>(label: &'a [&'a str], words: &'a [&'a str], default: &'a [&'a str]) -> Value<'a> {
-    Value {
-        parser: ValueParser::Names(words),
-        ..text(label, default)
-    }
-}
-
-/// Returns the value that is any text.
-fn text<'a>(label: &'a [&'a str], default: &'a [&'a str]) -> Value<'a> {
-    Value {
-        label,
-        default,
-        parser: ValueParser::String,
-        may_be_negative: false,
-    }
-}
-
-/// Returns the value that is a whole number in a range.
-fn whole<'a>(label: &'a [&'a str], least: u64, most: u64) -> Value<'a> {
-    Value {
-        parser: ValueParser::Unsigned(least, most),
-        ..text(label, &[])
-    }
-}
-
-/// Returns the value that is this number.
-fn numbered<'a>(number: &'a Number) -> Value<'a> {
-    Value {
-        parser: ValueParser::Unsigned(number.least, number.most),
-        ..text(
-            slice::from_ref(&number.label),
-            slice::from_ref(&number.default),
-        )
-    }
-}
-
-/// Returns the value that is an instant, which is read later on.
-fn instant<'a>() -> Value<'a> {
-    Value {
-        may_be_negative: true,
-        ..text(&["SECONDS"], &[])
-    }
-}
-
-/// Returns what a flag takes: whether it is given.
-fn nothing<'a>() -> Value<'a> {
-    Value {
-        parser: ValueParser::Bool,
-        ..text(&[], &[])
-    }
 }

@@ -1,7 +1,6 @@
 //! Fields by their numbers, or by their names in the header.
 
-use crate::command_line::bad_value;
-use crate::no_request::NoRequest;
+use crate::no_request::{NoRequest, bad_value};
 use clap::ArgMatches;
 use std::alloc::{AllocError, Global};
 
@@ -66,7 +65,7 @@ fn name_of(word: Option<FieldWord>) -> Option<String> {
 
 /// The names of the fields that are read, where words have their names in the header in place of their
 /// numbers.
-#[derive(Debug, Drop)]
+#[derive(Drop)]
 pub struct FieldNames {
     /// The name of the field of the zone.
     pub zone: Option<String>,

@@ -3,10 +3,9 @@
 ghost use Rattle.std.specs.Prelude.{◌≡◌, false, true};
 ghost use Rattle.zic_command_line.specs.declared.header_fields.Named.TheVariants as named;
 
-use crate::command_line::{hinted, usage};
 use crate::fields::FieldNames;
 use crate::layout::read_by;
-use crate::no_request::NoRequest;
+use crate::no_request::{NoRequest, hinted, usage};
 use std::alloc::{AllocError, Global};
 use zic_explain::shown_word;
 use zic_plan::{Layout, ZoneFrom};

@@ -4,6 +4,8 @@ ghost use Rattle.std.specs.Prelude.{◌≡◌, ◌↔◌, IsSome, IfSome};
 ghost use Rattle.std.specs.Str.Parse.{signed_digits_value};
 ghost use Rattle.zic_command_line.specs.Instant.{IsInstant};
 
+use crate::no_request::{NoRequest, bad_value};
+use std::alloc::Global;
 use zic_local::LocalTime;
 use zic_plan::Unit;
 use zic_rows::parse_local_time;
@@ -26,4 +28,29 @@ pub fn parse_instant_word(text: &str) -> Option<i64>
 pub(crate) fn parse_local_word(text: &str) -> Option<LocalTime> {
     let seconds = parse_local_time(text.as_bytes(), Unit::Second)?;
     LocalTime::new(i64::try_from(seconds).ok()?)
+}
+
+/// Returns the instant that the word says at a place for one.
+pub(crate) fn instant_of(alloc: Global, word: &str, place: &str) -> Result<i64, NoRequest> {
+    match parse_instant_word(word) {
+        Some(instant) => Ok(instant),
+        None => Err(no_seconds(alloc, word, place)),
+    }
+}
+
+/// Returns the refusal of a word that is no number of seconds, at the place for one. A date is told how to
+/// become one.
+fn no_seconds(alloc: Global, word: &str, place: &str) -> NoRequest {
+    let why = if is_date(word) {
+        "not a whole number of seconds, as 'date -d 2026-11-29 +%s' prints them"
+    } else {
+        "not a whole number of seconds from -9223372036854775808 to 9223372036854775807"
+    };
+    bad_value(alloc, word, place, why)
+}
+
+/// Returns whether a word has a hyphen or a colon after a digit, as dates and times have.
+fn is_date(word: &str) -> bool {
+    let digits = word.trim_start_matches(|c: char| c.is_ascii_digit());
+    digits.len() < word.len() && (digits.starts_with('-') || digits.starts_with(':'))
 }

@@ -1,8 +1,7 @@
 //! How a column is read, by the options for that.
 
-use crate::command_line::usage;
 use crate::fields::{FieldWord, FieldWords};
-use crate::no_request::NoRequest;
+use crate::no_request::{NoRequest, usage};
 use clap::ArgMatches;
 use std::alloc::{AllocError, Global};
 use zic_io::FaultFields;
@@ -10,6 +9,31 @@ use zic_plan::{
     AtFault, Delimiter, Disambiguation, FieldCount, Header, Layout, Notes, Quotes, Records,
     RowStart, Style, TimeFrom, Unit, Written, ZoneFrom,
 };
+
+/// How the fields of a record are written.
+#[derive(Drop)]
+struct FieldForms {
+    delimiter: Delimiter,
+    unit: Unit,
+    from: TimeFrom,
+    style: Style,
+}
+
+/// What records are, and which of them is a header.
+#[derive(Clone, Copy)]
+struct RecordForms {
+    records: Records,
+    quotes: Option<Quotes>,
+    header: Header,
+}
+
+/// The indices of the fields that are read, and what a row with a fault does.
+#[derive(Clone, Copy)]
+struct Reads {
+    zone: Option<usize>,
+    time: usize,
+    at_fault: AtFault,
+}
 
 /// Returns how a column is read.
 ///
@@ -21,39 +45,89 @@ pub(crate) fn layout(
     matches: &ArgMatches<'_>,
     fields: &FieldWords,
 ) -> Result<Layout, NoRequest> {
-    let delimiter = delimiter(alloc, matches)?;
-    let unit = unit(alloc, matches)?;
-    let from = time_from(alloc, matches)?;
-    let style = style(alloc, matches)?;
-    let records = records(alloc, matches)?;
-    let quotes = quotes(alloc, matches)?;
-    let header = header(alloc, matches)?;
-    let (zone, time) = indices(alloc, matches, fields)?;
-    let at_fault = at_fault(alloc, matches)?;
-    expect_fields(alloc, header, fields, zone, time)?;
+    let forms = field_forms(alloc, matches)?;
+    let records = record_forms(alloc, matches)?;
+    let reads = reads_of(alloc, matches, fields, records.header)?;
+    let zone = zone_from(alloc, matches, reads.zone)?;
     let start = row_start(matches);
-    let mut layout = Layout {
-        zone: zone_from(alloc, matches, zone)?,
-        time,
+    let may_have_more = fields.are_given() || start == RowStart::Record;
+    let FieldForms {
+        delimiter,
+        unit,
         from,
-        count: field_count(zone, time, fields.are_given() || start == RowStart::Record),
+        style,
+    } = forms;
+    let layout = Layout {
+        zone,
+        time: reads.time,
+        from,
+        count: field_count(reads.zone, reads.time, may_have_more),
         unit,
         delimiter,
-        records,
+        records: records.records,
         quotes: Quotes::Lenient,
-        header,
+        header: records.header,
         max_record: matches.get_one::<u64>("max-record"),
         start,
         style,
         written: written(matches),
-        at_fault,
+        at_fault: reads.at_fault,
         notes: notes(matches),
     };
+    Ok(with_quotes(layout, records.quotes))
+}
+
+/// Returns a layout with these double quotes, or else with those that it has by default.
+fn with_quotes(layout: Layout, quotes: Option<Quotes>) -> Layout {
+    let mut layout = layout;
     layout.quotes = match quotes {
         Some(quotes) => quotes,
         None => default_quotes(&layout),
     };
-    Ok(layout)
+    layout
+}
+
+/// Returns how the fields of a record are written.
+fn field_forms(alloc: Global, matches: &ArgMatches<'_>) -> Result<FieldForms, NoRequest> {
+    let delimiter = delimiter(alloc, matches)?;
+    let unit = unit(alloc, matches)?;
+    let from = time_from(alloc, matches)?;
+    let style = style(alloc, matches)?;
+    Ok(FieldForms {
+        delimiter,
+        unit,
+        from,
+        style,
+    })
+}
+
+/// Returns what records are, and which of them is a header.
+fn record_forms(alloc: Global, matches: &ArgMatches<'_>) -> Result<RecordForms, NoRequest> {
+    let records = records(alloc, matches)?;
+    let quotes = quotes(alloc, matches)?;
+    let header = header(alloc, matches)?;
+    Ok(RecordForms {
+        records,
+        quotes,
+        header,
+    })
+}
+
+/// Returns the indices of the fields that are read, and what a row with a fault does.
+fn reads_of(
+    alloc: Global,
+    matches: &ArgMatches<'_>,
+    fields: &FieldWords,
+    header: Header,
+) -> Result<Reads, NoRequest> {
+    let (zone, time) = indices(alloc, matches, fields)?;
+    let at_fault = at_fault(alloc, matches)?;
+    expect_fields(alloc, header, fields, zone, time)?;
+    Ok(Reads {
+        zone,
+        time,
+        at_fault,
+    })
 }
 
 /// Returns the index of the field of a row's zone, unless it is the zone of all rows, and the index of the

@@ -11,20 +11,26 @@
 mod advice;
 mod command_line;
 mod commands;
+mod compiling;
+mod conversion;
 mod fields;
+mod form;
 mod header_fields;
+mod help;
 mod instant;
 mod layout;
-mod message;
 mod no_request;
 mod release;
+mod schedule;
+mod values;
+mod zone_file;
 
 pub use command_line::{
-    Building, CommandLine, Conversion, Differences, Links, Release, ReleaseFiles, Request, Zones,
-    parse, requested, usage_of,
+    Building, CommandLine, Conversion, Differences, Exporting, Links, Request, Zones, parse,
+    requested,
 };
 pub use fields::FieldNames;
 pub use header_fields::HeaderFields;
 pub use instant::parse_instant_word;
-pub use no_request::NoRequest;
-pub use release::is_release;
+pub use no_request::{NoRequest, usage_of};
+pub use release::{Release, ReleaseFiles, is_release};

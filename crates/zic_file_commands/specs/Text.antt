@@ -1,6 +1,7 @@
 -- The text that `show` prints: own choice.
-use Rattle.std.specs.Prelude.{◌≡◌, ℕ, ℤ, if◌then◌else◌, codes, List, [], ◌∷◌, ◌++◌, Option, Some, None}
+use Rattle.std.specs.Prelude.{◌≡◌, ℕ, ℤ, ◌+ℤ◌, if◌then◌else◌, codes, List, [], ◌∷◌, ◌++◌, Option, Some, None, MatchOption}
 use Rattle.std.specs.Fmt.{signed_decimal}
+use Rattle.std.specs.Int.{saturate_signed, w64}
 use Rattle.zic_base.specs.Digits.{offset_text}
 use Rattle.zic_base.specs.State.{Shown}
 use Rattle.zic_tzif.specs.Content.{Content}
@@ -10,6 +11,9 @@ use Rattle.zic_local.specs.LocalTime.{AnswersLocal}
 use Rattle.zic_local.specs.declared.local_instants.Gap.{Gap}
 use Rattle.zic_local.specs.declared.local_instants.LocalInstants.{LocalInstants}
 use Rattle.zic_local.specs.declared.local_instants.LocalInstants.TheVariants as instants
+use Rattle.zic_schedule.specs.Due.{IsNeverDue, IsNext}
+use Rattle.zic_schedule.specs.declared.schedule.Schedule.{Schedule}
+use Rattle.zic_file_commands.specs.declared.show_next_command.TheConstants.{NEXT_WITHIN}
 
 -- a state's offset, flag and abbreviation between spaces, and a newline
 abbrev pub state_line : Shown → List ℕ
@@ -55,3 +59,20 @@ pub record IsShowingLocal (bytes : List ℕ) (local : ℤ) (lines : List ℕ) : 
   pub found : LocalInstants
   pub is_found : AnswersLocal content local found
   pub are_lines : AreLines content found lines
+
+-- the last instant that `show --next` looks at: 366 days after another, or the last of 64 bits
+abbrev pub last_looked_at : ℤ → ℤ
+last_looked_at after = saturate_signed w64 (after +ℤ NEXT_WITHIN)
+
+-- the line for the next instant, or the word where there is none
+abbrev pub IsNextLine : Content → Option ℤ → List ℕ → Type 0
+IsNextLine content (Some t) line = IsInstantLine content t line
+IsNextLine content None line = line ≡ codes "unspecified" ++ 10 ∷ []
+
+-- the line that `show --next` prints for the bytes of a file, a schedule and an instant after which it's due
+pub record IsShowingNext (bytes : List ℕ) (schedule : Schedule) (after : ℤ) (line : List ℕ) : Type 0 where
+  pub content : Content
+  pub is_file : IsFile bytes content
+  pub found : Option ℤ
+  pub is_found : MatchOption found (IsNeverDue content schedule after (last_looked_at after)) (IsNext content schedule after (last_looked_at after))
+  pub is_line : IsNextLine content found line

@@ -6,6 +6,8 @@
 //!
 //! - `show`, `show_local`: write the line of what the bytes answer at the instant (`IsShowing`);
 //!   the lines of the instants of a local time, or of its gap (`IsShowingLocal`)
+//! - `show_next`: writes the line of the next instant within 366 days at which a schedule is due
+//!   (`IsShowingNext`)
 //! - `dump`: writes the text that zic_dump gives (`IsDump`)
 //! - these, `err`: a fault is that of the bytes; `cannot write output` only if a failure was
 //!   counted, after a beginning of the output; else nothing was written (`IsFailureOfPrinting`)
@@ -19,8 +21,10 @@ mod convert_command;
 mod dump_command;
 mod show_command;
 mod show_local_command;
+mod show_next_command;
 
 pub use convert_command::convert;
 pub use dump_command::dump;
 pub use show_command::show;
 pub use show_local_command::show_local;
+pub use show_next_command::show_next;

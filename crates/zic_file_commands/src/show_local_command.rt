@@ -77,7 +77,7 @@ fn lines_for(alloc: Global, zone: &Zone, found: LocalInstants) -> Result<Vec<u8>
 }
 
 /// Returns the line for an instant.
-fn instant_line(alloc: Global, zone: &Zone, instant: i64) -> Result<Vec<u8>, AllocError>
+pub(crate) fn instant_line(alloc: Global, zone: &Zone, instant: i64) -> Result<Vec<u8>, AllocError>
     requires { HaveOffsets zone.now }
     ensures { IfOk result (λ line. IsInstantLine zone.now instant line.items) }
 {

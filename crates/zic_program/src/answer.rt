@@ -1,6 +1,7 @@
 //! The command that a request is for.
 
-use crate::file::{check, dump, show, show_local};
+use crate::export::export;
+use crate::file::{check, dump, show, show_local, show_next};
 use std::fs::Files;
 use std::io::{Input, IsTerminal, Write};
 use std::random::RandomSource;
@@ -37,7 +38,7 @@ pub(crate) fn answer<
             };
             return verify(rt, &verifying, texts);
         }
-        Request::Check { source, plan } => check(rt, source, plan, texts),
+        Request::Check { sources, plan } => check(rt, sources, plan, texts),
         Request::Diff {
             sources,
             trees,
@@ -59,7 +60,13 @@ pub(crate) fn answer<
         Request::Convert(order) => convert(rt, order, errors, noted),
         Request::Show { file, instant } => show(rt, file.as_str(), *instant),
         Request::ShowLocal { file, local } => show_local(rt, file.as_str(), local),
+        Request::ShowNext {
+            file,
+            schedule,
+            after,
+        } => show_next(rt, file.as_str(), schedule, *after),
         Request::Dump { file, years } => dump(rt, file.as_str(), years),
+        Request::Export(order) => return export(rt, order),
         Request::Explain { text } | Request::Version { text } | Request::Help { text } => {
             tell(rt, text.as_bytes())
         }

@@ -1,10 +1,9 @@
-//! The commands that print what one source or file says.
+//! The commands that print what sources or a file say.
 
 use crate::zone_file::path_of;
 use std::fs::Files;
 use std::io::{self, Input};
 use std::rt::Env;
-use std::slice;
 use std::sync::Wait;
 use std::thread::Threads;
 use zic_counted::Counted;
@@ -13,15 +12,16 @@ use zic_host::read_texts;
 use zic_io::{Failure, read_file};
 use zic_local::LocalTime;
 use zic_plan::Plan;
+use zic_schedule::Schedule;
 
-/// Compiles a source, and lists its files.
+/// Compiles sources, and lists their files.
 pub(crate) fn check<R: Files + Input + Print + AllocGlobal + Threads + Wait + Sync>(
     rt: &R,
-    source: &String,
+    sources: &[String],
     plan: &Plan,
     texts: &mut Vec<Vec<u8>>,
 ) -> Result<(), Failure> {
-    read_texts(rt, slice::from_ref(source), texts)?;
+    read_texts(rt, sources, texts)?;
     let mut output = Counted::new(io::writer(rt));
     zic_source_commands::check(rt, rt.alloc(), plan, texts, &mut output)
 }
@@ -32,8 +32,7 @@ pub(crate) fn show<R: Env + Files + Print + AllocGlobal>(
     file: &str,
     instant: i64,
 ) -> Result<(), Failure> {
-    let path = path_of(rt, file)?;
-    let bytes = read_file(rt.alloc(), rt, path.as_str())?;
+    let bytes = bytes_of(rt, file)?;
     let mut output = Counted::new(io::writer(rt));
     zic_file_commands::show(rt.alloc(), &bytes, instant, &mut output)
 }
@@ -44,10 +43,21 @@ pub(crate) fn show_local<R: Env + Files + Print + AllocGlobal>(
     file: &str,
     local: &LocalTime,
 ) -> Result<(), Failure> {
-    let path = path_of(rt, file)?;
-    let bytes = read_file(rt.alloc(), rt, path.as_str())?;
+    let bytes = bytes_of(rt, file)?;
     let mut output = Counted::new(io::writer(rt));
     zic_file_commands::show_local(rt.alloc(), &bytes, local, &mut output)
+}
+
+/// Prints when a schedule is next due by what a file says.
+pub(crate) fn show_next<R: Env + Files + Print + AllocGlobal>(
+    rt: &R,
+    file: &str,
+    schedule: &Schedule,
+    after: i64,
+) -> Result<(), Failure> {
+    let bytes = bytes_of(rt, file)?;
+    let mut output = Counted::new(io::writer(rt));
+    zic_file_commands::show_next(rt.alloc(), &bytes, schedule, after, &mut output)
 }
 
 /// Lists the changes of a file.
@@ -56,8 +66,13 @@ pub(crate) fn dump<R: Env + Files + Print + AllocGlobal>(
     file: &str,
     years: &Years,
 ) -> Result<(), Failure> {
-    let path = path_of(rt, file)?;
-    let bytes = read_file(rt.alloc(), rt, path.as_str())?;
+    let bytes = bytes_of(rt, file)?;
     let mut output = Counted::new(io::writer(rt));
     zic_file_commands::dump(rt.alloc(), file, &bytes, years, &mut output)
+}
+
+/// Returns the bytes of the file that a word names.
+fn bytes_of<R: Env + Files + AllocGlobal>(rt: &R, file: &str) -> Result<Vec<u8>, Failure> {
+    let path = path_of(rt, file)?;
+    read_file(rt.alloc(), rt, path.as_str())
 }

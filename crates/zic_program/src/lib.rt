@@ -8,6 +8,7 @@
 
 mod answer;
 mod explained;
+mod export;
 mod file;
 mod program;
 mod zone_file;

@@ -1,0 +1,138 @@
+//! The commands that compile sources.
+
+use crate::command_line::{Building, Differences, Links, Request};
+use crate::instant::instant_of;
+use crate::no_request::{NoRequest, usage};
+use crate::release::release_files;
+use crate::values::{given, is_given, plan, texts, word, years};
+use clap::ArgMatches;
+use std::alloc::Global;
+use zic_base::STANDARD_INPUT;
+use zic_compare::Compared;
+
+pub(crate) fn check(alloc: Global, matches: &ArgMatches<'_>) -> Result<Request, NoRequest> {
+    let plan = plan(alloc, matches)?;
+    let sources = sources(alloc, matches)?;
+    Ok(Request::Check { sources, plan })
+}
+
+pub(crate) fn build(alloc: Global, matches: &ArgMatches<'_>) -> Result<Request, NoRequest> {
+    let plan = plan(alloc, matches)?;
+    let links = links_of(alloc, matches)?;
+    let sources = sources(alloc, matches)?;
+    let folder = word(alloc, matches, "DIR")?;
+    let release_files = release_files(alloc, matches)?;
+    Ok(Request::Build(Building {
+        folder,
+        sources,
+        plan,
+        links,
+        sync: matches.get_flag("sync"),
+        release_files,
+    }))
+}
+
+/// Returns what the names of Link lines are made as.
+fn links_of(alloc: Global, matches: &ArgMatches<'_>) -> Result<Links, NoRequest> {
+    match matches.get_str("links") {
+        Some("copy") => Ok(Links::Copy),
+        Some("hard") => Ok(Links::Hard),
+        Some("symlink") => Ok(Links::Symbolic),
+        _ => Err(usage(alloc, "--links is copy, hard or symlink")),
+    }
+}
+
+/// Returns the words for sources, of which one may be standard input.
+fn sources(alloc: Global, matches: &ArgMatches<'_>) -> Result<Vec<String>, NoRequest> {
+    let Some(words) = matches.get_strs("SOURCE") else {
+        return Err(usage(alloc, "no SOURCE"));
+    };
+    let inputs = words.iter().filter(|word| **word == STANDARD_INPUT).count();
+    if inputs > 1 {
+        return Err(usage(alloc, "-, standard input, can be only one SOURCE"));
+    }
+    Ok(texts(alloc, words)?)
+}
+
+pub(crate) fn verify(alloc: Global, matches: &ArgMatches<'_>) -> Result<Request, NoRequest> {
+    let plan = plan(alloc, matches)?;
+    let sources = sources(alloc, matches)?;
+    let folder = word(alloc, matches, "DIR")?;
+    let release_files = release_files(alloc, matches)?;
+    Ok(Request::Verify {
+        folder,
+        sources,
+        plan,
+        release_files,
+        strict: matches.get_flag("strict"),
+    })
+}
+
+pub(crate) fn diff(alloc: Global, matches: &ArgMatches<'_>) -> Result<Request, NoRequest> {
+    let trees = matches.get_flag("trees");
+    let sources = old_and_new(alloc, matches, trees)?;
+    let plan = plan(alloc, matches)?;
+    let differences = differences_of(alloc, matches)?;
+    let compared = compared(alloc, matches)?;
+    Ok(Request::Diff {
+        sources,
+        trees,
+        plan,
+        differences,
+        compared,
+        shows_release: matches.get_flag("show-release"),
+    })
+}
+
+/// Returns the words for the old source and the new one, or for their folders. Only one may be standard
+/// input.
+fn old_and_new(
+    alloc: Global,
+    matches: &ArgMatches<'_>,
+    trees: bool,
+) -> Result<Vec<String>, NoRequest> {
+    let old = given(alloc, matches, "OLD")?;
+    let new = given(alloc, matches, "NEW")?;
+    if !trees && old == STANDARD_INPUT && new == STANDARD_INPUT {
+        return Err(usage(alloc, "-, standard input, can be only one of OLD and NEW"));
+    }
+    Ok(texts(alloc, &[old, new])?)
+}
+
+/// Returns what is listed of two sources, or of two folders.
+fn differences_of(alloc: Global, matches: &ArgMatches<'_>) -> Result<Differences, NoRequest> {
+    let now = now(alloc, matches)?;
+    if !matches.get_flag("summary") {
+        return match now {
+            None => Ok(Differences::Within(years(alloc, matches)?)),
+            Some(_) => Err(usage(alloc, "--now is for --summary")),
+        };
+    }
+    if is_given(matches, "from") || is_given(matches, "to") {
+        return Err(usage(alloc, "--summary is of all years, without --from and --to"));
+    }
+    Ok(Differences::Summary { now })
+}
+
+/// Returns the instant that is now, if it is given.
+fn now(alloc: Global, matches: &ArgMatches<'_>) -> Result<Option<i64>, NoRequest> {
+    match matches.get_str("now") {
+        Some(word) => Ok(Some(instant_of(alloc, word, "--now <SECONDS>")?)),
+        None => Ok(None),
+    }
+}
+
+/// Returns what is compared of answers.
+fn compared(alloc: Global, matches: &ArgMatches<'_>) -> Result<Compared, NoRequest> {
+    let (daylight, abbreviation) = match matches.get_str("ignore") {
+        None => (true, true),
+        Some("daylight") => (false, true),
+        Some("abbreviation") => (true, false),
+        Some("daylight,abbreviation" | "abbreviation,daylight") => (false, false),
+        Some(_) => return Err(usage(alloc, "--ignore is daylight, abbreviation, or both")),
+    };
+    Ok(Compared {
+        daylight,
+        abbreviation,
+    })
+}

@@ -1,0 +1,156 @@
+//! The conversion of a column.
+
+use crate::command_line::{Conversion, Request, Zones};
+use crate::fields::{FieldNames, FieldWords};
+use crate::layout::{fault_fields, layout, max_faults};
+use crate::no_request::{NoRequest, usage};
+use crate::values::{column_plan, optional};
+use clap::ArgMatches;
+use std::alloc::Global;
+use zic_base::STANDARD_INPUT;
+use zic_io::FaultFields;
+use zic_plan::{Layout, Plan};
+
+/// Where the zones of a column come from, and those that rows are compared with.
+#[derive(Drop)]
+struct BothZones {
+    zones: Zones,
+    against: Option<Zones>,
+}
+
+/// How a column is read, and the names of the fields that are read.
+#[derive(Drop)]
+struct Reading {
+    layout: Layout,
+    names: FieldNames,
+}
+
+/// What is kept of the rows with faults.
+#[derive(Drop)]
+struct FaultLists {
+    faults: Option<String>,
+    fault_fields: FaultFields,
+    rejects: Option<String>,
+    max_faults: Option<u64>,
+}
+
+pub(crate) fn convert(alloc: Global, matches: &ArgMatches<'_>) -> Result<Request, NoRequest> {
+    let plan = column_plan(alloc, matches)?;
+    let zones = both_zones(alloc, matches)?;
+    match reading_and_lists(alloc, matches) {
+        Ok((reading, lists)) => Ok(conversion(matches, plan, zones, reading, lists)),
+        Err(refusal) => {
+            drop(zones);
+            Err(refusal)
+        }
+    }
+}
+
+/// Returns the request of a conversion.
+fn conversion(
+    matches: &ArgMatches<'_>,
+    plan: Plan,
+    zones: BothZones,
+    reading: Reading,
+    lists: FaultLists,
+) -> Request {
+    let BothZones { zones, against } = zones;
+    let Reading { layout, names } = reading;
+    let FaultLists {
+        faults,
+        fault_fields,
+        rejects,
+        max_faults,
+    } = lists;
+    Request::Convert(Conversion {
+        zones,
+        against,
+        plan,
+        layout,
+        names,
+        faults,
+        fault_fields,
+        rejects,
+        max_faults,
+        progress: matches.get_flag("progress"),
+        shows_release: matches.get_flag("show-release"),
+    })
+}
+
+/// Returns where the zones of a column come from, and those that rows are compared with.
+fn both_zones(alloc: Global, matches: &ArgMatches<'_>) -> Result<BothZones, NoRequest> {
+    let zones = zones_of(alloc, matches)?;
+    let against = against(alloc, matches)?;
+    Ok(BothZones { zones, against })
+}
+
+/// Returns where the zones of a column come from.
+fn zones_of(alloc: Global, matches: &ArgMatches<'_>) -> Result<Zones, NoRequest> {
+    match (matches.get_str("SOURCE"), matches.get_str("tree")) {
+        (Some(STANDARD_INPUT), None) => {
+            Err(usage(alloc, "standard input is the column, so SOURCE can't be -"))
+        }
+        (Some(source), None) => Ok(Zones::Source(String::from_str(alloc, source)?)),
+        (None, Some(folder)) => Ok(Zones::Tree(String::from_str(alloc, folder)?)),
+        (None, None) => Err(usage(alloc, "SOURCE or --tree DIR is missing")),
+        (Some(_), Some(_)) => Err(usage(
+            alloc,
+            "--tree is given in place of SOURCE, not beside it",
+        )),
+    }
+}
+
+/// Returns where the zones come from that rows are compared with, if they are.
+fn against(alloc: Global, matches: &ArgMatches<'_>) -> Result<Option<Zones>, NoRequest> {
+    match (matches.get_str("against"), matches.get_str("against-tree")) {
+        (Some(STANDARD_INPUT), None) => {
+            Err(usage(alloc, "standard input is the column, so OLD can't be -"))
+        }
+        (Some(source), None) => Ok(Some(Zones::Source(String::from_str(alloc, source)?))),
+        (None, Some(folder)) => Ok(Some(Zones::Tree(String::from_str(alloc, folder)?))),
+        (None, None) => Ok(None),
+        (Some(_), Some(_)) => Err(usage(
+            alloc,
+            "--against-tree is given in place of --against, not beside it",
+        )),
+    }
+}
+
+/// Returns how a column is read, and what is kept of the rows with faults.
+fn reading_and_lists(
+    alloc: Global,
+    matches: &ArgMatches<'_>,
+) -> Result<(Reading, FaultLists), NoRequest> {
+    let reading = reading_of(alloc, matches)?;
+    match fault_lists(alloc, matches) {
+        Ok(lists) => Ok((reading, lists)),
+        Err(refusal) => {
+            drop(reading);
+            Err(refusal)
+        }
+    }
+}
+
+/// Returns how a column is read, and the names of the fields that are read.
+fn reading_of(alloc: Global, matches: &ArgMatches<'_>) -> Result<Reading, NoRequest> {
+    let fields = FieldWords::of(alloc, matches)?;
+    let layout = layout(alloc, matches, &fields)?;
+    Ok(Reading {
+        layout,
+        names: fields.names(),
+    })
+}
+
+/// Returns what is kept of the rows with faults.
+fn fault_lists(alloc: Global, matches: &ArgMatches<'_>) -> Result<FaultLists, NoRequest> {
+    let fault_fields = fault_fields(alloc, matches)?;
+    let max_faults = max_faults(alloc, matches)?;
+    let faults = optional(alloc, matches, "faults")?;
+    let rejects = optional(alloc, matches, "rejects")?;
+    Ok(FaultLists {
+        faults,
+        fault_fields,
+        rejects,
+        max_faults,
+    })
+}
