@@ -2,12 +2,13 @@
 
 use crate::ending::Ending;
 use crate::extras::Extras;
+use std::alloc::Global;
 use std::fs::Files;
 use std::io::{ErrorKind, Input};
 use std::random::RandomSource;
 use std::sync::Wait;
 use std::thread::Threads;
-use zic_command_line::{Building, Links};
+use zic_command_line::{Building, Links, NoRequest, usage_of};
 use zic_host::{Refusal, random_number, read_texts};
 use zic_io::{Disk, Durability, Failure, LinkKind, LinkedFolder};
 
@@ -16,14 +17,16 @@ use zic_io::{Disk, Durability, Failure, LinkKind, LinkedFolder};
 ///
 /// # Errors
 ///
-/// Why the texts or tables aren't read or the texts have no files, the text of usage where a zone has the
-/// name of one of the other files, `CannotWrite` with the path of a file or folder, or `Memory`.
+/// The text of usage where the folder's path is empty or a zone has the name of one of the other files, why
+/// the texts or tables aren't read or the texts have no files, `CannotWrite` with the path of a file or
+/// folder, or `Memory`.
 pub fn build<R: Files + Input + RandomSource + AllocGlobal + Threads + Wait + Sync>(
     rt: &R,
     order: &Building,
     texts: &mut Vec<Vec<u8>>,
     reason: &mut Option<ErrorKind>,
 ) -> Result<Ending, Refusal> {
+    expect_path(rt.alloc(), order.folder.as_str())?;
     read_texts(rt, &order.sources, texts)?;
     let Some(extras) = Extras::of(rt, &order.release_files, texts)? else {
         return Ok(Ending::NoRelease);
@@ -31,6 +34,15 @@ pub fn build<R: Files + Input + RandomSource + AllocGlobal + Threads + Wait + Sy
     let placed = place_with(rt, order, texts, &extras, reason);
     drop(extras);
     placed
+}
+
+/// Refuses an empty path of a folder, as an unset variable gives it: the files would be placed in the root
+/// of the file system.
+fn expect_path(alloc: Global, folder: &str) -> Result<(), NoRequest> {
+    if folder.is_empty() {
+        return Err(usage_of(alloc, "build", "DIR is empty"));
+    }
+    Ok(())
 }
 
 /// Places the files of the texts and these others in the folder, unless two of them have one name.
