@@ -7,7 +7,7 @@ use Rattle.zic_command_line.specs.declared.command_line.Conversion.{Conversion}
 use Rattle.zic_command_line.specs.declared.command_line.Zones.{Zones}
 use Rattle.zic_converting.specs.declared.ending.Unwritten.{Unwritten}
 use Rattle.zic_converting.specs.declared.ending.Unwritten.TheVariants as lists
-use Rattle.zic_converting.specs.declared.faults.Faults.{Faults}
+use Rattle.zic_converting.specs.declared.ending.Faults.{Faults}
 use Rattle.zic_io.specs.Failing.{IsCannotWrite}
 use Rattle.zic_io.specs.Faults.{fault_of}
 use Rattle.zic_io.specs.declared.failure.Failure.{Failure}

@@ -7,9 +7,8 @@ ghost use Rattle.zic_converting.specs.Ending.{ended, faults_in, path_of, told_be
 use crate::ending::{Unwritten, ended, keeps_lists, report};
 use crate::header::Head;
 use crate::lists::Lists;
-use crate::memory::keep_memory;
-use crate::ready::ready_releases;
-use crate::rows::convert_rows;
+use crate::ready::{keep_memory, ready_releases};
+use crate::rows::{convert_rows, end_at_header};
 use std::alloc::Global;
 use std::fs::Files;
 use std::io::{ErrorKind, Input, IsTerminal, Write};
@@ -28,6 +27,8 @@ pub struct Noted {
     pub texts: Vec<Vec<u8>>,
     /// What was read of the column for its header.
     pub(crate) head: Head,
+    /// Why the header can't be read, where fields have names.
+    pub(crate) header: Option<Failure>,
     /// What ended a run, where a list is reported before it that can't be written.
     pub ended: Option<Failure>,
     /// The faults of rows after which a run went on, where something else ended it.
@@ -42,6 +43,7 @@ impl Noted {
         Noted {
             texts: Vec::new(alloc),
             head: Head::new(alloc),
+            header: None,
             ended: None,
             faults: None,
             reason: None,
@@ -54,14 +56,18 @@ impl Noted {
 ///
 /// # Errors
 ///
-/// Why the texts aren't read or have no files, `CannotRead` with the path of a folder or of a file in it,
-/// `CannotWrite` with the path of a list, why a conversion ends, `Rows` or `Rejected` for the faults after which it went on,
-/// or `Memory`.
+/// Why a header with names can't be read, why the texts aren't read or have no files, `CannotRead` with the
+/// path of a folder or of a file in it, `CannotWrite` with the path of a list, why a conversion ends, `Rows` or
+/// `Rejected` for the faults after which it went on, or `Memory`.
 pub fn convert<
     R: Files + Input + Print + Clock + RandomSource + AllocGlobal + Threads + Wait + Sync,
     E: Write + IsTerminal + Drop,
 >(rt: &R, order: &Conversion, errors: E, noted: &mut Noted) -> Result<(), Failure> {
     let mut errors = errors;
+    if let Some(failure) = mem::replace(&mut noted.header, None) {
+        let line = progress_line(order.progress, errors);
+        return end_at_header(rt, order, line, failure);
+    }
     keep_memory(rt.alloc());
     ready_releases(rt, order, &mut errors, noted)?;
     let line = progress_line(order.progress, errors);

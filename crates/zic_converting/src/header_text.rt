@@ -1,7 +1,7 @@
 //! The fields of a header, one after another.
 
 use std::alloc::{AllocError, Global};
-use zic_columns::{Field, Span, push_field, without_mark};
+use zic_columns::{Field, Span, push_field};
 use zic_command_line::HeaderFields;
 use zic_plan::Delimiter;
 
@@ -34,18 +34,17 @@ fn place_after(place: Place, byte: u8, delimiter: u8) -> Option<Place> {
 }
 
 /// Takes note of the fields of a record by its own bytes, with this delimiter between them. No bytes have no
-/// field.
+/// field. A byte order mark belongs to the first: that of the column isn't among these bytes.
 ///
 /// # Errors
 ///
 /// Fails where memory is refused.
 pub(crate) fn note_fields(
     alloc: Global,
-    own: &[u8],
+    record: &[u8],
     delimiter: &Delimiter,
     fields: &mut HeaderFields<'_>,
 ) -> Result<(), AllocError> {
-    let record = without_mark(own);
     let mut text = FieldText::new(alloc, delimiter, fields.telling_len());
     let mut start = 0;
     let mut place = Place::Start;

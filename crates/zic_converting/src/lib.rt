@@ -28,16 +28,14 @@
 mod column;
 mod conversion;
 mod ending;
-mod faults;
 mod header;
 mod header_text;
 mod lists;
-mod memory;
 mod own_file;
 mod ready;
 mod rows;
 
 pub use conversion::{Noted, convert};
 pub use header::read_header;
-pub use memory::take_stack;
 pub use own_file::expect_own_lists;
+pub use ready::take_stack;

@@ -3,8 +3,7 @@
 ghost use Rattle.std.specs.Prelude.{◌≡◌};
 ghost use Rattle.zic_converting.specs.Ending.{faults_in};
 
-use crate::ending::{Unwritten, first_unwritten};
-use crate::faults::Faults;
+use crate::ending::{Faults, Unwritten, first_unwritten};
 use std::fs::Files;
 use std::io::{BufWriter, ErrorKind};
 use std::random::RandomSource;

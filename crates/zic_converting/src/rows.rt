@@ -46,10 +46,45 @@ pub(crate) fn convert_rows<
     };
     let texts = &noted.texts;
     let converted = convert_column(order, &conversion, texts, &mut input, &mut output, log);
-    output
-        .into_inner()
-        .finish(rows_made(&order.against, &converted));
+    let mut rows = output.into_inner();
+    if let Err(failure) = &converted {
+        count_before(&mut rows, failure);
+    }
+    rows.finish(rows_made(&order.against, &converted));
     converted
+}
+
+/// Reports the rows of a run that ended at its header, which are none, and returns why it ended.
+pub(crate) fn end_at_header<R: Print + Clock, E: Write + Drop>(
+    rt: &R,
+    order: &Conversion,
+    line: ProgressLine<E>,
+    failure: Failure,
+) -> Result<(), Failure> {
+    let mut rows = progress(rt, &order.layout, line);
+    count_before(&mut rows, &failure);
+    rows.finish(None);
+    Err(failure)
+}
+
+/// Has rows reported before a failure of the column or its rows, also where none were written.
+fn count_before<W: Write, C: Clock, E: Write>(rows: &mut Progress<'_, W, C, E>, failure: &Failure) {
+    if is_of_column(failure) {
+        // Rows are reported once a flush was requested. What was written is flushed already.
+        let _ = rows.flush();
+    }
+}
+
+/// Returns whether a failure is of the column or its rows: what isn't read or written, or has a fault.
+fn is_of_column(failure: &Failure) -> bool {
+    matches!(
+        failure,
+        Failure::Row { .. }
+            | Failure::ColumnTooLong
+            | Failure::CannotReadColumn
+            | Failure::CannotWriteRows
+            | Failure::CannotWriteList
+    )
 }
 
 /// Returns the writer to standard output that reports the rows.

@@ -3,7 +3,7 @@ use Rattle.std.proofs.Common.{◌≡◌, ℕ, List, Option, Result, subst, arith
 use Rattle.std.proofs.lemmas.Grind.{common_steps}
 use Rattle.zic_io.specs.declared.failure.Failure.{Failure}
 use Rattle.zic_converting.specs.Ending.{behind_of, ended, IsReport}
-use Rattle.zic_converting.specs.declared.faults.Faults.{Faults}
+use Rattle.zic_converting.specs.declared.ending.Faults.{Faults}
 use Rattle.zic_converting.proofs.conversion.end.Goals as goal
 use Rattle.zic_converting.proofs.conversion.end.Goals.{then-keeps_lists, else-keeps_lists}
 
