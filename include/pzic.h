@@ -63,18 +63,21 @@ enum {
     PZIC_BAD_SOURCE = 6,
     /*
      * No file has the name or the number, no fault, reason or disambiguation has the number, there is no
-     * such layout, or a number of options or the order of their instants is wrong.
+     * such layout, change or instant, or a number of options or the order of their instants is wrong.
      */
     PZIC_NO_SUCH = 7,
     /* A row of the column has a fault. */
     PZIC_BAD_ROW = 8,
-    /* The local time is nearer than 25:59:59 to an end of 64 bits, so its instants may be outside. */
+    /*
+     * The local time is nearer than 25:59:59 to an end of 64 bits, so its instants may be outside; or a number of
+     * a schedule is out of range.
+     */
     PZIC_OUT_OF_RANGE = 9,
     /* The local time is in a gap, which PZIC_REJECT refuses. */
     PZIC_GAP = 10,
     /* The local time is in a fold, which PZIC_REJECT refuses. */
     PZIC_FOLD = 11,
-    /* A file can't be read: pzic_tree_zone of pzic_tree.h. */
+    /* A file can't be read, or its folder isn't there: pzic_tree_zone of pzic_tree.h. */
     PZIC_UNREADABLE = 12,
     /* No zone can have the name. */
     PZIC_BAD_NAME = 13,
@@ -318,6 +321,64 @@ static inline int32_t pzic_zone_instants_array(const pzic_handle *zone, uint32_t
 static inline int32_t pzic_zone_instant(const pzic_handle *zone, uint32_t disambiguation,
                                         int64_t local, int64_t *instant);
 
+/* The days of the week, which are added up. */
+enum {
+    PZIC_MONDAY = 1,
+    PZIC_TUESDAY = 2,
+    PZIC_WEDNESDAY = 4,
+    PZIC_THURSDAY = 8,
+    PZIC_FRIDAY = 16,
+    PZIC_SATURDAY = 32,
+    PZIC_SUNDAY = 64,
+    PZIC_EVERY_DAY = 127
+};
+
+/*
+ * In place of PZIC_EARLIER, PZIC_LATER or PZIC_COMPATIBLE: a day on which clocks pass over the time of day is left
+ * out, as RFC 5545, 3.3.10, leaves out dates that there aren't. In a fold the first instant.
+ */
+enum { PZIC_SKIP = 4 };
+
+/* A time of day on days of the week, and the time in which it is looked for. */
+typedef struct pzic_schedule {
+    /* The instant after which, and the last at which it is looked for. */
+    int64_t after;
+    int64_t until;
+    /* The time of day on the zone's clocks, in seconds since midnight, 0 to 86,399. */
+    uint32_t seconds;
+    /* The days of the week: the sum of some of PZIC_MONDAY and so on, 0 to 127. */
+    uint32_t weekdays;
+    /* What to take in a gap or in a fold: PZIC_EARLIER, PZIC_LATER, PZIC_COMPATIBLE or PZIC_SKIP. */
+    uint32_t policy;
+} pzic_schedule;
+
+/*
+ * Gives the next instant at which a zone's clocks show a time of day on one of the days of the week, or that is
+ * meant by it in a gap: the least after `after` and up to `until`. The date is that of the local time, also where a
+ * gap moves the instant. RFC 5545, 3.3.5, takes PZIC_COMPATIBLE. The call looks at each day from `after` to the
+ * instant and at some four more, or, where there is none, at each day up to `until`: so give one that is near, as a
+ * year after.
+ *
+ * PZIC_OK            *instant is the instant
+ * PZIC_NO_SUCH       there is none; *instant isn't written
+ * PZIC_OUT_OF_RANGE  the time of day, the days or the policy is out of range; *instant isn't written
+ * PZIC_NO_HANDLE     `zone` holds no zone; *instant isn't written
+ */
+static inline int32_t pzic_zone_next_local(const pzic_handle *zone, const pzic_schedule *schedule,
+                                           int64_t *instant);
+
+/*
+ * Gives the instants that follow one another so, from the least after `after` up to `until`, in rising order, as
+ * many as there is room for, and how many those are. Where the room is full, more may follow: they are those after
+ * the last that is given.
+ *
+ * PZIC_OK            *count is the number of instants that are written; the rest of the room stays as it was
+ * PZIC_OUT_OF_RANGE  the time of day, the days or the policy is out of range; nothing is written
+ * PZIC_NO_HANDLE     `zone` holds no zone; nothing is written
+ */
+static inline int32_t pzic_zone_next_locals(const pzic_handle *zone, const pzic_schedule *schedule,
+                                            int64_t *instants, size_t instants_length, size_t *count);
+
 /* The first fault of a source. */
 typedef struct pzic_fault {
     /* The number of the text, from 1. */
@@ -444,6 +505,24 @@ static inline int32_t pzic_files_abbreviations(const pzic_handle *files, const u
                                                pzic_abbreviation *abbreviations,
                                                size_t abbreviations_length);
 
+/*
+ * Gives the instant that is meant by each of many local times, in any order, with a zone for each: zones[i] is the
+ * number of a file, as pzic_files_find has it. instants[i] and statuses[i] are those that pzic_zone_instants_array
+ * gives for its zone; where no file has the number, instants[i] is 0 and statuses[i] is PZIC_NO_SUCH. Quickest
+ * where rows with the same zone follow one another.
+ *
+ * PZIC_OK         all are written
+ * PZIC_NO_HANDLE  `files` holds no files; nothing is written
+ * PZIC_LENGTHS    the four lengths differ; nothing is written
+ * PZIC_NO_SUCH    no disambiguation has the number; nothing is written
+ * PZIC_NO_MEMORY  the rows before one are written
+ */
+static inline int32_t pzic_files_instants(const pzic_handle *files, uint32_t disambiguation,
+                                          const uint32_t *zones, size_t zones_length,
+                                          const int64_t *locals, size_t locals_length,
+                                          int64_t *instants, size_t instants_length,
+                                          uint8_t *statuses, size_t statuses_length);
+
 /* A row of a column that has a fault. */
 typedef struct pzic_row_fault {
     /* The number of the row, from 1, or 0 for the header. */
@@ -458,7 +537,8 @@ typedef struct pzic_row_fault {
  * instant, local time, the UT offset, the daylight flag and the abbreviation. Instants of rows are from
  * -62,135,510,400 to 253,402,214,399, the years 1 to 9999 but for their first and last day. A
  * column may be given in pieces that end with a line end outside quotes; each is a column of its own.
- * It may have 100,000,000 rows and 4,294,967,296 bytes. What `rows` held before is freed first.
+ * It may have 100,000,000 rows and 4,294,967,296 bytes. What `rows` held before is freed first. To go on after a
+ * row that has a fault, use pzic_rows_by with PZIC_FAULT_GOES_ON or PZIC_FAULT_REJECTS.
  *
  * PZIC_OK         `rows` holds the rows
  * PZIC_BAD_ROW    *fault is the first row that has a fault, and `rows` holds the rows before it
@@ -566,8 +646,8 @@ static inline int32_t pzic_rows_len(const pzic_handle *rows, uint64_t *count);
 
 /*
  * Copies the faults of rows that pzic_rows_by made, as many as there is room for, and gives their
- * number. They rise by the row; the one that ended the run is the last. Rows of pzic_rows and lines of
- * pzic_files_diff have none here.
+ * number. They rise by the row, and each other row has local time; the one that ended the run is the last. Rows
+ * of pzic_rows and lines of pzic_files_diff have none here.
  *
  * PZIC_OK         *count is the number of faults, and the first are copied
  * PZIC_NO_HANDLE  `rows` holds no rows; nothing is written
@@ -662,6 +742,9 @@ int32_t pzic_raw_zone_instants_array(pzic_handle *zone, uint32_t disambiguation,
                                      const int64_t *locals, size_t locals_length, int64_t *instants,
                                      size_t instants_length, uint8_t *statuses,
                                      size_t statuses_length);
+int32_t pzic_raw_zone_next_local(pzic_handle *zone, const pzic_schedule *schedule, int64_t *instant);
+int32_t pzic_raw_zone_next_locals(pzic_handle *zone, const pzic_schedule *schedule, int64_t *instants,
+                                  size_t instants_length, size_t *count);
 int32_t pzic_raw_compile(const uint8_t *texts, size_t texts_length, const size_t *lengths,
                          size_t count, pzic_handle *files, pzic_fault *fault);
 int32_t pzic_raw_files_of(const uint8_t *texts, size_t texts_length, const size_t *lengths,
@@ -822,6 +905,19 @@ static inline int32_t pzic_zone_instant(const pzic_handle *zone, uint32_t disamb
     return status;
 }
 
+static inline int32_t pzic_zone_next_local(const pzic_handle *zone, const pzic_schedule *schedule,
+                                           int64_t *instant) {
+    pzic_handle own = *zone;
+    return pzic_raw_zone_next_local(&own, schedule, instant);
+}
+
+static inline int32_t pzic_zone_next_locals(const pzic_handle *zone, const pzic_schedule *schedule,
+                                            int64_t *instants, size_t instants_length, size_t *count) {
+    pzic_handle own = *zone;
+    if (instants_length == 0) instants = (int64_t *)pzic_nowhere_();
+    return pzic_raw_zone_next_locals(&own, schedule, instants, instants_length, count);
+}
+
 static inline int32_t pzic_compile(const uint8_t *texts, size_t texts_length, const size_t *lengths,
                                    size_t count, pzic_handle *files, pzic_fault *fault) {
     if (texts_length == 0) texts = (const uint8_t *)pzic_nowhere_();
@@ -903,6 +999,36 @@ static inline int32_t pzic_files_abbreviations(const pzic_handle *files, const u
     if (abbreviations_length == 0) abbreviations = (pzic_abbreviation *)pzic_nowhere_();
     return pzic_raw_files_abbreviations(&own, zones, zones_length, instants, instants_length,
                                         abbreviations, abbreviations_length);
+}
+
+static inline int32_t pzic_files_instants(const pzic_handle *files, uint32_t disambiguation,
+                                          const uint32_t *zones, size_t zones_length,
+                                          const int64_t *locals, size_t locals_length,
+                                          int64_t *instants, size_t instants_length,
+                                          uint8_t *statuses, size_t statuses_length) {
+    pzic_handle zone = PZIC_HANDLE_INIT;
+    size_t start = 0, end = 0, count = locals_length;
+    int32_t status = pzic_files_len(files, &end);
+    if (status != PZIC_OK) return status;
+    if (zones_length != count || instants_length != count || statuses_length != count) return PZIC_LENGTHS;
+    if (disambiguation > PZIC_COMPATIBLE) return PZIC_NO_SUCH;
+    for (; start < count && status == PZIC_OK; start = end) {
+        for (end = start + 1; end < count && zones[end] == zones[start]; end++) {
+        }
+        status = pzic_zone_of(files, zones[start], &zone);
+        if (status == PZIC_OK) {
+            status = pzic_zone_instants_array(&zone, disambiguation, locals + start, end - start,
+                                              instants + start, end - start, statuses + start, end - start);
+        } else if (status == PZIC_NO_SUCH) {
+            for (size_t row = start; row < end; row++) {
+                instants[row] = 0;
+                statuses[row] = PZIC_NO_SUCH;
+            }
+            status = PZIC_OK;
+        }
+    }
+    pzic_free(&zone);
+    return status;
 }
 
 static inline int32_t pzic_rows(const pzic_handle *files, const uint8_t *column, size_t length,

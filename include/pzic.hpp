@@ -77,6 +77,23 @@ enum class disambiguation : std::uint32_t {
     compatible = PZIC_COMPATIBLE
 };
 
+// What to take for a time of day in a gap or in a fold; by skip, none in a gap and the first of a fold.
+enum class policy : std::uint32_t {
+    earlier = PZIC_EARLIER,
+    later = PZIC_LATER,
+    compatible = PZIC_COMPATIBLE,
+    skip = PZIC_SKIP
+};
+
+// A time of day on days of the week.
+struct schedule {
+    // The time of day on the zone's clocks, in seconds since midnight, 0 to 86,399.
+    std::uint32_t seconds;
+    // The sum of some of PZIC_MONDAY and so on.
+    std::uint32_t weekdays = PZIC_EVERY_DAY;
+    pzic::policy policy = pzic::policy::compatible;
+};
+
 // Why a call gave nothing.
 struct error {
     pzic::status status = pzic::status::ok;
@@ -200,7 +217,7 @@ struct offset_array {
 };
 
 // The instants that are meant by local times, and for each a number of pzic::status: ok; or gap, fold,
-// unspecified or out_of_range, by which the instant is 0.
+// unspecified, out_of_range or, of files, no_such, by which the instant is 0.
 struct instant_array {
     std::vector<std::int64_t> instants;
     std::vector<std::uint8_t> statuses;
@@ -306,7 +323,7 @@ public:
     // Returns the instant that is meant by a local time; or status::gap or fold, by disambiguation::reject
     // alone, and unspecified and out_of_range as above.
     result<std::int64_t> instant(std::int64_t local,
-                                 disambiguation choice = disambiguation::compatible) const noexcept {
+                                 disambiguation choice = disambiguation::reject) const noexcept {
         std::int64_t found;
         const std::int32_t answer =
             pzic_zone_instant(handle_.get(), static_cast<std::uint32_t>(choice), local, &found);
@@ -317,7 +334,7 @@ public:
     // Writes the instants that are meant by `count` local times, and the status of each, to arrays of as many.
     pzic::status instant_array(const std::int64_t *locals, std::size_t count, std::int64_t *instants,
                                std::uint8_t *statuses,
-                               disambiguation choice = disambiguation::compatible) const noexcept {
+                               disambiguation choice = disambiguation::reject) const noexcept {
         return static_cast<pzic::status>(
             pzic_zone_instants_array(handle_.get(), static_cast<std::uint32_t>(choice), locals, count, instants,
                                      count, statuses, count));
@@ -325,11 +342,37 @@ public:
 
     // Returns the instants that are meant by local times, with the status of each.
     result<pzic::instant_array> instant_array(const std::vector<std::int64_t> &locals,
-                                              disambiguation choice = disambiguation::compatible) const {
+                                              disambiguation choice = disambiguation::reject) const {
         pzic::instant_array made{std::vector<std::int64_t>(locals.size()), std::vector<std::uint8_t>(locals.size())};
         const pzic::status answer =
             instant_array(locals.data(), locals.size(), made.instants.data(), made.statuses.data(), choice);
         if (answer != pzic::status::ok) return answer;
+        return made;
+    }
+
+    // Returns the least instant after one and up to another at which clocks show the time of day, or that is meant by
+    // it; or status::no_such where there is none, and status::out_of_range where the schedule is none.
+    result<std::int64_t> next_local(const schedule &wanted, std::int64_t after, std::int64_t until) const noexcept {
+        const pzic_schedule asked = asked_of(wanted, after, until);
+        std::int64_t found;
+        const std::int32_t answer = pzic_zone_next_local(handle_.get(), &asked, &found);
+        if (answer != PZIC_OK) return static_cast<pzic::status>(answer);
+        return found;
+    }
+
+    // Returns all of them, in order; or status::out_of_range where the schedule is none.
+    result<std::vector<std::int64_t>> next_locals(const schedule &wanted, std::int64_t after,
+                                                  std::int64_t until) const {
+        pzic_schedule asked = asked_of(wanted, after, until);
+        std::vector<std::int64_t> made;
+        std::int64_t room[64];
+        std::size_t count = 0;
+        do {
+            const std::int32_t answer = pzic_zone_next_locals(handle_.get(), &asked, room, 64, &count);
+            if (answer != PZIC_OK) return static_cast<pzic::status>(answer);
+            made.insert(made.end(), room, room + count);
+            if (count > 0) asked.after = room[count - 1];
+        } while (count == 64);
         return made;
     }
 
@@ -339,6 +382,10 @@ private:
     friend class files;
     friend class tree;
     zone() noexcept = default;
+
+    static pzic_schedule asked_of(const schedule &wanted, std::int64_t after, std::int64_t until) noexcept {
+        return {after, until, wanted.seconds, wanted.weekdays, static_cast<std::uint32_t>(wanted.policy)};
+    }
 
     static result<zone> given(zone made, std::int32_t answer, std::uint32_t why = 0) noexcept {
         if (answer == PZIC_OK) return made;
@@ -491,6 +538,19 @@ public:
         return made;
     }
 
+    // Returns the instants that are meant by local times, each by the file of a number, with the status of each:
+    // no_such where no file has the number; or status::lengths where the numbers aren't as many as the local times.
+    result<pzic::instant_array> instants(const std::vector<std::uint32_t> &zones,
+                                         const std::vector<std::int64_t> &locals,
+                                         disambiguation choice = disambiguation::reject) const {
+        pzic::instant_array made{std::vector<std::int64_t>(locals.size()), std::vector<std::uint8_t>(locals.size())};
+        const std::int32_t answer = pzic_files_instants(
+            handle_.get(), static_cast<std::uint32_t>(choice), zones.data(), zones.size(), locals.data(),
+            locals.size(), made.instants.data(), made.instants.size(), made.statuses.data(), made.statuses.size());
+        if (answer != PZIC_OK) return static_cast<pzic::status>(answer);
+        return made;
+    }
+
     // Returns the abbreviations at instants, each by the file of a number, and NULs where no file has it; or
     // status::lengths where the numbers aren't as many as the instants.
     result<std::vector<pzic_abbreviation>> abbreviations(const std::vector<std::uint32_t> &zones,
@@ -560,8 +620,8 @@ class tree {
 public:
     explicit tree(std::string folder) noexcept : folder_(std::move(folder)) {}
 
-    // Reads the zone of a name; or status::no_such where no file has it or can have it, unreadable, of which
-    // errno says why, bad_file and the reason, and no_memory.
+    // Reads the zone of a name; or status::no_such where no file has it or can have it, unreadable where there is
+    // no such folder or the file can't be read, of which errno says why, bad_file and the reason, and no_memory.
     result<pzic::zone> zone(const std::string &name) const noexcept {
         if (name.find('\0') != std::string::npos) return pzic::status::no_such;
         pzic::zone made;

@@ -35,7 +35,8 @@ enum { PZIC_MOST_BYTES = 1048576 };
  *
  * PZIC_OK          the handle holds the zone
  * PZIC_NO_SUCH     no file of the folder has the name, or none can have it; the handle holds nothing
- * PZIC_UNREADABLE  the file can't be read, and errno says why; the handle holds nothing
+ * PZIC_UNREADABLE  there is no such folder, or the file can't be read, and errno says why; the handle
+ *                  holds nothing
  * PZIC_BAD_FILE    it is no TZif file of version 2 or 3, and *reason is the number of the first check
  *                  that it fails; the handle holds nothing
  * PZIC_NO_MEMORY   the handle holds nothing
@@ -55,6 +56,15 @@ static inline int pzic_is_name_(const char *name) {
         if (name[length] == '\0') return 1;
         name += length + 1;
     }
+}
+
+/* Whether a path leads to a folder; if not, errno says why. */
+static inline int pzic_is_folder_(const char *path) {
+    struct stat about;
+    if (stat(path, &about) != 0) return 0;
+    if (S_ISDIR(about.st_mode)) return 1;
+    errno = ENOTDIR;
+    return 0;
 }
 
 /* Reads a regular file, at most one byte more than a zone has. */
@@ -103,6 +113,7 @@ static inline int32_t pzic_tree_zone(const char *folder, const char *name, pzic_
     path[folder_length] = '/';
     memcpy(path + folder_length + 1, name, name_length + 1);
     status = pzic_load_(path, bytes, &length);
+    if (status == PZIC_NO_SUCH && !pzic_is_folder_(folder)) status = PZIC_UNREADABLE;
     if (status == PZIC_OK) status = pzic_zone_read(bytes, length, zone, reason);
     why = errno;
     free(bytes);

@@ -78,5 +78,5 @@ is_pure = bool(os.environ.get("PZIC_PURE_PYTHON"))
 setup(
     cmdclass={"build_py": BuildWithLibrary, "sdist": SdistWithSources, "bdist_wheel": WheelOfMachine},
     distclass=WithLibrary,
-    ext_modules=[] if is_pure else [Extension("pzic._fast", ["pzic/_fast.c"], optional=True)],
+    ext_modules=[] if is_pure else [Extension("pzic._fast", ["pzic/_fast.c"], depends=["pzic/_fast_rows.h"], optional=True)],
 )

@@ -312,10 +312,10 @@ static void pzic_instant(sqlite3_context *context, int count, sqlite3_value **va
     known_zone *known = find(context, function, values[0]);
     if (known == NULL) return;
     const char *text = (const char *)sqlite3_value_text(values[1]);
-    const char *word = count > 2 ? (const char *)sqlite3_value_text(values[2]) : "compatible";
+    const char *word = count > 2 ? (const char *)sqlite3_value_text(values[2]) : "reject";
     int choice = choice_of(word);
     if (choice < 0) {
-        fail(context, function, "compatible, earlier, later or reject is wanted", word ? word : "");
+        fail(context, function, "reject, earlier, later or compatible is wanted", word ? word : "");
         return;
     }
     if (text == NULL || !read_local(text, sqlite3_value_bytes(values[1]), &local)) {

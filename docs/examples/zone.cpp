@@ -12,9 +12,9 @@ int main() {
     // 2024-04-01 00:30 on the zone's clocks.
     auto found = zone->instants(1711931400);
     if (found && found->count == 0) std::cout << "a gap at " << found->change << '\n';
-    std::cout << zone->instant(1711931400).value_or(0) << '\n';
+    std::cout << zone->instant(1711931400, pzic::disambiguation::compatible).value_or(0) << '\n';
     // Why there is no instant.
-    if (zone->instant(1711931400, pzic::disambiguation::reject).status() == pzic::status::gap) std::cout << "refused\n";
+    if (zone->instant(1711931400).status() == pzic::status::gap) std::cout << "refused\n";
     auto none = pzic::zone::read("no file");
     if (!none) std::cout << name_of(none.error().reason) << '\n';
     // Arrays, with flags.

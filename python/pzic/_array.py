@@ -9,7 +9,7 @@ from typing import Any, List, NamedTuple, Tuple
 from pzic import _calls as calls
 from pzic import _library as c
 from pzic._errors import NoInstant
-from pzic._given import PER_SECOND, Given, take
+from pzic._given import PER_SECOND, Given, take, type_of
 from pzic._handle import Owned
 from pzic._words import AMBIGUOUS
 
@@ -51,22 +51,34 @@ def convert_array(owned: Owned, instants: Any, offsets: Any, flags: Any) -> Tupl
 
 
 def instant_array(
-    owned: Owned, ambiguous: str, locals: Any, instants: Any, statuses: Any, errors: str
+    owned: Owned, ambiguous: str, locals: Any, instants: Any, statuses: Any, coerce: bool
 ) -> Tuple[Any, Any]:
     """Tell the instants of local times by a zone, as :meth:`Zone.instant_array` tells."""
     given = take(locals, "local times", are_local=True)
     if instants is not None and given.rest is not None:
         raise ValueError("local times have fractions of a second, and the array for instants has none")
+    made, marks = meant(owned, ambiguous, given, instants, statuses)
+    times = finish(given if instants is None else given._replace(unit=None), made, marks, coerce)
+    return _answer(given, instants, times), _answer(given, statuses, marks)
+
+
+def meant(owned: Owned, ambiguous: str, given: Given, instants: Any = None, statuses: Any = None) -> Tuple[Any, Any]:
+    """Return the instants of local times by a zone, and their statuses, also of missing ones."""
     rooms = _Room("instants", "int64", instants), _Room("statuses", "uint8", statuses)
     made, marks = _tell(calls.zone_instants_array, owned, given.seconds, rooms, AMBIGUOUS[ambiguous])
     if given.folded is not None:
         _write_folded(owned, ambiguous, given, made, marks)
+    return made, marks
+
+
+def finish(given: Given, made: Any, marks: Any, coerce: bool) -> Any:
+    """Return instants as they came: seconds, or dates and times. Write which are missing, and unless they are told by
+    their statuses, raise the error of the first without an instant."""
     if given.missing is not None:
         _write_missing(given.missing, made, marks, UNSPECIFIED)
-    if errors == "raise":
+    if not coerce:
         _raise_first(given, marks)
-    times = _times(given, made, marks) if instants is None and given.unit else made
-    return _answer(given, instants, times), _answer(given, statuses, marks)
+    return _times(given, made, marks) if given.unit else made
 
 
 def _tell(call: calls.Ask, owned: Owned, seconds: Any, rooms: Tuple[_Room, _Room], choice: int = -1) -> Tuple[Any, Any]:
@@ -99,9 +111,13 @@ def _times(given: Given, seconds: Any, statuses: Any) -> Any:
     return times
 
 
+#: The most seconds that have room in each unit, either way.
+_MOST_SECONDS = {unit: (2**63 - 1) // count - 1 for unit, count in PER_SECOND.items()}
+
+
 def most_seconds(given: Given) -> int:
     """Return the most seconds that have room in the unit that came, either way."""
-    return (2**63 - 1) // PER_SECOND[given.unit or "s"] - 1
+    return _MOST_SECONDS[given.unit or "s"]
 
 
 def with_rest(given: Given, seconds: Any) -> Any:
@@ -110,7 +126,7 @@ def with_rest(given: Given, seconds: Any) -> Any:
     counts = seconds if unit == "s" else seconds * PER_SECOND[unit]
     if given.rest is not None:
         counts += given.rest
-    return counts.view(f"datetime64[{unit}]")
+    return counts.view(type_of(unit))
 
 
 def _write_folded(owned: Owned, ambiguous: str, given: Given, instants: Any, statuses: Any) -> None:

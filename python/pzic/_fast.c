@@ -1,5 +1,5 @@
-/* The classes of _cache.py and the functions of _calls.py in C, with the same answers. What isn't cached yet, the classes look
-   up in their subclasses. The functions are given the addresses of the library's calls. */
+/* The classes of _cache.py and the functions of _calls.py in C, with the same answers. What isn't cached yet, the
+   classes look up in their subclasses. The functions are given the addresses of the library's calls. */
 #define PY_SSIZE_T_CLEAN
 #include <Python.h>
 #include <datetime.h>
@@ -600,6 +600,8 @@ static PyObject *fast_ask(PyObject *module, PyObject *const *words, Py_ssize_t n
     Py_RETURN_NONE;
 }
 
+#include "_fast_rows.h"
+
 #define BY_PLACE(call) (PyCFunction)(void (*)(void))(call), METH_FASTCALL
 
 static PyMethodDef module_functions[] = {
@@ -607,6 +609,8 @@ static PyMethodDef module_functions[] = {
     {"local_time", BY_PLACE(fast_local_time), PyDoc_STR("Return what a call tells of a local time, or None.")},
     {"meant", BY_PLACE(fast_meant), PyDoc_STR("Return the instant of a local time, and its status.")},
     {"ask", BY_PLACE(fast_ask), PyDoc_STR("Have a call read and write arrays.")},
+    {"numbers", BY_PLACE(fast_numbers), PyDoc_STR("Write the number of each name.")},
+    {"rows", BY_PLACE(fast_rows), PyDoc_STR("Write local time of rows.")},
     {NULL, NULL, 0, NULL},
 };
 

@@ -4,6 +4,7 @@ from __future__ import annotations
 
 import array
 import datetime
+from functools import lru_cache
 from operator import index
 from typing import Any, List, NamedTuple, Optional
 
@@ -31,6 +32,12 @@ class Given(NamedTuple):
     folded: Any = None
     #: Whether it is a single time.
     is_one: bool = False
+
+
+def some(given: Given, rows: Any) -> Given:
+    """Return the times of some rows, missing ones as 0."""
+    folded = None if given.folded is None else given.folded[rows]
+    return Given(given.seconds[rows], folded=folded if folded is not None and folded.any() else None)
 
 
 def take(values: Any, what: str, are_local: bool = False) -> Given:
@@ -86,13 +93,14 @@ def _by_numpy(values: Any, what: str, are_local: bool) -> Given:
     elif kind is not None and not isinstance(kind, numpy.dtype) and kind.kind in "iuf":
         missing = numpy.asarray(values.isna())
         values = values.to_numpy({"i": "int64", "u": "uint64", "f": "float64"}[kind.kind], na_value=0)
-    made = numpy.asarray(values)
+    # What pandas holds in an array of numpy's is quicker to have from it.
+    made = numpy.asarray(values if kind is None else getattr(values, "values", values))
     if made.ndim > 1:
         raise TypeError(f"{what} have {made.ndim} dimensions: wanted is one")
-    given = _of_kind(made.reshape(made.size), what, are_local)
+    given = _of_kind(made if made.ndim else made.reshape(1), what, are_local)
     if missing is not None and missing.any():
         given = given._replace(missing=missing if given.missing is None else missing | given.missing)
-    return given._replace(is_one=made.ndim == 0)
+    return given if made.ndim else given._replace(is_one=True)
 
 
 def _of_kind(values: Any, what: str, are_local: bool) -> Given:
@@ -130,20 +138,36 @@ def _of_times(values: Any, what: str) -> Given:
     """Return the times of a numpy array of ``datetime64``."""
     import numpy
 
-    unit = numpy.datetime_data(values.dtype)[0]
-    unit = unit if unit in PER_SECOND else "s"
-    times = numpy.ascontiguousarray(values, f"datetime64[{unit}]")
+    unit = _unit_of(values.dtype)
+    times = numpy.ascontiguousarray(values, type_of(unit))
     missing = numpy.isnat(times)
-    some = missing if missing.any() else None
-    if times.dtype != values.dtype and (times.astype(values.dtype) != values)[~missing].any():
+    some = missing if numpy.count_nonzero(missing) else None
+    if times is not values and times.dtype != values.dtype and (times.astype(values.dtype) != values)[~missing].any():
         raise OverflowError(f"{what} have 64 bits with a sign")
-    counts = times.view("int64")
+    counts = times.view(numpy.int64)
     if some is not None:
         counts = numpy.where(missing, 0, counts)
     if unit == "s":
         return Given(counts, some, unit)
     seconds, rest = numpy.divmod(counts, PER_SECOND[unit])
-    return Given(seconds, some, unit, rest if rest.any() else None)
+    return Given(seconds, some, unit, rest if numpy.count_nonzero(rest) else None)
+
+
+@lru_cache(maxsize=64)
+def _unit_of(kind: Any) -> str:
+    """Return the unit in which times of a type of numpy are read."""
+    import numpy
+
+    unit: str = numpy.datetime_data(kind)[0]
+    return unit if unit in PER_SECOND else "s"
+
+
+@lru_cache(maxsize=16)
+def type_of(unit: str) -> Any:
+    """Return numpy's type of times in a unit."""
+    import numpy
+
+    return numpy.dtype(f"datetime64[{unit}]")
 
 
 def is_missing(value: Any) -> bool:

@@ -15,12 +15,14 @@ _EPOCH = datetime.datetime(1970, 1, 1)
 _DAY = 86400
 #: The days after which the calendar repeats, with its weekdays.
 _CYCLE = 146097 * _DAY
-#: The start of the year 1601, and the last second of which an RRULE is looked at, in the year 9500.
+#: The start of the year 1601, and that of 9500: 400 years after it have years of four digits.
 SINCE = -11644473600
-_LATEST = 237637497600
+_LATEST = 237623846400
 _WEEKDAYS = ("SU", "MO", "TU", "WE", "TH", "FR", "SA")
 #: The most bytes of a line.
 _LINE = 75
+#: The control characters: RFC 5545, 3.1.
+_CONTROL = re.compile(r"[\x00-\x1f\x7f]")
 
 
 class _Onset(NamedTuple):
@@ -59,7 +61,8 @@ class _Days(NamedTuple):
         if self.month:
             parts.append(f"BYMONTH={self.month}")
         week = (self.numbers[0] + 6) // 7
-        if self.month and self.weekday is not None and self.numbers == tuple(range(7 * week - 6, 7 * week + 1)):
+        weeks = self.month and self.weekday is not None and self.numbers[0] > 0
+        if weeks and self.numbers == tuple(range(7 * week - 6, 7 * week + 1)):
             return ";".join([*parts, f"BYDAY={week}{weekday}"])
         if self.month and self.weekday is not None and self.numbers == tuple(range(-7, 0)):
             return ";".join([*parts, f"BYDAY=-1{weekday}"])
@@ -71,7 +74,9 @@ def vtimezone(zone: Zone, since: int, until: Optional[int], key: str) -> str:
     """Return the component of a zone: its observances from ``since``, up to just before ``until`` or for ever."""
     if until is not None and until <= since:
         raise ValueError("the end isn't after the start")
-    last = max(_last_transition(zone.data), since)
+    if not key or _CONTROL.search(key):
+        raise ValueError("a TZID isn't empty, and has no control characters")
+    last = max(_last_transition(zone.data, since), since)
     stop = last + 1 if until is None else until
     listed = [_onset(zone, since), *_onsets(zone, since + 1, stop)]
     lines = ["BEGIN:VTIMEZONE", f"TZID:{_escaped(key)}"]
@@ -126,14 +131,14 @@ def _alike(onsets: List[_Onset]) -> List[List[_Onset]]:
     return list(made.values())
 
 
-def _last_transition(data: bytes) -> int:
-    """Return the last transition that a TZif file has, or else the start of 1601."""
+def _last_transition(data: bytes, since: int) -> int:
+    """Return the last transition that a TZif file has, or else this instant."""
     # The first block is that of version 1: RFC 9636, 3.1 and 3.2.
     utc, standard, leaps, transitions, types, letters = struct.unpack_from(">6L", data, 20)
     start = 44 + 5 * transitions + 6 * types + letters + 8 * leaps + standard + utc
     count = struct.unpack_from(">L", data, start + 32)[0]
     if count == 0:
-        return SINCE
+        return since
     last: int = struct.unpack_from(">q", data, start + 44 + 8 * (count - 1))[0]
     return last
 
@@ -246,7 +251,7 @@ def _offset(seconds: int) -> str:
 
 def _escaped(text: str) -> str:
     """Return a text as a value has it: RFC 5545, 3.3.11."""
-    return re.sub(r"([\\;,])", r"\\\1", text).replace("\n", "\\n")
+    return re.sub(r"([\\;,])", r"\\\1", text)
 
 
 def _folded(line: str) -> str:

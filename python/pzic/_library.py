@@ -51,6 +51,18 @@ class CLocalTime(ctypes.Structure):
     )
 
 
+class CSchedule(ctypes.Structure):
+    """``pzic_schedule``: a time of day on days of the week, and the time in which it is looked for."""
+
+    _fields_ = (
+        ("after", ctypes.c_int64),
+        ("until", ctypes.c_int64),
+        ("seconds", ctypes.c_uint32),
+        ("weekdays", ctypes.c_uint32),
+        ("policy", ctypes.c_uint32),
+    )
+
+
 class CFault(ctypes.Structure):
     """``pzic_fault``: the first fault of a source."""
 
@@ -158,6 +170,10 @@ zone_instants = declare(
 )
 zone_instants_array = declare(
     long, "pzic_raw_zone_instants_array", _HANDLE, ctypes.c_uint32, *_ARRAY, *_ARRAY, *_ARRAY
+)
+zone_next_local = declare(short, "pzic_raw_zone_next_local", _HANDLE, ctypes.POINTER(CSchedule), _INSTANT)
+zone_next_locals = declare(
+    short, "pzic_raw_zone_next_locals", _HANDLE, ctypes.POINTER(CSchedule), _INSTANT, _SIZE, _COUNT
 )
 compile_texts = declare(
     long, "pzic_raw_compile", *_TEXT, _COUNT, _SIZE, _HANDLE, ctypes.POINTER(CFault)

@@ -74,7 +74,8 @@ class TimeZone(Years):
     Of each class, one object has the same bytes of a file and the same name, so dates and times of
     one zone are compared and subtracted as they are shown, also once they were copied or pickled.
 
-    pandas shows UT where it is given one, or raises: it knows :class:`ZoneInfo`.
+    pandas doesn't know it: columns of its datetimes are of objects, and other calls raise :class:`TypeError`. But
+    ``tz_convert`` of a ``Timestamp`` or an index gives UT: give pandas a :class:`ZoneInfo`.
     """
 
     __module__ = "pzic"
@@ -123,6 +124,11 @@ class TimeZone(Years):
     def to_zoneinfo(self) -> ZoneInfo:
         """Return the :class:`ZoneInfo` of the same file and name, which pandas knows."""
         return self._zone.to_zoneinfo(self._key)
+
+    @property
+    def _utcoffset(self) -> timedelta:
+        # pandas asks a zone for this first, and takes one that it doesn't know for one of a fixed UT offset.
+        raise TypeError("pandas doesn't know a pzic.TimeZone: give it its to_zoneinfo(), or Tree.zoneinfo(name)")
 
     def _parts(self, kind: int, year: int) -> Parts:
         """Return the parts of a year, with the answer in each."""

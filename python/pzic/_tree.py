@@ -13,14 +13,14 @@ from types import MappingProxyType
 from typing import TYPE_CHECKING, Any, Dict, Iterable, Iterator, List, Mapping, Optional, Sequence, Tuple, Type, TypeVar, Union
 
 from pzic import _library as c
-from pzic._columns import NO_FILE, Columns, convert_columns
+from pzic._columns import NO_FILE, Columns, convert_columns, instant_columns
 from pzic._diff import DiffOptions, diff
 from pzic._errors import BadFile, BadName, BadSource, NoSuchZone
 from pzic._handle import Owned, bytes_of
 from pzic._progress import Progress
 from pzic._rows import Layout, Rows, fault_name, rows_by, takes_words_of, text_by, text_of_column, words_of_rows
 from pzic._timezone import TimeZone
-from pzic._words import Errors, Part, word_of
+from pzic._words import AMBIGUOUS, ERRORS, Ambiguous, Errors, Part, number_of
 from pzic._zone import Zone, zone_named
 
 if TYPE_CHECKING:
@@ -103,7 +103,28 @@ class _Zones(Mapping[str, Zone]):
         have no local time, and ``statuses`` tell why. ``progress`` is told how many more rows are done, every
         65,536 rows: a function, or what has a method ``update``, as ``tqdm``. Needs numpy.
         """
-        return convert_columns(self, names, instants, word_of(errors, Errors, "errors"), progress)
+        return convert_columns(self, names, instants, bool(number_of(errors, ERRORS, "errors")), progress)
+
+    def instant_columns(
+        self,
+        names: Any,
+        locals: Any,
+        ambiguous: Ambiguous = "reject",
+        errors: Errors = "raise",
+        progress: Progress = None,
+    ) -> Tuple[Any, Any]:
+        """Return the instant that is meant by each of many local times, with a zone for each, and its status.
+
+        ``names`` are those of :meth:`convert_columns`, and ``locals`` and ``ambiguous`` those of
+        :meth:`Zone.instant_array`. Instants are ``datetime64`` in the unit that came, or else seconds (``int64``), and
+        statuses are those of :meth:`Zone.instant_array`, or :data:`NO_ZONE` (``uint8``). Raises
+        :class:`NoSuchZone` for the first name that no file has or that is missing, with its row, and then
+        :class:`NoInstant` or :class:`OverflowError` for the first local time that isn't missing and has no instant;
+        by the ``errors`` ``"coerce"`` such rows have the instant 0 or ``NaT``, and their statuses tell why.
+        ``progress`` is told how many more rows are done, after those of each zone. Needs numpy.
+        """
+        number_of(ambiguous, AMBIGUOUS, "ambiguous")
+        return instant_columns(self, names, locals, ambiguous, bool(number_of(errors, ERRORS, "errors")), progress)
 
     def diff(
         self,
@@ -128,7 +149,7 @@ class _Zones(Mapping[str, Zone]):
         """Raise :class:`NoSuchZone` if no zone has the name."""
         return self[name]
 
-    def _numbers(self, names: List[str]) -> Tuple[Owned, Mapping[Any, int]]:
+    def _numbers(self, names: Iterable[str]) -> Tuple[Owned, Mapping[Any, int]]:
         """Return files, and the number of each name that is known so far and of these, or ``NO_FILE`` where
         the files haven't the zone's."""
         raise NotImplementedError
@@ -164,8 +185,10 @@ class _InMemory(_Zones):
     def _require(self, name: Any) -> object:
         return self._number(name)
 
-    def _numbers(self, names: List[str]) -> Tuple[Owned, Mapping[Any, int]]:
-        self._known.update((name, self._number(name)) for name in names)
+    def _numbers(self, names: Iterable[str]) -> Tuple[Owned, Mapping[Any, int]]:
+        for name in names:
+            if name not in self._known:
+                self._known[name] = self._number(name)
         return self._owned, self._known
 
     @takes_words_of(words_of_rows)
@@ -351,11 +374,12 @@ class Tree(_Zones):
         data = self._read(name)
         return zone_named(data, name, (zone_of_folder, (self._folder, name, checksum(data))))
 
-    def _numbers(self, names: List[str]) -> Tuple[Owned, Mapping[Any, int]]:
+    def _numbers(self, names: Iterable[str]) -> Tuple[Owned, Mapping[Any, int]]:
         files, known = self._of_columns
-        if names or files is None:
-            files = self.files([*known, *names])
-            known = {name: NO_FILE if name in files.left_out else files._number(name) for name in [*known, *names]}
+        new = [name for name in names if name not in known]
+        if new or files is None:
+            files = self.files([*known, *new])
+            known = {name: NO_FILE if name in files.left_out else files._number(name) for name in [*known, *new]}
             self._of_columns = files, known
         return files._owned, known
 

@@ -2,7 +2,7 @@
 
 from __future__ import annotations
 
-from typing import Any, Dict, Literal, get_args
+from typing import Dict, Literal, Tuple
 
 #: What to take for a local time in a gap or in a fold.
 Ambiguous = Literal["reject", "earlier", "later", "compatible"]
@@ -20,13 +20,22 @@ Quotes = Literal["strict", "lenient"]
 Part = Literal["daylight", "abbreviation"]
 #: What becomes of a row that has no answer.
 Errors = Literal["raise", "coerce"]
+#: What to take for a time of day in a gap or in a fold.
+Policy = Literal["compatible", "earlier", "later", "skip"]
+#: A day of the week.
+Weekday = Literal["mon", "tue", "wed", "thu", "fri", "sat", "sun"]
 
 #: The numbers of the words, as the library has them.
 AMBIGUOUS: Dict[str, int] = {"reject": 0, "earlier": 1, "later": 2, "compatible": 3}
+POLICIES: Dict[str, int] = {"compatible": 3, "earlier": 1, "later": 2, "skip": 4}
+ERRORS: Dict[str, int] = {"raise": 0, "coerce": 1}
 UNITS: Dict[str, int] = {"s": 0, "ms": 1, "us": 2, "ns": 3}
 RECORDS: Dict[str, int] = {"csv": 0, "lines": 1}
 STYLES: Dict[str, int] = {"fields": 0, "iso": 1}
 QUOTES: Dict[str, int] = {"strict": 0, "lenient": 1}
+
+#: The days of the week, in the order of their bits.
+WEEKDAYS: Tuple[Weekday, ...] = ("mon", "tue", "wed", "thu", "fri", "sat", "sun")
 
 
 def number_of(word: str, numbers: Dict[str, int], what: str) -> int:
@@ -35,10 +44,3 @@ def number_of(word: str, numbers: Dict[str, int], what: str) -> int:
     if number is None:
         raise ValueError(f"no {what} {word!r}: it is one of {', '.join(numbers)}")
     return number
-
-
-def word_of(word: str, kind: Any, what: str) -> str:
-    """Return a word that a type has, or raise :class:`ValueError`."""
-    if word not in get_args(kind):
-        raise ValueError(f"no {what} {word!r}: it is one of {', '.join(get_args(kind))}")
-    return word

@@ -5,7 +5,7 @@ from __future__ import annotations
 import ctypes
 import datetime
 from operator import index
-from typing import TYPE_CHECKING, Any, Callable, List, NamedTuple, Optional, Tuple, Union
+from typing import TYPE_CHECKING, Any, Callable, Iterable, Iterator, List, NamedTuple, Optional, Tuple, Union
 
 from pzic import _calls as calls
 from pzic import _library as c
@@ -14,8 +14,9 @@ from pzic._errors import BadFile, NoInstant
 from pzic._handle import Owned, bytes_of
 from pzic._ics import SINCE, vtimezone
 from pzic._cache import Spans
+from pzic._schedule import Moment, TimeOfDay, next_local, schedule
 from pzic._timezone import TimeZone
-from pzic._words import AMBIGUOUS, Ambiguous, Errors, number_of, word_of
+from pzic._words import AMBIGUOUS, ERRORS, WEEKDAYS, Ambiguous, Errors, Policy, Weekday, number_of
 
 if TYPE_CHECKING:
     from pzic._zoneinfo import ZoneInfo
@@ -173,6 +174,39 @@ class Zone(Spans):
             first = made[-1] if made else first
         return made
 
+    def next_local(
+        self,
+        after: Moment,
+        time: TimeOfDay,
+        weekdays: Iterable[Weekday] = WEEKDAYS,
+        policy: Policy = "compatible",
+        until: Optional[Moment] = None,
+    ) -> Optional[Moment]:
+        """Return the next instant after another at which clocks show a time of day, or ``None`` where there is none up to
+        ``until``, by default within 366 days.
+
+        Instants are seconds from 1970, or where ``after`` is a datetime with a tzinfo, datetimes in the zone. ``time`` is
+        ``"HH:MM"``, ``"HH:MM:SS"`` or a :class:`datetime.time`, and ``weekdays`` are some of ``"mon"`` to
+        ``"sun"``, by the date on the clocks. In a gap and in a fold the policies ``"earlier"``, ``"later"`` and
+        ``"compatible"``, which RFC 5545 has, take what :meth:`instant` does; ``"skip"`` leaves out a day
+        on which clocks pass over the time, and takes the first of a fold. The ``fold`` of ``time`` doesn't count.
+        """
+        return next_local(self, after, time, weekdays, policy, until)
+
+    def schedule(
+        self,
+        time: TimeOfDay,
+        weekdays: Iterable[Weekday] = WEEKDAYS,
+        *,
+        after: Moment,
+        until: Optional[Moment] = None,
+        policy: Policy = "compatible",
+    ) -> Iterator[Moment]:
+        """Return an iterator of all these instants, in order: the first is that of :meth:`next_local`, and each other one is
+        the next after the one before. It ends at ``until``, or where there is none within 366 days.
+        """
+        return schedule(self, time, weekdays, after, until, policy)
+
     def vtimezone(self, since: int = SINCE, until: Optional[int] = None, key: Optional[str] = None) -> str:
         """Return the zone as a component ``VTIMEZONE`` of iCalendar (RFC 5545), with ``\\r\\n`` at the ends of lines.
 
@@ -180,7 +214,7 @@ class Zone(Spans):
         ``until``, each by its date. By ``None`` they go on for ever: after the last transition of the file by
         an RRULE for each rule of its TZ string, whose days were compared with all changes of 400 years.
         ``key`` is the TZID, by default the zone's name. Raises :class:`ValueError` where the file leaves local
-        time open, or no RRULE says what the TZ string does.
+        time open, no RRULE says what the TZ string does, or ``key`` has a control character.
         """
         name = key or self._key
         if name is None:
@@ -254,7 +288,8 @@ class Zone(Spans):
         instant raises :class:`NoInstant` with its row, or :class:`OverflowError`.
         """
         number_of(ambiguous, AMBIGUOUS, "ambiguous")
-        return instant_array(self._owned, ambiguous, locals, instants, statuses, word_of(errors, Errors, "errors"))
+        coerce = bool(number_of(errors, ERRORS, "errors"))
+        return instant_array(self._owned, ambiguous, locals, instants, statuses, coerce)
 
     def convert_array(
         self, instants: Any, offsets: Any = None, flags: Any = None

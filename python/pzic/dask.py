@@ -15,10 +15,11 @@ import re
 import sys
 from typing import Any, Dict, List, NamedTuple, Optional, Sequence, Tuple, Union
 
-from pzic import Compiled, Files, Tree, __version__
+from pzic import DAYLIGHT, Compiled, Files, Tree, __version__
 from pzic._progress import Progress, teller
 from pzic._rows import Layout
 from pzic._tree import checksum
+from pzic._words import Ambiguous, Errors
 
 _Zones = Union[Tree, Compiled]
 
@@ -263,15 +264,38 @@ def convert(
     return _report(names, jobs, done, into, made, sent.digest)
 
 
-def add_local(frame: Any, zones: Union[_Zones, Files], names: str = "zone", instants: str = "instant") -> Any:
-    """Return a Dask frame with the columns ``offset``, ``local``, ``daylight`` and ``abbreviation`` added, by its
-    columns of zones' names and of instants. Workers are sent what :func:`convert` sends them, and all bytes of
-    :class:`pzic.Files`."""
-    meta = frame._meta.assign(
-        offset=0, local=_nothing("datetime64[ns]"), daylight=False, abbreviation=_nothing("object")
-    )
-    sent = _dask.delayed(zones if isinstance(zones, Files) else _sent(zones), traverse=False)
-    return frame.map_partitions(_with_local, sent, names, instants, meta=meta)
+def add_local(
+    frame: Any,
+    zones: Union[_Zones, Files],
+    names: str = "zone",
+    instants: str = "instant",
+    errors: Errors = "raise",
+) -> Any:
+    """Return a Dask frame with the columns ``offset``, ``local``, ``daylight``, ``abbreviation`` and ``status`` added, by
+    its columns of zones' names and of instants, as :meth:`pzic.Tree.convert_columns` tells them. Workers are sent what
+    :func:`convert` sends them, and all bytes of :class:`pzic.Files`."""
+    added = {"offset": 0, "local": _nothing("datetime64[ns]"), "daylight": False, "abbreviation": _nothing("object")}
+    meta = frame._meta.assign(**added, status=_nothing("uint8"))
+    return frame.map_partitions(_with_local, _sent_of(zones), names, instants, errors, meta=meta)
+
+
+def add_instant(
+    frame: Any,
+    zones: Union[_Zones, Files],
+    names: str = "zone",
+    locals: str = "local",
+    ambiguous: Ambiguous = "reject",
+    errors: Errors = "raise",
+) -> Any:
+    """Return a Dask frame with the columns ``instant`` and ``status`` added, by its columns of zones' names and of local
+    times, as :meth:`pzic.Tree.instant_columns` tells them. Workers are sent what :func:`add_local` sends them."""
+    kind = "datetime64[ns]" if frame._meta[locals].dtype.kind in "MO" else "int64"
+    meta = frame._meta.assign(instant=_nothing(kind), status=_nothing("uint8"))
+    return frame.map_partitions(_with_instant, _sent_of(zones), names, locals, ambiguous, errors, kind, meta=meta)
+
+
+def _sent_of(zones: Union[_Zones, Files]) -> Any:
+    return _dask.delayed(zones if isinstance(zones, Files) else _sent(zones), traverse=False)
 
 
 def _nothing(kind: str) -> Any:
@@ -279,17 +303,27 @@ def _nothing(kind: str) -> Any:
     return pandas.Series([], dtype=kind)
 
 
-def _with_local(frame: Any, sent: Union[_Sent, Files], names: str, instants: str) -> Any:
+def _with_local(frame: Any, sent: Union[_Sent, Files], names: str, instants: str, errors: Errors) -> Any:
     zones = sent if isinstance(sent, Files) else _zones(sent)
     # What came from another worker may not be aligned: a copy is.
     own = frame[[names, instants]].copy()
-    columns = zones.convert_columns(own[names], own[instants])
+    columns = zones.convert_columns(own[names], own[instants], errors)
     return frame.assign(
         offset=columns.offsets.astype("int64"),
         local=columns.local.astype("datetime64[ns]"),
-        daylight=columns.flags == 1,
+        daylight=columns.flags == DAYLIGHT,
         abbreviation=columns.abbreviations.astype("object"),
+        status=columns.statuses,
     )
+
+
+def _with_instant(
+    frame: Any, sent: Union[_Sent, Files], names: str, locals: str, ambiguous: Ambiguous, errors: Errors, kind: str
+) -> Any:
+    zones = sent if isinstance(sent, Files) else _zones(sent)
+    own = frame[[names, locals]].copy()
+    made, statuses = zones.instant_columns(own[names], own[locals], ambiguous, errors)
+    return frame.assign(instant=made.astype(kind), status=statuses)
 
 
 def offsets(zone: Any, instants: Any) -> Any:

@@ -1,8 +1,8 @@
-"""Tests VTIMEZONE components: `calendars.py TREE`.
+"""Tests VTIMEZONE components: `calendars.py TREE PROGRAM`.
 
 Reads those of all zones of a tree, and of TZ strings of many kinds, by icalendar with dateutil and by libical, and compares them with
 the library, and those of the tree with zoneinfo too, at every change, from 1601 on, and a second before: for each TZ string up to 400
-years after the last transition.
+years after the last transition. The program must print the same components.
 """
 
 import bisect
@@ -13,7 +13,10 @@ import io
 import random
 import re
 import struct
+import subprocess
 import sys
+import tempfile
+from pathlib import Path
 from zoneinfo import ZoneInfo
 
 import dateutil.rrule
@@ -40,6 +43,8 @@ AAA1BBB,M2.4.0/30,M9.1.0/-30
 AAA1BBB,M2.4.3/24,M9.4.6/167
 AAA1BBB,M2.5.0/49,M8.5.0/-49
 AAA1BBB,M3.1.0/-1,M10.1.1/-167
+AAA1BBB,M3.5.0/-130,M10.5.3/-160
+AAA1BBB,M1.1.6/-150,M8.4.2/140
 AAA1BBB,M12.5.0/100,M6.1.0/-100
 AAA1BBB,M1.1.0/-50,M7.5.6/167
 AAA1BBB,J59/24,J300
@@ -159,6 +164,59 @@ def compare(zone, name, since=SINCE, until=None, after=CYCLE):
     return len(instants)
 
 
+def at_start(year):
+    """Return the instant at which a year starts in UT."""
+    return round((datetime.datetime(year, 1, 1) - NAIVE).total_seconds())
+
+
+def printed(file, name, *years):
+    """Return the status of the program, and the component that it prints of a file from one year, or up to another."""
+    words = [word for option, year in zip(("--since", "--until"), years) for word in (option, str(year))]
+    ended = subprocess.run([sys.argv[2], "export", "--ics", "--name", name, *words, file], capture_output=True, check=False)
+    return ended.returncode, ended.stdout.decode()
+
+
+def compare_printed(zone, file, name, *years):
+    """Compare what the program prints with what the library makes."""
+    wanted = zone.vtimezone(*map(at_start, years), key=name)
+    assert printed(file, name, *years) == (0, wanted), (name, years)
+    unfolded(wanted)
+
+
+def compare_program(tree, names):
+    """Compare the components of the program with those of the library, and return how many."""
+    counted = 0
+    for name in names:
+        first = random.randrange(2, 9999)
+        for years in [(), (random.randrange(2, 9400),), (first, random.randrange(first + 1, 10000))]:
+            compare_printed(tree[name], f"{sys.argv[1]}/{name}", name, *years)
+            counted += 1
+    with tempfile.TemporaryDirectory() as folder:
+        file = Path(folder, "file")
+        for footer in FOOTERS + shifted():
+            file.write_bytes(tzif(footer))
+            zone = pzic.Zone(file.read_bytes())
+            for name in [f"Test: {footer}", "Zürich " * 20 + "A;B,C\\"]:
+                compare_printed(zone, str(file), name)
+                counted += 1
+        file.write_bytes(tzif("AAA0BBB,100,365"))
+        assert printed(str(file), "Test")[0] != 0
+    dublin = f"{sys.argv[1]}/Europe/Dublin"
+    assert all(printed(dublin, name)[0] != 0 for name in ("", "A\nB", "A\x7f"))
+    return counted
+
+
+def shifted():
+    """Return TZ strings whose rules name days of a month up to a week before or after."""
+    made = []
+    for hours in range(-167, 168, 24):
+        for week in (1, 2, 3, 4, 5):
+            month = random.randrange(1, 13)
+            other = (month + 5) % 12 + 1
+            made.append(f"AAA1BBB,M{month}.{week}.{random.randrange(7)}/{hours},M{other}.{6 - week}.{random.randrange(7)}/{-hours}")
+    return made
+
+
 def refused(call, *words):
     try:
         call(*words)
@@ -177,8 +235,9 @@ def main():
         counted += compare(tree[name], name, after=400 * 86400 if footer in footers else CYCLE)
         footers.add(footer)
     print(f"calendars: {len(names)} zones at {counted} instants, as icalendar and libical read them")
-    counted = sum(compare(pzic.Zone(tzif(footer)), f"Test: {footer}") for footer in FOOTERS)
-    print(f"calendars: {len(FOOTERS)} TZ strings at {counted} instants")
+    footers = FOOTERS + random.sample(shifted(), 8)
+    counted = sum(compare(pzic.Zone(tzif(footer)), f"Test: {footer}") for footer in footers)
+    print(f"calendars: {len(footers)} TZ strings at {counted} instants")
     for name in ("Europe/Dublin", "America/New_York", "Asia/Tokyo", "Africa/Casablanca", "Asia/Gaza"):
         for _ in range(4):
             since = random.randrange(-2**31, 2**32)
@@ -194,7 +253,9 @@ def main():
     refused(dublin.vtimezone, 5, 5)
     refused(lambda: pzic.Zone(tzif("AAA0BBB,100,365")).vtimezone(key="Test"))
     refused(pzic.Zone(dublin.data).vtimezone)
+    refused(dublin.vtimezone, 0, None, "A\nB")
     print("calendars: parts of zones, and refusals")
+    print(f"calendars: {compare_program(tree, names)} components of the program are those of the library")
 
 
 main()

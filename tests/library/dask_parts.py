@@ -156,6 +156,17 @@ def frames(zones):
     expect("frames", list(made["offset"]), list(columns.offsets))
     expect("frames", list(made["local"]), list(pandas.Series(columns.local)))
     expect("frames", list(made["abbreviation"]), list(columns.abbreviations))
+    expect("frames", (set(made["status"]), str(made["status"].dtype)), ({0}, "uint8"))
+    parts = dask.dataframe.from_pandas(frame.assign(zone=["No/Such"] + list(frame["zone"][1:])), npartitions=3)
+    made = pzic.dask.add_local(parts, zones, errors="coerce").compute()
+    expect("statuses", list(made["status"]), [pzic.NO_ZONE] + [0] * 199)
+    made = made.assign(shown=made["local"].fillna(pandas.Timestamp(0)), seconds=made["instant"])
+    for column in "shown", "seconds":
+        parts = dask.dataframe.from_pandas(made[["zone", column]], npartitions=3)
+        got = pzic.dask.add_instant(parts, zones, locals=column, ambiguous="compatible", errors="coerce")
+        want, statuses = zones.instant_columns(made["zone"], made[column], "compatible", "coerce")
+        expect("instants", list(got["instant"].compute()), list(pandas.Series(want)))
+        expect("instants", (list(got["status"].compute()), got["instant"].dtype), (list(statuses), want.dtype))
     instants = numpy.arange(1000) * 10**6
     got = pzic.dask.offsets(zones["Europe/Dublin"], dask.array.from_array(instants, chunks=300)).compute()
     expect("arrays", list(got), list(zones["Europe/Dublin"].convert_array(instants)[0]))

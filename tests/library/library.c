@@ -27,6 +27,8 @@ _Static_assert(offsetof(pzic_layout, at_fault) == 52 && offsetof(pzic_layout, st
 _Static_assert(offsetof(pzic_layout, quotes) == 60 && offsetof(pzic_layout, max_record) == 64 && sizeof(pzic_abbreviation) == 16, "limit");
 _Static_assert(sizeof(pzic_civil) == 72 && offsetof(pzic_civil, month) == 8, "civil");
 _Static_assert(offsetof(pzic_civil, second) == 24 && offsetof(pzic_civil, state) == 32, "time of day");
+_Static_assert(sizeof(pzic_schedule) == 32 && offsetof(pzic_schedule, until) == 8, "schedule");
+_Static_assert(offsetof(pzic_schedule, seconds) == 16 && offsetof(pzic_schedule, policy) == 24, "time of day");
 _Static_assert(sizeof(pzic_diff_options) == 40 && offsetof(pzic_diff_options, present) == 16, "diff");
 _Static_assert(offsetof(pzic_diff_options, listed) == 24 && offsetof(pzic_diff_options, ignore_abbreviation) == 32, "ignored");
 
@@ -367,6 +369,8 @@ static void open_tree(const char *tree, const char *name) {
     CHECK(reason == PZIC_REASON_MAGIC);
     CHECK(pzic_tree_zone("/", "etc", &zone, &reason) == PZIC_NO_SUCH);
     CHECK(pzic_tree_zone("/dev", "null", &zone, &reason) == PZIC_NO_SUCH);
+    CHECK(pzic_tree_zone("/no/such", name, &zone, &reason) == PZIC_UNREADABLE && errno == ENOENT && zone.kind == 0);
+    CHECK(pzic_tree_zone("/dev/null", name, &zone, &reason) == PZIC_UNREADABLE && errno == ENOTDIR && zone.kind == 0);
 }
 
 // Each beginning of a file is refused, and so are other bytes.
@@ -904,6 +908,81 @@ static void tell_rows(void) {
     pzic_free(&files);
 }
 
+// The instants of local times with a zone for each. In Test/York the first is in a gap, and the second in a fold.
+static void tell_local_rows(void) {
+    enum { ROWS = 6 };
+    static const int64_t locals[ROWS] = {1710037800, 1730597400, 1710037800, 0, 0, INT64_MAX};
+    static const uint32_t zones[ROWS] = {2, 2, 0, 3, UINT32_MAX, 1};
+    static const int64_t want[ROWS] = {1710037800 + 5 * 3600, 1730597400 + 4 * 3600, 1710037800 - 3600};
+    static const uint8_t rejected[ROWS] = {PZIC_GAP, PZIC_FOLD, PZIC_OK, PZIC_NO_SUCH, PZIC_NO_SUCH, PZIC_OUT_OF_RANGE};
+    pzic_handle files = {0};
+    pzic_fault none;
+    int64_t instants[ROWS] = {7, 7, 7, 7, 7, 7};
+    uint8_t statuses[ROWS] = {77, 77, 77, 77, 77, 77};
+    CHECK(pzic_files_instants(&files, 0, zones, ROWS, locals, ROWS, instants, ROWS, statuses, ROWS) == PZIC_NO_HANDLE);
+    CHECK(compile(source, &files, &none) == PZIC_OK);
+    for (size_t i = 0; i < 4; i++) {
+        size_t n[4] = {ROWS, ROWS, ROWS, ROWS};
+        n[i]--;
+        CHECK(pzic_files_instants(&files, 0, zones, n[0], locals, n[1], instants, n[2], statuses, n[3]) == PZIC_LENGTHS);
+    }
+    CHECK(pzic_files_instants(&files, 4, zones, ROWS, locals, ROWS, instants, ROWS, statuses, ROWS) == PZIC_NO_SUCH);
+    CHECK(pzic_files_instants(&files, 0, NULL, 0, NULL, 0, NULL, 0, NULL, 0) == PZIC_OK);
+    growths_left = 0;
+    CHECK(pzic_files_instants(&files, 0, zones, ROWS, locals, ROWS, instants, ROWS, statuses, ROWS) == PZIC_NO_MEMORY);
+    growths_left = -1;
+    for (int i = 0; i < ROWS; i++) CHECK(instants[i] == 7 && statuses[i] == 77);
+    CHECK(pzic_files_instants(&files, PZIC_REJECT, zones, ROWS, locals, ROWS, instants, ROWS, statuses, ROWS) == PZIC_OK);
+    for (int i = 0; i < ROWS; i++) CHECK(statuses[i] == rejected[i] && instants[i] == (rejected[i] ? 0 : want[i]));
+    CHECK(pzic_files_instants(&files, PZIC_COMPATIBLE, zones, ROWS, locals, ROWS, instants, ROWS, statuses, ROWS) == PZIC_OK);
+    for (int i = 0; i < ROWS; i++) CHECK(instants[i] == want[i] && statuses[i] == (i < 3 ? PZIC_OK : rejected[i]));
+    pzic_free(&files);
+}
+
+// The next instants at which clocks of Test/York show a time of day, as Python's zoneinfo tells of America/New_York.
+static void tell_schedules(void) {
+    // 02:30 from noon of 2024-03-09 UT on: the next day it is in a gap. 01:30 of 2024-11-03 is in a fold.
+    pzic_schedule gap = {1709985600, 1709985600 + 366 * 86400, 9000, PZIC_EVERY_DAY, 0};
+    pzic_schedule fold = {1730592000, 1730592000 + 366 * 86400, 5400, PZIC_EVERY_DAY, 0};
+    static const int64_t want[][2] = {{1710052200, 1730611800}, {1710055800, 1730615400}, {1710055800, 1730611800}, {1710138600, 1730611800}};
+    pzic_handle files = {0}, zone = {0};
+    pzic_fault none;
+    int64_t instant = 7, instants[4] = {7, 7, 7, 7};
+    size_t count = 8;
+    CHECK(pzic_zone_next_local(&zone, &gap, &instant) == PZIC_NO_HANDLE && instant == 7);
+    CHECK(pzic_zone_next_locals(&zone, &gap, instants, 4, &count) == PZIC_NO_HANDLE && instants[0] == 7 && count == 8);
+    CHECK(compile(source, &files, &none) == PZIC_OK && pzic_zone_of(&files, 2, &zone) == PZIC_OK);
+    for (uint32_t policy = PZIC_EARLIER; policy <= PZIC_SKIP; policy++) {
+        gap.policy = fold.policy = policy;
+        CHECK(pzic_zone_next_local(&zone, &gap, &instant) == PZIC_OK && instant == want[policy - 1][0]);
+        CHECK(pzic_zone_next_local(&zone, &fold, &instant) == PZIC_OK && instant == want[policy - 1][1]);
+    }
+    gap.weekdays = PZIC_SUNDAY;
+    CHECK(pzic_zone_next_local(&zone, &gap, &instant) == PZIC_OK && instant == 1710657000);
+    gap.until = 1710657000 + 7 * 86400;
+    CHECK(pzic_zone_next_locals(&zone, &gap, instants, 4, &count) == PZIC_OK && count == 2);
+    CHECK(instants[0] == 1710657000 && instants[1] == gap.until && instants[2] == 7);
+    gap.until--;
+    CHECK(pzic_zone_next_locals(&zone, &gap, instants, 4, &count) == PZIC_OK && count == 1);
+    CHECK(pzic_zone_next_locals(&zone, &gap, instants, 1, &count) == PZIC_OK && count == 1);
+    CHECK(pzic_zone_next_locals(&zone, &gap, NULL, 0, &count) == PZIC_OK && count == 0);
+    gap.until = gap.after;
+    CHECK(pzic_zone_next_local(&zone, &gap, &instant) == PZIC_NO_SUCH && instant == 1710657000);
+    fold.weekdays = 0;
+    CHECK(pzic_zone_next_local(&zone, &fold, &instant) == PZIC_NO_SUCH && instant == 1710657000);
+    static const pzic_schedule bad[] = {{0, 9, 86400, 1, 1}, {0, 9, 0, 128, 1}, {0, 9, 0, 1, 0}, {0, 9, 0, 1, 5}, {0, 9, 0, UINT32_MAX, 1}};
+    for (size_t i = 0; i < sizeof bad / sizeof *bad; i++) {
+        CHECK(pzic_zone_next_local(&zone, &bad[i], &instant) == PZIC_OUT_OF_RANGE && instant == 1710657000);
+        CHECK(pzic_zone_next_locals(&zone, &bad[i], instants, 4, &count) == PZIC_OUT_OF_RANGE && count == 0);
+    }
+    fold = (pzic_schedule){INT64_MIN, INT64_MIN + 1000000, 0, PZIC_EVERY_DAY, PZIC_COMPATIBLE};
+    CHECK(pzic_zone_next_local(&zone, &fold, &instant) == PZIC_OK && instant < INT64_MIN + 300000);
+    fold = (pzic_schedule){INT64_MAX - 1000000, INT64_MAX, 0, PZIC_EVERY_DAY, PZIC_COMPATIBLE};
+    CHECK(pzic_zone_next_local(&zone, &fold, &instant) == PZIC_OK && instant < INT64_MAX - 900000);
+    pzic_free(&zone);
+    pzic_free(&files);
+}
+
 // Compares rows that each have a zone of their own with single answers. One number is that of no file.
 static void compare_rows(const pzic_handle *files) {
     size_t count = 0;
@@ -1312,6 +1391,8 @@ static void *work(void *argument) {
     convert_columns();
     convert_by_layouts();
     tell_rows();
+    tell_local_rows();
+    tell_schedules();
     take_files();
     compare_files();
     empty_handles();
@@ -1391,6 +1472,8 @@ int main(int count, char **words) {
     convert_columns();
     convert_by_layouts();
     tell_rows();
+    tell_local_rows();
+    tell_schedules();
     take_files();
     compare_files();
     give_no_items();

@@ -44,6 +44,7 @@ void try_reading(const pzic::tree &tree) {
     CHECK(pzic::name_of(pzic::reason::magic) == "Magic" && pzic::name_of(pzic::reason::none).empty());
     CHECK(tree.zone("Europe/Atlantis").status() == status::no_such && tree.zone("../x").status() == status::no_such);
     CHECK(tree.zone(std::string("Etc/UTC\0x", 9)).status() == status::no_such);
+    CHECK(pzic::tree("/no/such").zone("Etc/UTC").status() == status::unreadable);
     auto other = pzic::tree("/etc").zone("passwd");
     CHECK(other.status() == status::bad_file && pzic::name_of(other.error().reason) == "Magic");
     auto zone = tree.zone("Europe/Dublin");
@@ -80,15 +81,27 @@ void try_instants(pzic::zone zone) {
 void try_local_times(const pzic::zone &zone) {
     constexpr std::int64_t fold = 1729992600, gap = 1711848600;
     CHECK(zone.instants(fold)->count == 2 && zone.instants(gap)->count == 0 && zone.instants(gap)->change == 1711846800);
-    CHECK(*zone.instant(fold) == 1729989000 && *zone.instant(fold, pzic::disambiguation::later) == fold);
-    CHECK(zone.instant(fold, pzic::disambiguation::reject).status() == status::fold);
-    CHECK(zone.instant(gap, pzic::disambiguation::reject).status() == status::gap);
+    CHECK(*zone.instant(fold, pzic::disambiguation::compatible) == 1729989000);
+    CHECK(*zone.instant(fold, pzic::disambiguation::later) == fold);
+    CHECK(zone.instant(fold).status() == status::fold && zone.instant(gap).status() == status::gap);
     CHECK(zone.instant(greatest).status() == status::out_of_range && zone.instants(least).status() == status::out_of_range);
-    CHECK(zone.instant(gap, pzic::disambiguation::reject).value_or(7) == 7 && zone.instant(0).value_or(7) == -3600);
-    auto made = zone.instant_array({fold, gap, summer, greatest}, pzic::disambiguation::reject);
+    CHECK(zone.instant(gap).value_or(7) == 7 && zone.instant(0).value_or(7) == -3600);
+    auto made = zone.instant_array({fold, gap, summer, greatest});
     CHECK(made && made->instants == std::vector<std::int64_t>{0, 0, summer - 3600, 0});
     CHECK(made->statuses == std::vector<std::uint8_t>{PZIC_FOLD, PZIC_GAP, PZIC_OK, PZIC_OUT_OF_RANGE});
-    CHECK(zone.instant_array({fold})->instants == std::vector<std::int64_t>{1729989000});
+    CHECK(zone.instant_array({fold}, pzic::disambiguation::compatible)->instants == std::vector<std::int64_t>{1729989000});
+}
+
+void try_schedules(const pzic::zone &zone) {
+    // 01:30 of 2024-10-27 comes twice.
+    constexpr std::int64_t before = 1729900800, first = 1729989000, last = 1729992600, week = 7 * 86400;
+    pzic::schedule sundays{5400, PZIC_SUNDAY};
+    CHECK(*zone.next_local(sundays, before, greatest) == first);
+    CHECK(*zone.next_locals(sundays, before, last + week) == std::vector<std::int64_t>{first, last + week});
+    CHECK(zone.next_locals({5400}, before, before + 100 * 86400)->size() == 100);
+    sundays.policy = pzic::policy::later;
+    CHECK(*zone.next_local(sundays, before, greatest) == last && zone.next_local(sundays, before, first).status() == status::no_such);
+    CHECK(zone.next_local({86400}, 0, 1).status() == status::out_of_range && zone.next_locals({86400}, 0, 1).status() == status::out_of_range);
 }
 
 void try_open_times() {
@@ -109,6 +122,12 @@ void try_files(const pzic::files &files) {
     CHECK(made && made->offsets == std::vector<std::int32_t>{0, 32400, 0});
     CHECK(made->flags == std::vector<std::uint8_t>{pzic::daylight, 0, pzic::no_zone});
     CHECK(files.offsets(zones, {0}).status() == status::lengths && files.abbreviations(zones, {0}).status() == status::lengths);
+    constexpr std::int64_t fold = 1729992600;
+    auto found = files.instants(zones, {fold, 32400, 0});
+    CHECK(found && found->instants == std::vector<std::int64_t>{0, 0, 0});
+    CHECK(found->statuses == std::vector<std::uint8_t>{PZIC_FOLD, PZIC_OK, PZIC_NO_SUCH});
+    CHECK(files.instants(zones, {fold, 0, 0}, pzic::disambiguation::later)->instants[0] == fold);
+    CHECK(files.instants(zones, {0}).status() == status::lengths && files.instants({}, {})->instants.empty());
     auto names = files.abbreviations(zones, {winter, 0, 0});
     CHECK(names && std::string((*names)[0].name) == "GMT" && std::string((*names)[1].name) == "JST" && (*names)[2].name[0] == '\0');
 }
@@ -176,6 +195,7 @@ int main(int count, char **words) {
     try_reading(tree);
     try_instants(std::move(*tree.zone("Europe/Dublin")));
     try_local_times(*tree.zone("Europe/Dublin"));
+    try_schedules(*tree.zone("Europe/Dublin"));
     try_open_times();
     try_sources();
     try_trees(words[1]);

@@ -97,7 +97,11 @@ in_both() {
 PZIC_PURE_PYTHON=1 "$python" tests/library/library.py "$tree" 8
 in_c "$python" tests/library/library.py "$tree"
 in_both "$python" tests/library/python_objects.py "$tree"
-if [ "$has_pandas" ]; then "$python" tests/library/pandas_day.py "$tree"; fi
+"$python" tests/library/schedules.py "$tree"
+if [ "$has_pandas" ]; then
+    "$python" tests/library/pandas_day.py "$tree"
+    in_both "$python" tests/library/row_zones.py "$tree"
+fi
 
 # The extension of SQLite, from Python, and from its own program under valgrind.
 extension=$built/lib/pzic_sqlite.so

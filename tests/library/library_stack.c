@@ -70,6 +70,12 @@ static void ask_changes(void) {
            + pzic_zone_changes(&zone, 0, 4102444800, found, MANY, &count) + pzic_zone_civil(&zone, 0, &civil);
 }
 
+static void ask_schedules(void) {
+    int64_t next;
+    const pzic_schedule schedule = {4000000000, 4032000000, 9000, PZIC_EVERY_DAY, PZIC_COMPATIBLE};
+    status = pzic_zone_next_local(&zone, &schedule, &next) + pzic_zone_next_locals(&zone, &schedule, found, MANY, &count);
+}
+
 static void compile(void) {
     pzic_fault fault;
     size_t whole = sizeof source - 1;
@@ -96,7 +102,8 @@ static void ask_rows(void) {
     static uint32_t zones[MANY];
     static pzic_abbreviation names[MANY];
     status = pzic_files_offsets(&files, zones, MANY, instants, MANY, offsets, MANY, flags, MANY)
-           + pzic_files_abbreviations(&files, zones, MANY, instants, MANY, names, MANY);
+           + pzic_files_abbreviations(&files, zones, MANY, instants, MANY, names, MANY)
+           + pzic_files_instants(&files, PZIC_LATER, zones, MANY, instants, MANY, found, MANY, flags, MANY);
 }
 
 static void convert(void) {
@@ -154,7 +161,8 @@ int main(int words, char **word) {
         void (*what)(void);
     } calls[] = {{"zone_read", read_zone}, {"share", share}, {"free", let_go}, {"zone_at", ask_at},
                  {"zone_span", ask_span}, {"zone_offsets", ask_many}, {"zone_instants", ask_instants},
-                 {"zone_instants_array", ask_many_instants}, {"changes", ask_changes}, {"compile", compile}, {"files_of", make_files},
+                 {"zone_instants_array", ask_many_instants}, {"changes", ask_changes}, {"schedules", ask_schedules},
+                 {"compile", compile}, {"files_of", make_files},
                  {"files", ask_files}, {"files_offsets", ask_rows},
                  {"rows", convert}, {"files_diff", compare}, {"names", ask_names}};
     FILE *in = words == 2 ? fopen(word[1], "rb") : NULL;

@@ -5,6 +5,7 @@ made, printed, written and refused must be the same, and columns of one zone hav
 """
 
 import copy
+import datetime
 import io
 import os
 import pickle
@@ -190,6 +191,20 @@ def be_a_zoneinfo(tree):
                 check(isinstance(error, KeyError), "no name", error)
 
 
+def keep_what_a_timezone_shows(tree):
+    """pandas, which doesn't know a TimeZone, doesn't show UT for its datetimes."""
+    zone = tree.tzinfo("America/New_York")
+    moment = datetime.datetime(2024, 7, 3, 10, tzinfo=zone)
+    table = pandas.DataFrame({"time": [moment, moment]})
+    check(table.to_csv(index=False) == "time\n" + 2 * "2024-07-03 10:00:00-04:00\n", "a TimeZone's column", table.time.dtype)
+    check(table.time.tolist() == [moment, moment], "a TimeZone's datetimes")
+    for call in pandas.Timestamp, lambda moment: pandas.date_range(moment, periods=2), lambda _: pandas.Timestamp.now(zone):
+        try:
+            check(False, "a TimeZone", call(moment))
+        except TypeError as error:
+            check("to_zoneinfo" in str(error), "a TimeZone", error)
+
+
 def main():
     folder = os.path.abspath(sys.argv[1])
     zoneinfo.reset_tzpath([folder])
@@ -201,6 +216,7 @@ def main():
         keep_one_type(tree, name)
     write_and_read(tree)
     be_a_zoneinfo(tree)
+    keep_what_a_timezone_shows(tree)
     print(f"library: pandas {pandas.__version__}: {count} results in {len(NAMES)} zones")
 
 

@@ -503,6 +503,8 @@ def interrupt_calls(tree):
     files, column = tree.files(["Europe/Dublin"]), b"Europe/Dublin,1720000000\n" * 1_000_000
     interrupt("convert", lambda: files.convert(column))
     interrupt("rows", lambda: files.rows(column, records="lines", keep_going=True))
+    names = ["Europe/Dublin"] * 3_000_000
+    interrupt("instant_columns", lambda: tree.instant_columns(names, many[: len(names)], ambiguous="compatible"))
     told = []
     check(len(files.convert(column[:5_000_000], progress=told.append)) > 0 and sum(told) == 5_000_000 and len(told) == 5, "progress", told)
     bar = types.SimpleNamespace(update=told.append)
@@ -643,7 +645,7 @@ def compare_files(tree, names, rows, instants, want, numpy):
     many = [a + b + c for a in "ABCDEFGHIJ" for b in "ABCDEFGHIJ" for c in "ABCDEFGHIJ"] + ["ABCDEFGHIJKLMNOP", "ABCDEFGHIJKLMNOQ"]
     source = "".join(f"Zone {name} -1 - {name}\n" for name in many).encode()
     for rows in many, many * 9:
-        # Of so many some have the same hash.
+        # Some of them have the same hash.
         got = pzic.Compiled(source).convert_columns(rows, numpy.zeros(len(rows), "int64"))
         check(got.abbreviations.tolist() == rows and set(got.offsets.tolist()) == {-3600}, "many abbreviations")
     refuses(pzic.NoSuchZone, pzic.Compiled(SOURCE).convert_columns, ["None"], numpy.array([1]))

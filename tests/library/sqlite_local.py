@@ -73,18 +73,20 @@ def compare(made, seed, count):
 def try_texts(made):
     """Try local times, and the texts of dates from the year 0 on beside SQLite's own."""
     for text in ("2024-10-27 01:30", "2024-10-27T01:30:00"):
-        expect(ask(made, "pzic_instant('Europe/Dublin', ?)", text), 1729989000, text)
+        expect(ask(made, "pzic_instant('Europe/Dublin', ?, 'compatible')", text), 1729989000, text)
         expect(ask(made, "pzic_instant('Europe/Dublin', ?, 'later')", text), 1729992600, text)
-        expect_error(made, "pzic_instant('Europe/Dublin', ?, 'reject')", text, says="more than once")
+        for words in ("?", "?, 'reject'"):
+            expect_error(made, f"pzic_instant('Europe/Dublin', {words})", text, says="more than once")
     expect(ask(made, "pzic_instant('Etc/UTC', '2024-02-29')"), 1709164800, "a date")
     gap = "2024-03-31 01:30:00"
-    expect(ask(made, "pzic_instant('Europe/Dublin', ?)", gap), 1711848600, gap)
+    expect(ask(made, "pzic_instant('Europe/Dublin', ?, 'compatible')", gap), 1711848600, gap)
     expect(ask(made, "pzic_instant('Europe/Dublin', ?, 'earlier')", gap), 1711845000, gap)
-    expect_error(made, "pzic_instant('Europe/Dublin', ?, 'reject')", gap, says="pass over")
+    for words in ("?", "?, 'reject'"):
+        expect_error(made, f"pzic_instant('Europe/Dublin', {words})", gap, says="pass over")
     for text in ("", "2024", "2024-13-01", "2023-02-29", "2024-01-01 24:00", "2024-01-01 00:60", "2024-01-01 00:00:60",
                  "2024-01-01x00:00", "2024/01/01", "2024-01-01 00:00:00Z", "2024-01-01 0a:00"):
         expect_error(made, "pzic_instant('Etc/UTC', ?)", text, says="a local time as")
-    expect_error(made, "pzic_instant('Etc/UTC', '2024-01-01', 'first')", says="compatible, earlier")
+    expect_error(made, "pzic_instant('Etc/UTC', '2024-01-01', 'first')", says="reject, earlier")
     chance = random.Random(3)
     edges = [-62167219200, 253402300799, -62167219201, 253402300800, -62162208000, -62135596800, 951782400, 951868799]
     for second in edges + [chance.randrange(-62167219200, 253402300800) for _ in range(20000)]:

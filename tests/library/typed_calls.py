@@ -1,6 +1,7 @@
 """Calls of the Python package, for mypy alone: each error that is ignored here must be one."""
 
-from typing import List
+from datetime import datetime, timezone
+from typing import Iterator, List, Optional
 
 import pzic
 
@@ -11,6 +12,8 @@ rows: bytes = tree.convert(b"", unit="ms", keep_going=True)
 told: pzic.Rows = pzic.Compiled().rows(b"", source="local", ambiguous="compatible")
 lines: bytes = tree.diff(tree, ignore=["daylight"], summary=True)
 names: List[str] = tree.aliases("Europe/Dublin")
+due: Optional[int] = zone.next_local(0, "02:30", ["mon", "fri"], "skip")
+moments: Iterator[datetime] = zone.schedule("02:30", after=datetime(2024, 1, 1, tzinfo=timezone.utc))
 of_pandas: pzic.ZoneInfo = tree.zoneinfo("Europe/Dublin")
 
 zone.instant(0, "rejct")  # type: ignore[arg-type]
@@ -23,3 +26,7 @@ pzic.Layout(style="isso")  # type: ignore[arg-type]
 pzic.Layout(records="rows", quotes="none", source="time")  # type: ignore[arg-type]
 tree.diff(tree, ignore=["offset"])  # type: ignore[list-item]
 tree.diff(tree, year=1900)  # type: ignore[call-arg]
+tree.instant_columns([], [], "rejct")  # type: ignore[arg-type]
+zone.next_local(0, "02:30", ["monday"])  # type: ignore[list-item]
+zone.next_local(0, "02:30", policy="reject")  # type: ignore[arg-type]
+zone.schedule("02:30", after="now")  # type: ignore[type-var]

@@ -26,6 +26,11 @@
 //! - `pzic_raw_zone_instants`: the instants of the local time, or its gap (`IsLocalTimeGiven`)
 //! - `pzic_raw_zone_instants_array`: each instant is the one that is meant by the local time of its
 //!   place, and each status says whether there is one, and why not (`AreInstantsGiven`)
+//! - `pzic_raw_zone_next_local`: the least instant after one and up to another at which the clocks show
+//!   the time of day, on one of the weekdays, by the policy for gaps and folds, or that there is none
+//!   (`IsNextLocalGiven`)
+//! - `pzic_raw_zone_next_locals`: just these instants, in order, as many as there is room for
+//!   (`AreNextLocalsGiven`)
 //! - `pzic_raw_compile`: `PZIC_OK` only for texts that are a source, and then the handle holds
 //!   their files; `PZIC_BAD_SOURCE` with the text, the line and the kind of the first fault
 //!   (`AreCompiled`)

@@ -6,10 +6,11 @@ ghost use Rattle.pzic_zones.specs.CivilTime.{IsCivilTimeAt};
 ghost use Rattle.pzic_zones.specs.Column.{AreOffsetsGiven};
 ghost use Rattle.pzic_zones.specs.Handle.{IsHandle, held_in, zone_in};
 ghost use Rattle.pzic_zones.specs.Local.{AreInstantsGiven, IsLocalTimeGiven};
+ghost use Rattle.pzic_zones.specs.Schedule.{AreNextLocalsGiven, IsNextLocalGiven};
 ghost use Rattle.pzic_zones.specs.Zone.{IsAnswerAround, IsAnswerAt, IsRead, instants};
 ghost use Rattle.pzic_zones.specs.declared.status.TheConstants.{NO_HANDLE};
 
-use pzic_zones::{CivilTime, Handle, LocalTime, State};
+use pzic_zones::{CivilTime, Handle, LocalTime, ScheduleOptions, State};
 use std::alloc::Global;
 
 /// Reads a zone from the bytes of a TZif file.
@@ -188,4 +189,40 @@ pub extern "C" fn pzic_raw_zone_instants_array(
         statuses.old instants.new statuses.new) }
 {
     pzic_zones::zone_instants_array(alloc, zone, disambiguation, locals, instants, statuses)
+}
+
+/// Gives the next instant at which a zone's clocks show a time of day.
+#[unsafe(no_mangle)]
+pub extern "C" fn pzic_raw_zone_next_local(
+    alloc: Global,
+    zone: &mut Handle,
+    schedule: &ScheduleOptions,
+    found: &mut i64,
+) -> i32
+    requires { IsHandle zone.old }
+    ensures unchanged { zone.new ≡ zone.old }
+    ensures gives { MatchOption (zone_in zone.old)
+        ((result ≡ NO_HANDLE) × (found.new ≡ found.old))
+        (λ content. IsNextLocalGiven content schedule.now result found.old found.new) }
+{
+    pzic_zones::zone_next_local(alloc, zone, schedule, found)
+}
+
+/// Gives the next instants at which a zone's clocks show a time of day, as many as there is room for.
+#[unsafe(no_mangle)]
+pub extern "C" fn pzic_raw_zone_next_locals(
+    alloc: Global,
+    zone: &mut Handle,
+    schedule: &ScheduleOptions,
+    instants: &mut [i64],
+    count: &mut usize,
+) -> i32
+    requires { IsHandle zone.old }
+    ensures unchanged { zone.new ≡ zone.old }
+    ensures gives { MatchOption (zone_in zone.old)
+        ((result ≡ NO_HANDLE) × (instants.new ≡ instants.old) × (count.new ≡ count.old))
+        (λ content. AreNextLocalsGiven content schedule.now result instants.old count.old
+        instants.new count.new) }
+{
+    pzic_zones::zone_next_locals(alloc, zone, schedule, instants, count)
 }

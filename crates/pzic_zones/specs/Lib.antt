@@ -5,5 +5,6 @@ pub mod Column
 pub mod Handle
 pub mod Local
 pub mod Owned
+pub mod Schedule
 pub mod State
 pub mod Zone

@@ -19,7 +19,8 @@ pub const BAD_SOURCE: i32 = 6;
 pub const NO_SUCH: i32 = 7;
 /// A row has a fault.
 pub const BAD_ROW: i32 = 8;
-/// The local time is so near an end of 64 bits that its instants may be outside.
+/// The local time is so near an end of 64 bits that its instants may be outside, or a number of a
+/// schedule is out of range.
 pub const OUT_OF_RANGE: i32 = 9;
 /// The local time is in a gap.
 pub const GAP: i32 = 10;
