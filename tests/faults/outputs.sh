@@ -21,7 +21,7 @@ expect 3 '' 'cannot read -' build none plain -
 [ ! -e none ] || differ 'a folder was made for sources that cannot be read'
 input=/
 expect 3 '' 'cannot read column' convert plain
-expect 3 '' 'cannot read column' convert --progress plain
+expect 3 '' $'0 rows, 0 rows a second\ncannot read column' convert --progress plain
 expect 3 '' 'cannot read nowhere' convert nowhere
 "$program" build zones.tree plain
 expect 3 '' 'cannot read column' convert --tree zones.tree
@@ -29,6 +29,31 @@ input=/dev/null
 status=0
 "$program" convert plain <&- >../out 2>../err || status=$?
 told 'pzic convert plain <&-' 3 '' 'cannot read column'
+# A read that fails in the middle: rows and faults up to it end at the same row.
+if strace -o /dev/null true 2>/dev/null; then
+    printf 'Etc/UTC,0\nNo/Such,0\nEtc/UTC,x\n' >column
+    row=Etc/UTC,0,1970-01-01T00:00:00,+00:00:00,0,UTC
+    status=0
+    strace -f -o ../trace -P "$PWD/column" -e trace=read -e 'inject=read:error=EIO:when=2+' \
+        "$program" convert --keep-going --faults list plain <column >../out 2>../err || status=$?
+    told 'pzic convert --keep-going, where the second read fails' 3 "$row"$'\nNo/Such,0,,,,\nEtc/UTC,x,,,,' 'cannot read column'
+    [ "$(cat list)" = $'2,RowZone\n3,RowInstant' ] || differ "a list up to a failed read holds '$(cat list)'"
+    # A write that fails: what was written is a beginning of the rows.
+    for ((n = 0; n < 3000; n++)); do echo "Etc/UTC,$n"; done >column
+    "$program" convert --row-piece 100 plain <column >rows
+    for ((n = 1; n < 4; n++)); do
+        status=0
+        strace -f -o ../trace -P "$PWD/written" -e trace=write -e "inject=write:error=EIO:when=$n+" \
+            "$program" convert --row-piece 100 plain <column >written 2>../err || status=$?
+        : >../out
+        [ "$status" = 0 ] && cmp written rows && break
+        told "pzic convert, where write $n gives EIO" 3 '' 'cannot write rows'
+        cmp -s -n "$(stat -c %s written)" written rows || differ "the rows before write $n failed are others"
+    done
+    rm -f column list rows written
+else
+    echo "skipped: reads and writes that fail in the middle: there is no strace that can trace here"
+fi
 # The source is compiled before the column is read.
 echo Zonk >faulty
 printf x >column
@@ -180,7 +205,8 @@ expect 3 '' 'cannot read tables/zone.tab' build --tables tables tabled plain
 
 # Standard error goes to ../err, where `told` reads it; `told` also needs the status.
 : >../out
-for command in 'check plain' "show $file 0" "dump $file"; do
+echo 'Zone Etc/UTC 1 - CET' >later
+for command in 'check plain' "show $file 0" "show --local $file 1970-01-01T00:00:00" "dump $file" 'diff plain later'; do
     status=0
     "$program" $command >&- 2>../err || status=$?
     told "pzic $command >&-" 3 '' 'cannot write output'

@@ -11,7 +11,7 @@
 #   zsh;
 # - prints the index of promises and public functions, and looks for functions without an edit or a
 #   test;
-# - checks links, the length of README.md, and the names in docs/PROOF.md.
+# - checks links, the length of README.md, the words of all pages, and the names in docs/PROOF.md.
 # Needs: tzdata. Parts need: parallel, zsh, psql, sqlite3, man
 set -euo pipefail
 cd "$(dirname "${BASH_SOURCE[0]}")/../.."
@@ -182,13 +182,14 @@ done
 try_errors &
 for part in "${parts[@]}" $!; do wait "$part" || differ 'a page or the examples were not run to their end'; done
 cmp -s <(tools/errors.py page) docs/ERRORS.md || differ 'docs/ERRORS.md is not what tools/errors.py makes'
-for part in source other; do
-    file=crates/zic_explain/src/${part}_texts.rt
+for part in source_texts other_texts cases; do
+    file=crates/zic_explain/src/$part.rt
     cmp -s <(tools/errors.py "$part") "$file" || differ "$file is not what tools/errors.py makes"
 done
+# A terminal of 80 columns shows each line as it stands.
 for page in docs/errors.txt docs/help/*.txt; do
-    awk 'length > 79 { print; bad = 1 } END { exit bad }' "$page" >&2 ||
-        differ "$page has lines of more than 79 characters"
+    awk 'length > 80 { print; bad = 1 } END { exit bad }' "$page" >&2 ||
+        differ "$page has lines of more than 80 characters"
 done
 # `explain` lists each of them, and has the words of ERRORS.md for it.
 pzic=crates/zic_main/out/zic_main
@@ -253,12 +254,12 @@ completed() {
         _pzic
         printf "%s\n" "${COMPREPLY[@]}"' bash "$@" | sort
 }
-for name in check build verify diff convert show dump explain help; do
+for name in check build verify diff convert show dump export explain help; do
     words=$(completed pzic "$name" --)
     [ "$words" = "$(options_of "$name")" ] || differ "bash completes 'pzic $name --' by '$words'"
 done
 words=$(completed pzic '')
-[ "$words" = $'build\ncheck\nconvert\ndiff\ndump\nexplain\nhelp\nshow\nverify' ] || differ "bash completes 'pzic' by '$words'"
+[ "$words" = $'build\ncheck\nconvert\ndiff\ndump\nexplain\nexport\nhelp\nshow\nverify' ] || differ "bash completes 'pzic' by '$words'"
 printf 'Zone Test/One 1 - CET\nZone Test/Two 2 - EET\n' >"$work/two.zi"
 mkdir "$work/bin"
 ln -s "$PWD/$pzic" "$work/bin/pzic"
@@ -290,6 +291,7 @@ for page in README.md docs/help/version.txt; do
     grep -qF -- "${logic:-no logic}" "$page" || differ "$page doesn't name the kit's $logic"
 done
 [ "$(wc -l <README.md)" -le 180 ] || differ "README.md has $(wc -l <README.md) lines"
+tools/words 28000 >"$work/out" || differ "the pages have more than 28000 words: $(tail -n 1 "$work/out")"
 # Prints the anchors of a page's headings.
 anchors_of() {
     sed -n 's/^##* //p' "$1" | tr '[:upper:] ' '[:lower:]-' | tr -cd '[:lower:][:digit:]_\n-'

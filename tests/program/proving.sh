@@ -50,6 +50,7 @@ END
 cat >kit/bin/rattle <<'END'
 #!/bin/sh
 while [ "$1" != -o ]; do shift; done
+[ ! -e "$NOTED.builds" ] || { echo $$ >"$NOTED.began" && sleep 60; }
 cp src/lib.rt lib.o
 ar rcsD "$2" lib.o
 rm lib.o
@@ -172,6 +173,22 @@ run 143 1 ended TERM
 run 143 1 ended HUP -
 [ "$(house/crates/zic_main/out/zic_main)" = 'of zic_main' ] || differ 'a run that was ended leaves another program'
 [ "$(cd house/crates/zic_main/out && echo *)" = 'prove.log zic_main zic_main.sums' ] || differ "there is $(ls house/crates/zic_main/out)"
+
+# After all is proved, the build of a static library ends with the run.
+ended_building() {
+    : >noted.builds
+    rm -f noted.began
+    house/tools/prove calls &
+    until [ -s noted.began ] && grep -q 'is being built' err; do sleep 0.1; done
+    kill $!
+    wait $! || status=$?
+    ! kill -0 "$(cat noted.began)" 2>/dev/null || differ 'a run that was ended leaves the build of a library'
+    rm noted.builds
+    return "$status"
+}
+
+echo more >>house/crates/calls/src/lib.rt
+run 143 1 ended_building
 
 # Two runs at once are one proof.
 both() {

@@ -1,6 +1,5 @@
 //! The text that tools print, made of lines of words.
 
-use crate::stop::print_stop;
 use std::alloc::Global;
 use std::fmt::{Debug, Display};
 use std::io::{self, Write};
@@ -126,5 +125,20 @@ impl Answers {
         }
         io::writer(rt).write_all(&self.text)?;
         Ok(ExitCode::SUCCESS)
+    }
+}
+
+/// Prints the reason why there is no answer, and returns the exit status.
+pub fn print_stop(rt: &impl Print, stop: Stop) -> io::Result<ExitCode> {
+    match stop {
+        Stop::Fault(fault) => {
+            let (line, kind) = (fault.place.line, fault.kind);
+            println!(rt; "line {line}: {kind:?}")?;
+            Ok(ExitCode::from(1))
+        }
+        Stop::Memory => {
+            println!(rt; "out of memory")?;
+            Ok(ExitCode::from(4))
+        }
     }
 }

@@ -2,8 +2,8 @@
 //! Link lines, for `tests/outside/tzdata.sh` and `bench/source.sh`. An optional word is the number of times
 //! that the text is read, by default 1. With 0, nothing is counted.
 
+use crate::answers::print_stop;
 use crate::input::{read_text, read_times};
-use crate::stop::print_stop;
 use std::alloc::Global;
 use std::process::ExitCode;
 use std::rt::Env;

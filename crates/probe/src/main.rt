@@ -8,7 +8,6 @@ mod changes;
 mod counts;
 mod input;
 mod rows;
-mod stop;
 
 use by_jiff::Query;
 use input::word;

@@ -11,6 +11,7 @@ mod files;
 mod lines;
 mod local_times;
 mod occurrences;
+mod schedules;
 mod sources;
 mod states;
 mod strings;
@@ -72,6 +73,7 @@ fn answer(alloc: Global, line: &str, answers: &mut Answers) -> Result<(), Refusa
         "files" => files::answer(alloc, &call, answers),
         "lines" => lines::answer(alloc, &call, answers),
         "local_times" => local_times::answer(alloc, &call, answers),
+        "schedules" => schedules::answer(alloc, &call, answers),
         "strings" => strings::answer(alloc, &call, answers),
         "words" => words::answer(alloc, &call, answers),
         _ => answer_of_source(alloc, &call, answers),

@@ -1,5 +1,5 @@
-//! Claims, by examples worked by hand, in one thread and in two. If a growth of memory is refused,
-//! as `tests/faults/refusals.sh` does, the claims are made again.
+//! Claims, by an example worked by hand. If a growth of memory is refused, as
+//! `tests/faults/refusals.sh` does, the claims are made again.
 
 ghost use Rattle.std.specs.Prelude.{◌≡◌, ◌+◌, ◌<◌, ◌≤◌};
 ghost use Rattle.zic_pieces.specs.Passes.{IsOf};
@@ -7,7 +7,6 @@ ghost use Rattle.zic_pieces.specs.Passes.{IsOf};
 use crate::samples::expect;
 use std::alloc::Global;
 use std::process::Abort;
-use std::thread::{self, Threads};
 use zic_pieces::{Claim, Claims, Pass, Settled, Split};
 
 /// Returns claims on this number of pieces, and their first pass. Tries twice, since one growth may be
@@ -99,91 +98,5 @@ fn three_passes_share_three_pieces(rt: &impl Abort, alloc: Global) {
 
 #[test]
 fn a_pass_sees_the_report_of_another(rt: HostRuntime) {
-    for _ in 0..100 {
-        three_passes_share_three_pieces(&rt, rt.alloc());
-    }
-}
-
-#[test]
-fn no_pieces_end_at_once(rt: HostRuntime) {
-    let (claims, mut pass) = new_claims(&rt, rt.alloc(), 0);
-    expect_claim(&rt, &claims, &mut pass, Claim::End, "the end");
-    let want = Settled {
-        least: 0,
-        given: 0,
-        ended: true,
-    };
-    expect(&rt, claims.settle(pass) == want, "no work");
-}
-
-#[test]
-fn the_first_pass_splits_1023_times(rt: HostRuntime) {
-    let (claims, mut pass) = new_claims(&rt, rt.alloc(), 1);
-    expect(&rt, pass.room() == 1023, "the room of the first pass");
-    let (mut cuts, mut full) = (0u64, false);
-    for _ in 0u64..1030 {
-        match claims.split(pass) {
-            Split::Two(old, new) => {
-                expect(&rt, new.room() == 0 && cuts < 1023, "a new pass");
-                pass = old;
-                cuts += 1;
-            }
-            Split::Full(same) => {
-                full = true;
-                pass = same;
-                break;
-            }
-        }
-    }
-    expect(&rt, full && cuts == 1023 && pass.room() == 0, "all cuts");
-}
-
-/// Four claims in a row.
-fn four(claims: &Claims, mut pass: Pass) -> [Claim; 4]
-    requires { IsOf claims.now pass }
-{
-    let a = claims.claim(&mut pass);
-    let b = claims.claim(&mut pass);
-    let c = claims.claim(&mut pass);
-    [a, b, c, claims.claim(&mut pass)]
-}
-
-/// Returns how often a claim stands in a row.
-fn count(row: &[Claim; 4], claim: Claim) -> usize {
-    let mut count = 0usize;
-    for item in row {
-        if *item == claim {
-            count = count.wrapping_add(1);
-        }
-    }
-    count
-}
-
-/// Claims three pieces in two threads, four times in each.
-fn two_rows<R: Threads + Abort>(rt: &R, alloc: Global) -> ([Claim; 4], [Claim; 4]) {
-    let (claims, first) = new_claims(rt, alloc, 3);
-    let (p, q) = cut(rt, &claims, first);
-    let shared = &claims;
-    thread::join(
-        rt,
-        || -> [Claim; 4]
-            requires { IsOf shared.now p }
-        { four(shared, p) },
-        || -> [Claim; 4]
-            requires { IsOf shared.now q }
-        { four(shared, q) },
-    )
-}
-
-#[test]
-fn two_threads_draw_each_number_once(rt: HostRuntime) {
-    for _ in 0..100 {
-        let (xs, ys) = two_rows(&rt, rt.alloc());
-        for i in 0..3 {
-            let draws = count(&xs, Claim::Do(i)).wrapping_add(count(&ys, Claim::Do(i)));
-            expect(&rt, draws == 1, "each number");
-        }
-        let ends = count(&xs, Claim::End).wrapping_add(count(&ys, Claim::End));
-        expect(&rt, ends == 5, "the ends");
-    }
+    three_passes_share_three_pieces(&rt, rt.alloc());
 }

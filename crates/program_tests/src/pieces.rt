@@ -2,7 +2,7 @@
 
 ghost use Rattle.std.specs.Prelude.{◌≡◌, ◌≤◌};
 
-use crate::samples::{Hold, expect, wait_for};
+use crate::samples::{Counter, Hold, expect, wait_for};
 use std::alloc::Global;
 use std::process::Abort;
 use std::sync::Wait;
@@ -129,25 +129,6 @@ fn the_least_stop_decides(rt: HostRuntime) {
     }
 }
 
-/// Counts who enters: all, and each of the pieces 0, 1 and 2 in a digit of its own to the base 1,000.
-#[derive(Drop)]
-struct Counter {
-    all: AtomicU64,
-    first: AtomicU64,
-}
-
-/// The values of the digits.
-const DIGITS: [u64; 3] = [1, 1_000, 1_000_000];
-
-impl Gate for Counter {
-    fn enter(&self, i: u64) {
-        self.all.fetch_add(1, Ordering::SeqCst);
-        if i < 3 {
-            self.first.fetch_add(DIGITS[i as usize], Ordering::SeqCst);
-        }
-    }
-}
-
 #[test]
 fn every_piece_up_to_the_least_fault_is_entered_once(rt: HostRuntime) {
     let task = Squares {
@@ -157,16 +138,13 @@ fn every_piece_up_to_the_least_fault_is_entered_once(rt: HostRuntime) {
     };
     for _ in 0..100 {
         for workers in [1, 2, 8, 64] {
-            let gate = Counter {
-                all: AtomicU64::new(0),
-                first: AtomicU64::new(0),
-            };
+            let gate = Counter::new();
             let answer = run_task(&rt, rt.alloc(), &task, workers, &gate);
             expect(&rt, is_fault(answer, 2), "the fault");
-            let first = gate.first.load(Ordering::SeqCst);
+            let first = gate.first() % 1_000_000_000;
             expect(&rt, first == 1_001_001, "the pieces up to the fault");
-            let all = gate.all.load(Ordering::SeqCst);
-            expect(&rt, 3 <= all && (workers > 1 || all == 3), "all pieces");
+            let is_last = gate.first() == first && gate.others() == 0;
+            expect(&rt, workers > 1 || is_last, "the pieces after it");
         }
     }
 }
@@ -237,34 +215,5 @@ fn two_pieces_are_performed_at_once(rt: HostRuntime) {
         let answer = run_task(&rt, rt.alloc(), &task, 2, &Open);
         let met = has_values(answer, &[0, 1]) && task.late.load(Ordering::SeqCst) == 0;
         expect(&rt, met, "two pieces");
-    }
-}
-
-/// Returns whether each value is the square of its piece.
-fn are_squares(values: &[u64]) -> bool {
-    let mut squares = values.len() == 10_000;
-    for i in 0..values.len() {
-        squares = squares && values[i] == (i as u64).wrapping_mul(i as u64);
-    }
-    squares
-}
-
-#[test]
-fn many_workers_answer_as_one(rt: HostRuntime) {
-    let mut seed = 1u64;
-    for _ in 0..100 {
-        seed = seed
-            .wrapping_mul(6364136223846793005)
-            .wrapping_add(1442695040888963407);
-        let task = Squares {
-            pieces: 10_000,
-            faults: ((seed >> 40) % 20_000, (seed >> 20) % 20_000),
-            memory: NONE,
-        };
-        let least = task.faults.0.min(task.faults.1);
-        match run(&rt, rt.alloc(), &task, 64, &Open) {
-            Ok(values) => expect(&rt, 10_000 <= least && are_squares(&values), "values"),
-            answer => expect(&rt, least < 10_000 && is_fault(answer, least), "a fault"),
-        }
     }
 }

@@ -5,17 +5,11 @@
 ghost use Rattle.std.specs.Prelude.{◌≡◌, true};
 
 use std::alloc::Global;
-use std::io::{self, ErrorKind, Read, Write};
+use std::io::{self, ErrorKind, Read};
 use std::process::Abort;
 use std::sync::atomic::{AtomicU64, Ordering};
 use std::thread;
 use zic_pieces::Gate;
-use zic_words::Name;
-
-/// The file of `Zone Etc/UTC 0 - UTC`, with the parts of RFC 9636: two headers, an empty first
-/// block, one local time type, its designation and the footer.
-pub const UTC_FILE: &[u8; 111] =
-    b"TZif2\0\0\0\0\0\0\0\0\0\0\0\0\0\0\0\0\0\0\0\0\0\0\0\0\0\0\0\0\0\0\0\0\0\0\x01\0\0\0\x01\0\0\0\0\0\0\0TZif2\0\0\0\0\0\0\0\0\0\0\0\0\0\0\0\0\0\0\0\0\0\0\0\0\0\0\0\0\0\0\0\0\0\0\x01\0\0\0\x04\0\0\0\0\0\0UTC\0\nUTC0\n";
 
 /// Returns what was made.
 pub fn must<T, E: Drop>(rt: &impl Abort, made: Result<T, E>) -> T {
@@ -37,17 +31,6 @@ pub fn expect_text(rt: &impl Abort, got: &[u8], want: &[u8], what: &str) {
     assert!(rt; got == want, "{what}: {got:?}");
 }
 
-/// Returns how often a byte stands in a text.
-pub fn count_of(text: &[u8], byte: u8) -> usize {
-    let mut count = 0usize;
-    for item in text {
-        if *item == byte {
-            count = count.wrapping_add(1);
-        }
-    }
-    count
-}
-
 /// Returns a copy of a text.
 pub fn copy_of(rt: &impl Abort, alloc: Global, text: &str) -> Vec<u8> {
     must(rt, Vec::from_slice(alloc, text.as_bytes()))
@@ -60,11 +43,6 @@ pub fn words_of(rt: &impl Abort, alloc: Global, text: &str) -> Vec<String> {
         must(rt, words.push(must(rt, String::from_str(alloc, word))));
     }
     words
-}
-
-/// Returns the name of a zone.
-pub fn name_of(rt: &impl Abort, alloc: Global, text: &str) -> Name {
-    must(rt, must(rt, Name::parse(alloc, text.as_bytes()).ok_or(())))
 }
 
 /// A reader that gives at most `step` bytes of a text at a time. At its end it may fail once. Then it
@@ -113,65 +91,6 @@ impl Read for Device<'_> {
     }
 }
 
-/// The way in which a writer fails, or is slow.
-#[derive(Clone, Copy)]
-pub enum Defect {
-    /// Takes at most three bytes at a time.
-    Slow,
-    /// Takes this number of bytes, and then fails.
-    Full(usize),
-    /// Takes no byte.
-    Stuck,
-    /// Takes all bytes, and fails when it is flushed.
-    Unflushed,
-}
-
-/// A writer that fails, or is slow.
-#[derive(Drop)]
-pub struct Sink {
-    held: Vec<u8>,
-    defect: Defect,
-}
-
-impl Sink {
-    /// Makes a writer that holds nothing.
-    pub fn new(alloc: Global, defect: Defect) -> Sink {
-        Sink {
-            held: Vec::new(alloc),
-            defect,
-        }
-    }
-
-    /// Returns what it took.
-    pub fn held(&self) -> &[u8] {
-        &self.held
-    }
-}
-
-impl Write for Sink {
-    fn write(&mut self, buf: &[u8]) -> io::Result<usize> {
-        let room = match self.defect {
-            Defect::Slow => 3,
-            Defect::Full(most) => most.saturating_sub(self.held.len()),
-            Defect::Stuck => return Ok(0),
-            Defect::Unflushed => buf.len(),
-        };
-        let n = room.min(buf.len());
-        if n == 0 {
-            return Err(io::Error::from(ErrorKind::Other));
-        }
-        self.held.extend_from_slice(&buf[..n])?;
-        Ok(n)
-    }
-
-    fn flush(&mut self) -> io::Result<()> {
-        match self.defect {
-            Defect::Unflushed => Err(io::Error::from(ErrorKind::Other)),
-            _ => Ok(()),
-        }
-    }
-}
-
 /// How long a piece waits for another, in turns.
 const MAX_TURNS: u64 = 1_000_000;
 
@@ -214,6 +133,47 @@ impl Gate for Hold {
             self.one_entered.store(1, Ordering::SeqCst);
         } else if !wait_for(&self.one_entered) {
             self.late.store(1, Ordering::SeqCst);
+        }
+    }
+}
+
+/// Counts how often pieces enter: each of the pieces 0 to 3 in a digit of its own to the base 1,000, and
+/// the others.
+#[derive(Drop)]
+pub struct Counter {
+    first: AtomicU64,
+    others: AtomicU64,
+}
+
+/// The values of the digits.
+const DIGITS: [u64; 4] = [1, 1_000, 1_000_000, 1_000_000_000];
+
+impl Counter {
+    /// Makes a gate that no piece has entered.
+    pub fn new() -> Counter {
+        Counter {
+            first: AtomicU64::new(0),
+            others: AtomicU64::new(0),
+        }
+    }
+
+    /// Returns the digits of the first pieces.
+    pub fn first(&self) -> u64 {
+        self.first.load(Ordering::SeqCst)
+    }
+
+    /// Returns how often other pieces entered.
+    pub fn others(&self) -> u64 {
+        self.others.load(Ordering::SeqCst)
+    }
+}
+
+impl Gate for Counter {
+    fn enter(&self, i: u64) {
+        if i < 4 {
+            self.first.fetch_add(DIGITS[i as usize], Ordering::SeqCst);
+        } else {
+            self.others.fetch_add(1, Ordering::SeqCst);
         }
     }
 }

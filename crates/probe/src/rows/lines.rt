@@ -36,23 +36,25 @@ fn push_fields(
         answers.push(b"nothing\n");
         return Ok(());
     }
-    push_entry(line_entry(alloc, awaited, PLACE, fields)?, answers);
+    let entry = line_entry(alloc, awaited, PLACE, fields)?;
+    push_entry(&entry, answers);
+    drop(entry);
     Ok(())
 }
 
-fn push_entry(entry: Entry, answers: &mut Answers) {
+fn push_entry(entry: &Entry, answers: &mut Answers) {
     match entry {
-        Entry::Rule(rule) => push_rule(&rule, answers),
+        Entry::Rule(rule) => push_rule(rule, answers),
         Entry::Zone(name, line) => {
             answers.word("zone");
             answers.octets(name.octets());
-            push_zone_line(&line, answers);
+            push_zone_line(line, answers);
         }
         Entry::Continuation(line) => {
             answers.word("continuation");
-            push_zone_line(&line, answers);
+            push_zone_line(line, answers);
         }
-        Entry::Link(link) => push_link(&link, answers),
+        Entry::Link(link) => push_link(link, answers),
     }
 }
 

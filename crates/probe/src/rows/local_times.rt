@@ -31,7 +31,7 @@ pub fn answer(alloc: Global, call: &Call<'_>, answers: &mut Answers) -> Result<(
 }
 
 /// Returns the zone of the file that a text is.
-fn zone_of(alloc: Global, call: &Call<'_>) -> Result<Zone, Refusal>
+pub fn zone_of(alloc: Global, call: &Call<'_>) -> Result<Zone, Refusal>
     ensures { IfOk result HaveOffsets }
 {
     instants_are_near();

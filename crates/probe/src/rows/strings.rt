@@ -73,6 +73,12 @@ fn parts(alloc: Global, text: &[u8], answers: &mut Answers) -> Result<(), Refusa
 /// `states INSTANT..`: appends what a footer means at instants.
 fn states(alloc: Global, call: &Call<'_>, answers: &mut Answers) -> Result<(), Refusal> {
     let footer = footer_of(alloc, call.text()?)?;
+    let pushed = push_states(&footer, call, answers);
+    drop(footer);
+    pushed
+}
+
+fn push_states(footer: &Footer, call: &Call<'_>, answers: &mut Answers) -> Result<(), Refusal> {
     for number in 0..call.len() {
         let t = call.instant(number)?;
         answers.show(&t);
@@ -85,9 +91,23 @@ fn states(alloc: Global, call: &Call<'_>, answers: &mut Answers) -> Result<(), R
 /// `spans INSTANT..`: appends the span of a footer round each instant, its flag, and whether the
 /// prepared footer answers the same.
 fn spans(alloc: Global, call: &Call<'_>, answers: &mut Answers) -> Result<(), Refusal> {
-    let text = call.text()?;
-    let prepared = prepared_of(alloc, text)?;
-    push_spans(alloc, text, &prepared, call, answers)
+    let prepared = prepared_of(alloc, call.text()?)?;
+    let pushed = push_both(alloc, &prepared, call, answers);
+    drop(prepared);
+    pushed
+}
+
+/// Appends the spans of a footer, and of the same one that is prepared.
+fn push_both(
+    alloc: Global,
+    prepared: &PreparedFooter,
+    call: &Call<'_>,
+    answers: &mut Answers,
+) -> Result<(), Refusal> {
+    let footer = footer_of(alloc, call.text()?)?;
+    let pushed = push_spans(&footer, prepared, call, answers);
+    drop(footer);
+    pushed
 }
 
 /// Returns the prepared footer of version 3 that a text is.
@@ -95,17 +115,14 @@ fn prepared_of(alloc: Global, text: &[u8]) -> Result<PreparedFooter, Refusal> {
     Ok(PreparedFooter::new(footer_of(alloc, text)?))
 }
 
-/// Appends the spans of the footer that a text is, and of the prepared one.
 fn push_spans(
-    alloc: Global,
-    text: &[u8],
+    footer: &Footer,
     prepared: &PreparedFooter,
     call: &Call<'_>,
     answers: &mut Answers,
 ) -> Result<(), Refusal> {
-    let footer = footer_of(alloc, text)?;
     for number in 0..call.len() {
-        push_span(&footer, prepared, call.instant(number)?, answers);
+        push_span(footer, prepared, call.instant(number)?, answers);
     }
     Ok(())
 }
