@@ -335,7 +335,7 @@ enum {
 
 /*
  * In place of PZIC_EARLIER, PZIC_LATER or PZIC_COMPATIBLE: a day on which clocks pass over the time of day is left
- * out, as RFC 5545, 3.3.10, leaves out dates that there aren't. In a fold the first instant.
+ * out, as RFC 5545, 3.3.10, ignores invalid dates. In a fold the first instant.
  */
 enum { PZIC_SKIP = 4 };
 

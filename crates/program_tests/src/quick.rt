@@ -1,4 +1,4 @@
-//! What saves time where rows are converted is at hand: instants in plain decimals, and the states of
+//! What saves time where rows are converted is used: instants in plain decimals, and the states of
 //! zones. That the rows are right is in tests/program/columns.txt and records.txt.
 
 ghost use Rattle.std.specs.Prelude.{◌≡◌};
@@ -53,7 +53,7 @@ const INSTANTS: [(usize, i64); 9] = [
     (2, 1_332_284_400),
 ];
 
-/// Returns whether the number of the state that a file shows at an instant is at hand.
+/// Returns whether a table has the number of the state that a file shows at an instant.
 fn is_at_hand(files: &Files, zones: &RowZones<'_>, file: usize, instant: i64) -> bool
     requires { zones.now ≡ files.now }
 {

@@ -19,7 +19,8 @@ const FARTHEST: i64 = FARTHEST_FILE_OFFSET as i64;
 /// The last local time whose instants are all in 64 bits.
 const LAST_LOCAL: i64 = i64::MAX - FARTHEST;
 
-/// The first instant that is surely in 64 bits where a local time is.
+/// The instant 25:59:59 after the first local time whose instants are all in 64 bits. A search from an
+/// earlier instant begins on the same day.
 const FIRST_SURE: i64 = i64::MIN + 2 * FARTHEST;
 
 /// Returns the least instant after `after` and at most `until` at which a schedule is due, or `None`
@@ -72,8 +73,8 @@ pub fn write_due(
     room.len()
 }
 
-/// Returns an instant that no local time which is due up to another is farther after than a UT offset
-/// can be.
+/// Returns the instant near which a search up to `until` ends: no local time that is due up to `until`
+/// is more than 25:59:59 after it.
 fn search_end(zone: &Zone, until: i64) -> i64
     requires { HaveOffsets zone.now }
     ensures { EndsAt zone.now until result }
@@ -84,7 +85,7 @@ fn search_end(zone: &Zone, until: i64) -> i64
     }
 }
 
-/// Returns the first day since 1970-01-01 on which a time of day may have an instant after another.
+/// Returns the first day since 1970-01-01 on which a time of day may be due after an instant.
 fn first_day(time: TimeOfDay, after: i64) -> i64
     ensures walk { IsOfWalk (local_time_on result time) }
     ensures first { (day : ℤ) → day <ℤ result → IsInRange (local_time_on day time)
@@ -94,8 +95,8 @@ fn first_day(time: TimeOfDay, after: i64) -> i64
     (from + (SECONDS_OF_DAY - 1)).div_euclid(SECONDS_OF_DAY)
 }
 
-/// Returns whether a time of day on a day since 1970-01-01 is in range, and may have an instant up to
-/// another.
+/// Returns whether a time of day on a day since 1970-01-01 is in range, and may be due up to an
+/// instant.
 fn may_be_due(time: TimeOfDay, day: i64, bound: i64) -> bool
     requires { IsOfWalk (local_time_on day time) }
     ensures range { IsTrue result → IsInRange (local_time_on day time) }
@@ -106,7 +107,8 @@ fn may_be_due(time: TimeOfDay, day: i64, bound: i64) -> bool
     local <= LAST_LOCAL && local - FARTHEST <= bound
 }
 
-/// Returns the earlier of what was found and of what is due on one day more, if that is in the range.
+/// Returns the earlier of the instant that was found and the one that is due on one day more, of which
+/// each may be missing. An instant that isn't after `after`, or is after `until`, isn't taken.
 fn earlier(found: Option<i64>, due: Option<i64>, after: i64, until: i64) -> Option<i64>
     ensures { MatchOption result ((t : ℤ) → IsCandidate found due after until t → ⊥)
         (λ t. IsCandidate found due after until t

@@ -25,7 +25,7 @@ impl Model for TimeOfDay {
 }
 
 impl TimeOfDay {
-    /// Returns the time of day so many seconds after midnight, or `None` from 86,400 on.
+    /// Returns the time of day this number of seconds after midnight, or `None` from 86,400 on.
     pub fn new(seconds: u32) -> Option<TimeOfDay>
         ensures just { IsSome result ↔ (seconds < 86_400) }
         ensures some { IfSome result (λ time. time ≡ seconds) }
