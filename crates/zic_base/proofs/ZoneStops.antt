@@ -5,9 +5,9 @@ use Rattle.zic_base.specs.Fault.{fault_at, fault_of, kind_of, stop_at}
 use Rattle.zic_base.specs.declared.fault.Fault.{Fault}
 use Rattle.zic_base.specs.declared.fault.Kind.{Kind}
 use Rattle.zic_base.specs.declared.fault.Stop.{Stop}
-use Rattle.zic_base.specs.declared.place.Place.{Place}
-use Rattle.zic_base.specs.declared.zone_stop.ZoneStop.{ZoneStop}
-use Rattle.zic_base.specs.declared.zone_stop.ZoneStop.TheVariants as zone_stops
+use Rattle.zic_base.specs.declared.fault.Place.{Place}
+use Rattle.zic_base.specs.declared.stops.ZoneStop.{ZoneStop}
+use Rattle.zic_base.specs.declared.stops.ZoneStop.TheVariants as zone_stops
 
 placed_fault : (place : Place) (stop : ZoneStop) (P : Kind → Type 0) (Q : Fault → Type 0) → ((kind : Kind) → P kind → Q (fault_at place kind))
     → IfSome (kind_of stop) P → IfSome (fault_of (stop_at place stop)) Q

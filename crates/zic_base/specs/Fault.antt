@@ -2,14 +2,14 @@
 -- variant.
 use Rattle.std.specs.Prelude.{◌≡◌, ℕ, List, Option, Some, None, codes}
 use Rattle.zic_base.specs.Check.{Check, first_failed}
-use Rattle.zic_base.specs.declared.place.Place.{Place}
+use Rattle.zic_base.specs.declared.fault.Place.{Place}
 use Rattle.zic_base.specs.declared.fault.Fault.{Fault}
 use Rattle.zic_base.specs.declared.fault.Kind.{Kind}
 use Rattle.zic_base.specs.declared.fault.Kind.TheVariants as kind
 use Rattle.zic_base.specs.declared.fault.Stop.{Stop}
 use Rattle.zic_base.specs.declared.fault.Stop.TheVariants as stops
-use Rattle.zic_base.specs.declared.zone_stop.ZoneStop.{ZoneStop}
-use Rattle.zic_base.specs.declared.zone_stop.ZoneStop.TheVariants as zone_stops
+use Rattle.zic_base.specs.declared.stops.ZoneStop.{ZoneStop}
+use Rattle.zic_base.specs.declared.stops.ZoneStop.TheVariants as zone_stops
 
 -- this kind of fault at this place
 abbrev pub fault_at : Place → Kind → Fault

@@ -1,8 +1,9 @@
-//! Faults of a source: their kinds and places.
+//! Faults of a source: their kinds and places, and the names that numbers of faults stand for.
 
-ghost use Rattle.std.specs.Prelude.{◌≡◌};
+ghost use Rattle.std.specs.Prelude.{◌≡◌, ◌↔◌, IsTrue, ℕ, List, MatchOption};
+ghost use Rattle.zic_base.specs.FaultName.{IsFaultName};
 
-use crate::place::Place;
+use crate::row_fault::RowKind;
 use std::alloc::{AllocError, AllocFailed};
 
 /// The kind of a fault of a source line, of a zone or of its file. The number of each kind is
@@ -218,5 +219,36 @@ impl<T: Drop> From<AllocFailed<T>> for Stop {
 
     fn from(_e: AllocFailed<T>) -> Stop {
         Stop::Memory
+    }
+}
+
+/// The place of a line: the text's number and the line's number in it, both from 1.
+#[derive(Clone, Copy, Debug, PartialEq, Eq)]
+pub struct Place {
+    pub text: u64,
+    pub line: u64,
+}
+
+impl Place {
+    ghost use Rattle.zic_base.specs.Place.{IsBefore};
+
+    /// Returns whether this place stands before the other: in an earlier text, or in an earlier
+    /// line of the same text.
+    pub fn is_before(self, other: Place) -> bool
+        ensures { IsTrue result ↔ IsBefore self other }
+    {
+        self.text < other.text || (self.text == other.text && self.line < other.line)
+    }
+}
+
+/// Returns the name of the fault whose kind has this number, if one has it: 1 to 34 are those of
+/// sources, 35 to 44 those of rows.
+pub fn name_of_fault(number: u32) -> Option<&'static str>
+    ensures { MatchOption result ((name : List ℕ) → IsFaultName number name → ⊥)
+        (λ name. IsFaultName number name.now) }
+{
+    match Kind::of_number(number) {
+        Some(kind) => Some(kind.name()),
+        None => Some(RowKind::of_number(number)?.name()),
     }
 }

@@ -11,28 +11,20 @@
 //! and `offset_text` are the definitions of these names.
 #![tactic(auto)]
 
-mod byte;
+mod constants;
 mod digits;
 mod fault;
-mod fault_name;
-mod limit;
-mod place;
 mod row_fault;
-mod run_stop;
 mod short_text;
 mod state;
-mod word;
-mod zone_stop;
+mod stops;
 
-pub use byte::{are_abbreviation_bytes, is_abbreviation_byte};
+pub use constants::{
+    FARTHEST_FILE_OFFSET, LONGEST_ABBREVIATION, LONGEST_FILE, SHORTEST_ABBREVIATION, STANDARD_INPUT,
+};
 pub use digits::{clock_text, offset_text, two_digits};
-pub use fault::{Fault, Kind, Stop};
-pub use fault_name::name_of_fault;
-pub use limit::{FARTHEST_FILE_OFFSET, LONGEST_ABBREVIATION, LONGEST_FILE, SHORTEST_ABBREVIATION};
-pub use place::Place;
+pub use fault::{Fault, Kind, Place, Stop, name_of_fault};
 pub use row_fault::{RowFault, RowKind};
-pub use run_stop::RunStop;
 pub use short_text::ShortText;
-pub use state::State;
-pub use word::STANDARD_INPUT;
-pub use zone_stop::ZoneStop;
+pub use state::{State, are_abbreviation_bytes, is_abbreviation_byte};
+pub use stops::{RunStop, ZoneStop};

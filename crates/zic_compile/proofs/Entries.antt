@@ -4,13 +4,13 @@ use Rattle.std.specs.Prelude.{IfSome, IsSomeAnd, slice_get}
 use Rattle.std.specs.List.{AllZip}
 use Rattle.std.proofs.lemmas.Option.{slice_get_within, get_or_from_slice_get}
 use Rattle.zic_base.specs.Place.{IsBefore}
-use Rattle.zic_base.specs.declared.place.Place.{Place}
+use Rattle.zic_base.specs.declared.fault.Place.{Place}
 use Rattle.zic_base.proofs.Options.{some_of, if_at}
 use Rattle.zic_lines.specs.declared.link.Link.{Link}
 use Rattle.zic_source.specs.Links.{EndsAt}
 use Rattle.zic_source.specs.Sound.{AreInOrder}
 use Rattle.zic_source.specs.Source.{SourceLines, ZoneLines, zone_at}
-use Rattle.zic_files.specs.declared.entry.Entry.{Entry}
+use Rattle.zic_files.specs.declared.names.Entry.{Entry}
 use Rattle.zic_compile.specs.code.Entries.{AreEntriesOf, IsEntryAt, IsEntryOfZone, IsEntryOfLink, IsZoneNext, IsLinkNext}
 use Rattle.zic_compile.proofs.Merging.{IsMerged, none_merged, one_merged, turned, all_first}
 

@@ -4,12 +4,12 @@ use Rattle.std.specs.Prelude.{Result, Ok, Err, IfErr, map, slice_get}
 use Rattle.std.specs.List.{AllZip}
 use Rattle.std.proofs.lemmas.Option.{slice_get_within, slice_get-get_or}
 use Rattle.std.proofs.lemmas.List.Elements.{All-nil, All-cons}
-use Rattle.zic_base.specs.declared.place.Place.{Place}
+use Rattle.zic_base.specs.declared.fault.Place.{Place}
 use Rattle.zic_source.specs.Links.{LeadsTo}
 use Rattle.zic_source.specs.Source.{SourceLines, zone_at}
 use Rattle.zic_files.specs.File.{FileImage, file_of, no_image}
 use Rattle.zic_compile.specs.Files.{AreFilesOf, AreImagesOf, IsFileAt}
-use Rattle.zic_files.specs.declared.entry.Entry.{Entry}
+use Rattle.zic_files.specs.declared.names.Entry.{Entry}
 use Rattle.zic_compile.specs.code.Entries.{AreEntriesOf, IsEntryAt}
 use Rattle.zic_base.proofs.Options.{some_of}
 

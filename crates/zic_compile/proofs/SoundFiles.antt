@@ -6,8 +6,8 @@ use Rattle.std.proofs.lemmas.List.{length-map}
 use Rattle.std.proofs.lemmas.List.Elements.{All-nil, All-cons, All-contains}
 use Rattle.std.proofs.lemmas.Option.{same_Some, slice_get-get_or, slice_get_within, get_or_from_slice_get}
 use Rattle.zic_base.specs.Place.{IsBefore}
-use Rattle.zic_base.specs.declared.place.Place.{Place}
-use Rattle.zic_words.specs.Name.{is_name}
+use Rattle.zic_base.specs.declared.fault.Place.{Place}
+use Rattle.zic_lines.specs.Name.{is_name}
 use Rattle.zic_lines.specs.declared.link.Link.{Link}
 use Rattle.zic_source.specs.Sound.{IsSoundSource, IsSoundZone, IsSoundLink, names_of}
 use Rattle.zic_source.specs.Source.{SourceLines, ZoneLines, zone_at}

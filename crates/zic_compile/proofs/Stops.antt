@@ -4,8 +4,8 @@ use Rattle.std.specs.Prelude.{IfErr, IfSome, IfNone}
 use Rattle.zic_base.specs.Fault.{fault_of}
 use Rattle.zic_base.specs.declared.fault.Stop.{Stop}
 use Rattle.zic_base.specs.declared.fault.Stop.TheVariants as stop
-use Rattle.zic_base.specs.declared.run_stop.RunStop.{RunStop}
-use Rattle.zic_base.specs.declared.run_stop.RunStop.TheVariants.{Source, Row, ReadFailed, WriteFailed, ColumnTooLong, Memory, NoThread, LogFailed}
+use Rattle.zic_base.specs.declared.stops.RunStop.{RunStop}
+use Rattle.zic_base.specs.declared.stops.RunStop.TheVariants.{Source, Row, ReadFailed, WriteFailed, ColumnTooLong, Memory, NoThread, LogFailed}
 use Rattle.zic_base.specs.RunStop.{run_stop}
 use Rattle.zic_source.specs.FirstFault.{IsFirstFault, MayRunOutOfMemory}
 use Rattle.zic_source.specs.Grammar.{IsSource}

@@ -5,8 +5,8 @@ use Rattle.zic_base.specs.declared.fault.Fault.{Fault}
 use Rattle.zic_source.specs.FirstFault.{IsFirstFault, MayRunOutOfMemory}
 use Rattle.zic_source.specs.Grammar.{IsSource}
 use Rattle.zic_source.specs.Source.{SourceLines}
-use Rattle.zic_base.specs.declared.run_stop.RunStop.{RunStop}
-use Rattle.zic_base.specs.declared.run_stop.RunStop.TheVariants as stops
+use Rattle.zic_base.specs.declared.stops.RunStop.{RunStop}
+use Rattle.zic_base.specs.declared.stops.RunStop.TheVariants as stops
 use Rattle.zic_files.specs.File.{File}
 use Rattle.zic_compile.specs.Files.{AreFilesOf, IsFaultOfFiles}
 

@@ -2,7 +2,7 @@
 use Rattle.std.specs.Prelude.{◌≡◌, ℤ, ◌↔◌, ◌⊎◌, IsSomeAnd}
 use Rattle.zic_base.specs.State.{Shown}
 use Rattle.zic_base.specs.declared.fault.Fault.{Fault}
-use Rattle.zic_base.specs.declared.place.Place.{Place}
+use Rattle.zic_base.specs.declared.fault.Place.{Place}
 use Rattle.zic_states.specs.Fault.{HasOffsetOutOfRange, IsFaultOfStates, IsSound}
 use Rattle.zic_states.specs.Zone.{Zone, Shows, lines_of}
 use Rattle.zic_posix.specs.Footer.{TzString}

@@ -8,5 +8,5 @@ pub use Rattle.zic_source.specs.Grammar
 pub use Rattle.zic_source.specs.FirstFault
 pub use Rattle.zic_files.specs.File
 pub use Rattle.zic_files.specs.Sound
-pub use Rattle.zic_plan.specs.Plan
+pub use Rattle.zic_layouts.specs.Plan
 pub use Rattle.zic_base.specs.RunStop

@@ -13,10 +13,10 @@ use std::sync::Wait;
 use std::thread::Threads;
 use zic_base::RunStop;
 use zic_files::{Files, Image};
-use zic_occurrences::ListedSource;
+use zic_layouts::Plan;
 use zic_pieces::{Gate, TaskStop, run_task};
-use zic_plan::Plan;
 use zic_source::{Fault, Source, read_source};
+use zic_states::ListedSource;
 
 /// Returns the files of all Zone and Link lines of the texts, in the order of the texts and their
 /// lines: a zone's with its image, a link's with that of the zone at the end of its chain. Each,

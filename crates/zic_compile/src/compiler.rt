@@ -1,15 +1,17 @@
-//! Compiles a source on the calling thread.
+//! Compiles a source on the calling thread, and the images of its zones.
 
-ghost use Rattle.std.specs.Prelude.{◌<◌, length, IfOk, IfErr};
+ghost use Rattle.std.specs.Prelude.{◌<◌, length, IfOk, IfErr, ◌≤◌};
 ghost use Rattle.zic_base.specs.Fault.{fault_of};
 ghost use Rattle.zic_base.specs.Memory.{IfRefusal, OnOutOfMemory};
 ghost use Rattle.zic_compile.specs.Files.{AreImagesOf, AreFilesOf, IsFaultOfFiles, CompileNeedsMemory};
+ghost use Rattle.zic_compile.specs.code.Zones.{AreImagesWithin, IsFaultWithin, NeedsMemoryWithin};
 
 use crate::entry::entries_of;
-use crate::images::images_of;
+use crate::image::image_of;
 use std::alloc::{AllocError, Global};
 use zic_files::{Files, Image};
 use zic_source::{Source, Stop};
+use zic_states::ListedSource;
 
 /// Returns the files of all Zone and Link lines, in the order of the texts and their lines: a
 /// zone's with its image, a link's with that of the zone at the end of its chain. Each, read by
@@ -45,4 +47,44 @@ pub(crate) fn files_of(
     let entries = entries_of(alloc, source)?;
     let files = Files::new(alloc, images, entries)?;
     Ok(files)
+}
+
+/// Returns the images of the zones from one number on up to another, in order, or the fault of the
+/// first that has one.
+pub(crate) fn images_of(
+    alloc: Global,
+    source: &Source,
+    first: usize,
+    end: usize,
+) -> Result<Vec<Image>, Stop>
+    requires order { first ≤ end }
+    requires zones { end ≤ length source.now.zones }
+    ensures ok { IfOk result (λ images. AreImagesWithin source.now first end images.items) }
+    ensures err { IfRefusal fault_of result (IsFaultWithin source.now first end) }
+    ensures memory { OnOutOfMemory fault_of result (NeedsMemoryWithin source.now first end) }
+{
+    let listed = ListedSource::new(alloc, source);
+    images_within(alloc, &listed, first, end)
+}
+
+/// Returns the images of the zones from one number on up to another, in order, or the fault of the
+/// first that has one, by the occurrences that they share.
+pub(crate) fn images_within(
+    alloc: Global,
+    source: &ListedSource<'_>,
+    first: usize,
+    end: usize,
+) -> Result<Vec<Image>, Stop>
+    requires order { first ≤ end }
+    requires zones { end ≤ length source.now.zones }
+    ensures ok { IfOk result (λ images. AreImagesWithin source.now first end images.items) }
+    ensures err { IfRefusal fault_of result (IsFaultWithin source.now first end) }
+    ensures memory { OnOutOfMemory fault_of result (NeedsMemoryWithin source.now first end) }
+{
+    let mut images = Vec::new(alloc);
+    for zone in first..end {
+        let image = image_of(alloc, source, zone)?;
+        images.push(image)?;
+    }
+    Ok(images)
 }

@@ -17,8 +17,8 @@ use std::alloc::{AllocError, Global};
 use zic_base::{Place, Stop};
 use zic_files::Image;
 use zic_footer::{Footer, make};
-use zic_occurrences::ListedSource;
 use zic_rules::{Timeline, timeline};
+use zic_states::ListedSource;
 use zic_table::table;
 use zic_tzif::{ReadStop, Table, Zone, read, write};
 

@@ -14,7 +14,6 @@ mod builder;
 mod compiler;
 mod entry;
 mod image;
-mod images;
 pub mod laws;
 mod pieces;
 

@@ -1,16 +1,16 @@
 //! The zones of a source, in pieces for several workers.
 
 ghost use Rattle.std.specs.Prelude.{◌≡◌, ◌≤◌, ◌<◌, ◌+◌, IfOk, flat_map};
-ghost use Rattle.zic_plan.specs.declared.plan.TheConstants.{MAX_OF_PIECE};
+ghost use Rattle.zic_layouts.specs.declared.plan.TheConstants.{MAX_OF_PIECE};
 ghost use Rattle.zic_compile.specs.code.Pieces.{ArePieces, count_of, start_of};
 
-use crate::images::images_within;
+use crate::compiler::images_within;
 use std::alloc::{AllocError, Global};
 use std::marker::Model;
 use zic_files::Image;
-use zic_occurrences::ListedSource;
 use zic_pieces::{PieceStop, Task};
 use zic_source::{Fault, MAX_NAMES, Stop};
+use zic_states::ListedSource;
 
 /// The images of the zones of a piece.
 #[derive(Drop)]

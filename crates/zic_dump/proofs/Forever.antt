@@ -15,7 +15,7 @@ use Rattle.zic_tzif.specs.declared.content.Change.{Change}
 use Rattle.zic_tzif.specs.Content.{Content}
 use Rattle.zic_tzif.specs.LastTransition.{IsLastTransitionAt}
 use Rattle.zic_tzif.specs.Answer.{Answers, Gives, IsBeforeLast, IsTypeAt}
-use Rattle.zic_posix.specs.declared.instants.TheConstants.{MIN_INSTANT, MAX_INSTANT}
+use Rattle.zic_posix.specs.declared.span.TheConstants.{MIN_INSTANT, MAX_INSTANT}
 use Rattle.zic_dump.specs.Changes.{ChangesAt, StaysSame}
 use Rattle.zic_dump.specs.NearChanges.{IsNextChange, IsPreviousChange}
 use Rattle.zic_dump.specs.code.Walk.{IsFirstWithin, IsLastWithin}

@@ -1,7 +1,7 @@
 -- Changes that were found are the first, the last and just those.
 use Rattle.std.proofs.Common.{◌≡◌, ℕ, ℤ, ◌<ℤ◌, ◌≤ℤ◌, inl, inr, List, [], ◌∷◌, ◌++◌, ◌≤◌, length, take, drop, refl, arith}
 use Rattle.std.proofs.lemmas.Int.{ints, by_lt_z}
-use Rattle.zic_posix.specs.declared.instants.TheConstants.{MIN_INSTANT}
+use Rattle.zic_posix.specs.declared.span.TheConstants.{MIN_INSTANT}
 use Rattle.zic_tzif.specs.Content.{Content}
 use Rattle.zic_dump.specs.Changes.{ChangesAt, StaysSame}
 use Rattle.zic_local.specs.LocalTime.{AreJust}

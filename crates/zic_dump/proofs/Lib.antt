@@ -1,3 +1,4 @@
+pub mod ContentLines
 pub mod ChangeLemmas
 pub mod OffsetLemmas
 pub mod OneText

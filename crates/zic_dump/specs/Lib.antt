@@ -1,3 +1,4 @@
+pub mod ContentLines
 pub mod Changes
 pub mod NearChanges
 pub mod Laws

@@ -2,7 +2,7 @@
 -- answered from then on, so a transition that changes nothing is none.
 use Rattle.std.specs.Prelude.{◌≡◌, ℕ, ◌<◌, ◌≤◌, ℤ, ◌<ℤ◌, ◌≤ℤ◌, List, length, take, drop}
 use Rattle.zic_calendar.specs.Weekday.{IsLeast, IsGreatest}
-use Rattle.zic_posix.specs.declared.instants.TheConstants.{MIN_INSTANT}
+use Rattle.zic_posix.specs.declared.span.TheConstants.{MIN_INSTANT}
 use Rattle.zic_tzif.specs.Content.{Content}
 use Rattle.zic_dump.specs.Changes.{ChangesAt}
 use Rattle.zic_local.specs.LocalTime.{AreJust}

@@ -6,7 +6,7 @@ ghost use Rattle.std.specs.Int.{int_rem_euclid};
 ghost use Rattle.std.specs.List.{list_all};
 ghost use Rattle.zic_base.specs.Digits.{two_digits};
 ghost use Rattle.zic_base.specs.State.{shown};
-ghost use Rattle.zic_base.specs.declared.limit.TheConstants.{FARTHEST_FILE_OFFSET};
+ghost use Rattle.zic_base.specs.declared.constants.TheConstants.{FARTHEST_FILE_OFFSET};
 ghost use Rattle.zic_tzif.specs.Answer.{answered};
 ghost use Rattle.zic_dump.specs.Changes.{Change, shown_for, HasLocalTime, IsLocalAt};
 ghost use Rattle.zic_dump.specs.Text.{change_line, line_text, head_text, date_text, time_text, clock_text, is_placeholder, zdump_offset, escaped, quoted, is_word, name_text, state_text};

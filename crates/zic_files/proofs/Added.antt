@@ -6,13 +6,13 @@ use Rattle.std.proofs.lemmas.List.Elements.{All-head, All-tail, All-push, All-we
 use Rattle.std.proofs.lemmas.List.Quantifiers.{all_pairs_push}
 use Rattle.std.proofs.lemmas.Option.{get_or_from_slice_get, slice_get_within}
 use Rattle.zic_base.specs.State.{Shown}
-use Rattle.zic_words.specs.Limits.{IsWithinLimits}
-use Rattle.zic_words.specs.Name.{is_name}
+use Rattle.zic_lines.specs.Limits.{IsWithinLimits}
+use Rattle.zic_lines.specs.Name.{is_name}
 use Rattle.zic_tzif.specs.Answer.{Answers}
 use Rattle.zic_tzif.specs.Content.{Content}
 use Rattle.zic_tzif.specs.Laws.{StatesHaveNumbers, FootersLeaveNothingOpen}
 use Rattle.zic_tzif.specs.Reading.{IsFile}
-use Rattle.zic_files.specs.declared.entry.Entry.{Entry}
+use Rattle.zic_files.specs.declared.names.Entry.{Entry}
 use Rattle.zic_files.specs.declared.name_index.NameIndex.{NameIndex}
 use Rattle.zic_files.specs.File.{FileImage, File, no_image, file_of}
 use Rattle.zic_files.specs.Fit.{IsFit}

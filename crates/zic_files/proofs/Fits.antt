@@ -3,7 +3,7 @@ use Rattle.std.proofs.Common.{◌≡◌, ◌<◌, ◌+◌, ℕ, List, ⊎_elim, 
 use Rattle.std.specs.Prelude.{IfSome, IfNone}
 use Rattle.std.proofs.lemmas.Bool.{cases_lt}
 use Rattle.zic_base.specs.State.{Shown}
-use Rattle.zic_words.specs.Limits.{IsWithinLimits}
+use Rattle.zic_lines.specs.Limits.{IsWithinLimits}
 use Rattle.zic_tzif.specs.Content.{Content}
 use Rattle.zic_tzif.specs.Reading.{IsFile, IsFault, ReadNeedsMemory, reason_of}
 use Rattle.zic_tzif.specs.States.{IsStateOfNumber}

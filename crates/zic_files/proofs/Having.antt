@@ -5,7 +5,7 @@ use Rattle.std.proofs.Math.Seq.{get_or-append_seam}
 use Rattle.std.proofs.lemmas.List.{append-nil, get_or_append_left}
 use Rattle.std.proofs.lemmas.List.Elements.{All-contains, All-weaker, Contains-append_right}
 use Rattle.zic_base.proofs.Elements.{first_contained, into_map}
-use Rattle.zic_words.specs.Name.{is_name}
+use Rattle.zic_lines.specs.Name.{is_name}
 use Rattle.zic_tzif.specs.Laws.{StatesHaveNumbers, FootersLeaveNothingOpen}
 use Rattle.zic_files.specs.File.{File, FileImage}
 use Rattle.zic_files.specs.Fit.{AreFit}

@@ -6,11 +6,11 @@ use Rattle.std.proofs.lemmas.List.Elements.{All-map, All-push, All-weaker, Conta
 use Rattle.std.proofs.lemmas.List.Quantifiers.{all_pairs_push, Any-push}
 use Rattle.zic_base.proofs.Elements.{contains_got, into_map}
 use Rattle.zic_base.proofs.Options.{some_of}
-use Rattle.zic_words.specs.Name.{is_name}
+use Rattle.zic_lines.specs.Name.{is_name}
 use Rattle.zic_tzif.specs.Content.{Content}
 use Rattle.zic_tzif.specs.Laws.{FilesHaveNoFault, FilesSayOne}
 use Rattle.zic_tzif.specs.Reading.{IsFile}
-use Rattle.zic_files.specs.declared.entry.Entry.{Entry}
+use Rattle.zic_files.specs.declared.names.Entry.{Entry}
 use Rattle.zic_files.specs.declared.image.Unfit.{Unfit}
 use Rattle.zic_files.specs.declared.image.Unfit.TheVariants as unfit
 use Rattle.zic_files.specs.File.{FileImage, File}

@@ -10,7 +10,7 @@ use Rattle.std.proofs.lemmas.Nat.{mul-le}
 use Rattle.std.proofs.lemmas.Option.{slice_get-get_or, slice_get_within, get_or_from_slice_get}
 use Rattle.std.specs.Simd.Lanes.{fold_l}
 use Rattle.zic_base.proofs.Lists.{get_mapped, take_next}
-use Rattle.zic_files.specs.declared.entry.Entry.{Entry}
+use Rattle.zic_files.specs.declared.names.Entry.{Entry}
 use Rattle.zic_files.specs.File.{FileImage, file_of, no_image}
 use Rattle.zic_files.specs.declared.name_index.NameIndex.{NameIndex}
 use Rattle.zic_files.specs.code.NameIndex.{bucket_in, bucket_of, hash_more, hash_of, IsLastIn, AreLinked, AreNumbersUpTo, AreNumbersOf, IsSought}

@@ -1,7 +1,7 @@
 -- A file: its name, its bytes, and what a reader makes of them.
 use Rattle.std.specs.Prelude.{ℕ, List, [], slice_index_or}
 use Rattle.zic_tzif.specs.Content.{Content, content}
-use Rattle.zic_files.specs.declared.entry.Entry.{Entry}
+use Rattle.zic_files.specs.declared.names.Entry.{Entry}
 
 -- the bytes of a file, and what a reader makes of them
 pub record FileImage : Type 0 where

@@ -1,7 +1,7 @@
 -- Files that rows can be made of, and why bytes are no such file: own choice.
 use Rattle.std.specs.Prelude.{◌≡◌, ◌≢◌, ℕ, List, []}
 use Rattle.zic_base.specs.State.{Shown}
-use Rattle.zic_words.specs.Limits.{IsWithinLimits}
+use Rattle.zic_lines.specs.Limits.{IsWithinLimits}
 use Rattle.zic_tzif.specs.Content.{Content}
 use Rattle.zic_tzif.specs.Reading.{IsFile, IsFault, ReadNeedsMemory}
 use Rattle.zic_tzif.specs.States.{IsStateOfNumber}

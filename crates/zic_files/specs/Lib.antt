@@ -8,5 +8,5 @@ pub use Rattle.zic_tzif.specs.Reading
 pub use Rattle.zic_tzif.specs.Answer
 pub use Rattle.zic_tzif.specs.Content
 pub use Rattle.zic_tzif.specs.States
-pub use Rattle.zic_words.specs.Name
-pub use Rattle.zic_words.specs.Limits
+pub use Rattle.zic_lines.specs.Name
+pub use Rattle.zic_lines.specs.Limits

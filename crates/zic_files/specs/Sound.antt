@@ -1,8 +1,8 @@
 -- Sound files, as those of every source are; the layers above cite these names.
 use Rattle.std.specs.Prelude.{◌≡◌, ◌≢◌, ℤ, true, List, [], Option, All, AllPairs, IsSomeAnd}
 use Rattle.zic_base.specs.State.{Shown}
-use Rattle.zic_words.specs.Name.{is_name}
-use Rattle.zic_words.specs.Limits.{IsWithinLimits}
+use Rattle.zic_lines.specs.Name.{is_name}
+use Rattle.zic_lines.specs.Limits.{IsWithinLimits}
 use Rattle.zic_tzif.specs.Content.{Content}
 use Rattle.zic_tzif.specs.Answer.{Answers}
 use Rattle.zic_tzif.specs.Reading.{IsFile}

@@ -1,7 +1,7 @@
 -- A tree of files from outside: what it replied, and the files that rows are made of: own choice.
 use Rattle.std.specs.Prelude.{◌≡◌, ◌≢◌, ◌⊎◌, ℕ, true, List, [], ◌∷◌, ◌++◌, Option, Some, None, map, All, AllPairs, Any, Contains, IsSomeAnd}
 pub use Rattle.zic_base.specs.Growth.{Gains}
-use Rattle.zic_words.specs.Name.{is_name}
+use Rattle.zic_lines.specs.Name.{is_name}
 use Rattle.zic_files.specs.File.{File, FileImage}
 use Rattle.zic_files.specs.Fit.{IsFit, AreFit}
 use Rattle.zic_files.specs.Sound.{AreSoundFiles}

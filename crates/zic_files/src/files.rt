@@ -1,20 +1,20 @@
 //! Files by number and by name.
 
 ghost use Rattle.std.specs.Prelude.{◌≡◌, ◌≢◌, ◌<◌, true, [], ◌∷◌, ◌++◌, length, slice_get, All, IfSome, IfNone, IfOk, IfErr, IsSomeAnd};
-ghost use Rattle.zic_words.specs.Name.{is_name};
+ghost use Rattle.zic_lines.specs.Name.{is_name};
 ghost use Rattle.zic_tzif.specs.Reading.{IsFile};
 ghost use Rattle.zic_files.specs.Fit.{IsFit};
 ghost use Rattle.zic_files.specs.Sound.{IsAlwaysKnown, IsSoundFile, AreSoundFiles};
 
-use crate::entry::Entry;
 use crate::image::Image;
 use crate::images::Images;
 use crate::name_index::NameIndex;
+use crate::names::Entry;
 use std::alloc::{AllocError, Global};
 use std::marker::Model;
+use zic_lines::Name;
 use zic_tzif::Zone;
 use zic_tzif::laws::{footers_leave_nothing_open, states_have_numbers};
-use zic_words::Name;
 
 /// Files by name, as those of all Zone and Link lines, in the order of the texts and their lines.
 /// A link shares the image of its zone. The names of files differ.

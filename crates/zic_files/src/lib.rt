@@ -13,7 +13,6 @@
 //! `AreRequestedOnce`).
 #![tactic(auto)]
 
-mod entry;
 mod files;
 mod image;
 mod images;
@@ -23,7 +22,7 @@ mod name_index;
 mod names;
 mod tree;
 
-pub use entry::Entry;
 pub use files::Files;
 pub use image::{Image, Unfit};
+pub use names::Entry;
 pub use tree::{TreeFiles, ZoneTree};

@@ -3,14 +3,14 @@
 ghost use Rattle.std.specs.Bool.{Decides, MatchBool};
 ghost use Rattle.std.specs.Prelude.{◌≡◌, MatchResult};
 ghost use Rattle.zic_base.specs.State.{shown};
-ghost use Rattle.zic_words.specs.Limits.{is_abbreviation, IsWithinLimits};
+ghost use Rattle.zic_lines.specs.Limits.{is_abbreviation, IsWithinLimits};
 ghost use Rattle.zic_files.specs.Fit.{AreWithinLimits, HasStateOutside, IsFit};
 ghost use Rattle.zic_files.specs.code.Unfit.{IsUnfitContent};
 
 use crate::image::Unfit;
 use zic_base::{LONGEST_ABBREVIATION, SHORTEST_ABBREVIATION, State, are_abbreviation_bytes};
+use zic_lines::GREATEST_OFFSET;
 use zic_tzif::Zone;
-use zic_words::GREATEST_OFFSET;
 
 /// Returns whether a name is an abbreviation: 3 to 16 ASCII letters, digits, `+` and `-`.
 fn is_abbreviation(name: &[u8]) -> bool

@@ -3,7 +3,7 @@
 ghost use Rattle.std.specs.Prelude.{◌≡◌, ◌≢◌, ◌+◌, ◌<◌, ◌≤◌, ◌^◌, [], length, slice_get, slice_index, All, IfSome, IfNone, IfOk, IfErr, OnOk, OnErr, IsSomeAnd};
 ghost use Rattle.zic_files.specs.code.NameIndex.{bucket_of, hash_of, AreNumbersUpTo, AreNumbersOf};
 
-use crate::entry::Entry;
+use crate::names::Entry;
 use std::alloc::{AllocError, Global};
 
 /// The number of the first buckets, a power of two: some seven for each name of the tz database, so

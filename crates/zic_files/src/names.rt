@@ -1,13 +1,12 @@
-//! Names, each looked up by hash.
+//! Entries, each of which gives a name an image, and their names, each looked up by hash.
 
 ghost use Rattle.std.specs.Prelude.{◌≡◌, [], ◌∷◌, ◌++◌, Contains, IfOk, IfErr};
 ghost use Rattle.std.specs.Bool.{Decides};
 
-use crate::entry::Entry;
 use crate::name_index::NameIndex;
 use std::alloc::{AllocError, Global};
 use std::marker::Model;
-use zic_words::Name;
+use zic_lines::Name;
 
 /// Names in the order in which they were added. Clauses see them.
 #[derive(Drop)]
@@ -62,4 +61,13 @@ impl Names {
             }
         }
     }
+}
+
+/// A file's name, and the number of the zone whose image it has.
+#[derive(Debug, Drop)]
+pub struct Entry {
+    /// The name.
+    pub name: Name,
+    /// The number of the zone, from 0.
+    pub zone: usize,
 }

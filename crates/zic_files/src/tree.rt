@@ -1,7 +1,7 @@
 //! Files of a tree from outside, each read once its name is needed.
 
 ghost use Rattle.std.specs.Prelude.{◌≡◌, true, [], ◌∷◌, ◌++◌, List, Some, All, Contains, ◌≢◌, IfOk, IfErr, IfSome, option_map};
-ghost use Rattle.zic_words.specs.Name.{is_name};
+ghost use Rattle.zic_lines.specs.Name.{is_name};
 ghost use Rattle.zic_files.specs.Fit.{IsFit};
 ghost use Rattle.zic_files.specs.Sound.{AreSoundFiles};
 ghost use Rattle.zic_base.specs.Growth.{Gains};
@@ -13,8 +13,8 @@ use crate::image::{Image, Unfit};
 use crate::names::Names;
 use std::alloc::{AllocError, Global};
 use std::marker::Model;
+use zic_lines::Name;
 use zic_tzif::laws::{files_have_no_fault, files_say_one};
-use zic_words::Name;
 
 /// A tree of files by name.
 pub trait ZoneTree {

@@ -3,16 +3,16 @@ use Rattle.std.proofs.Common.{◌≡◌, ℕ, ◌*◌, ◌⊎◌, inl, inr, All,
 use Rattle.std.specs.Prelude.{ℤ, pos, ◌+ℤ◌, ◌-ℤ◌, ◌<ℤ◌, ◌≤ℤ◌}
 use Rattle.std.proofs.lemmas.Int.{ints, by_lt_z}
 use borrow.Author.Differences.{up}
-use Rattle.zic_lines.specs.declared.moment.Moment.{Moment}
-use Rattle.zic_lines.specs.declared.rule.Rule.{Rule}
+use Rattle.zic_lines.specs.declared.rule_line.Moment.{Moment}
+use Rattle.zic_lines.specs.declared.rule_line.Rule.{Rule}
 use Rattle.zic_lines.specs.declared.zone_line.ZoneLine.{ZoneLine}
 use Rattle.zic_source.specs.Sound.{IsSoundRule}
 use Rattle.zic_base.proofs.Elements.{get_contained, all_got}
-use Rattle.zic_occurrences.specs.Laws.{IsLastOccurrence}
-use Rattle.zic_occurrences.specs.Occurrence.{RuleSet, Occurrence, IsOccurrence, nominal, nominal_second, year_second}
-use Rattle.zic_occurrences.specs.Order.{IsPredecessor}
-use Rattle.zic_occurrences.proofs.Bounds.{two_years, rises_with_year}
-use Rattle.zic_occurrences.proofs.Same.{one_place}
+use Rattle.zic_states.specs.OccurrenceLaws.{IsLastOccurrence}
+use Rattle.zic_states.specs.Occurrence.{RuleSet, Occurrence, IsOccurrence, nominal, nominal_second, year_second}
+use Rattle.zic_states.specs.Order.{IsPredecessor}
+use Rattle.zic_states.proofs.Bounds.{two_years, rises_with_year}
+use Rattle.zic_states.proofs.Same.{one_place}
 use Rattle.zic_states.specs.Tail.{Alternate}
 use Rattle.zic_states.proofs.TailRepeats.{follows_another}
 use Rattle.zic_states.proofs.TailSet.{rule_in, IsNamedTo, continues_after, occurs_after, some_last, last_is_after}

@@ -11,7 +11,7 @@ use Rattle.zic_calendar.specs.DayForm.{FormFits, form_day, last_meant, week_of, 
 use Rattle.zic_calendar.specs.Weekday.{IsWeekday, first_on_or_after}
 use Rattle.zic_calendar.proofs.FormLemmas.{month_length_bounds, first-week, form_day-last_week, form_day-before, form_day-before_last}
 use Rattle.zic_calendar.proofs.DateLemmas.{day_within_year}
-use Rattle.zic_words.specs.Month.{IsMonth}
+use Rattle.zic_lines.specs.Month.{IsMonth}
 use Rattle.zic_posix.specs.Grammar.{IsDay}
 use Rattle.zic_posix.specs.declared.footer.DayRule.TheVariants.{J, M}
 use Rattle.zic_posix.specs.Meaning.{day_in}

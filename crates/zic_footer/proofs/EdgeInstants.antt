@@ -2,10 +2,10 @@
 use Rattle.std.proofs.Common.{◌≡◌, arith, ℤ, pos, ◌+ℤ◌, ◌-ℤ◌, ◌*ℤ◌}
 use Rattle.std.proofs.lemmas.Int.{ints}
 use Rattle.zic_calendar.specs.DayForm.{form_day}
-use Rattle.zic_words.specs.declared.clock.ClockForm.{ClockForm}
-use Rattle.zic_words.specs.declared.clock.ClockForm.TheVariants.{Wall, Standard, Universal}
-use Rattle.zic_occurrences.specs.Occurrence.{nominal_second}
-use Rattle.zic_occurrences.specs.Order.{instant_by}
+use Rattle.zic_lines.specs.declared.clock.ClockForm.{ClockForm}
+use Rattle.zic_lines.specs.declared.clock.ClockForm.TheVariants.{Wall, Standard, Universal}
+use Rattle.zic_states.specs.Occurrence.{nominal_second}
+use Rattle.zic_states.specs.Order.{instant_by}
 use Rattle.zic_rules.specs.declared.tail.TailRule.{TailRule}
 use Rattle.zic_posix.specs.Meaning.{day_in, local_second, start_in, stop_in}
 use Rattle.zic_footer.specs.Making.{wall_time}

@@ -4,8 +4,8 @@ use Rattle.std.specs.Prelude.{ℤ, pos, ◌+ℤ◌, ◌-ℤ◌, ◌<ℤ◌, ◌�
 use Rattle.std.proofs.lemmas.Int.{ints}
 use Rattle.zic_base.specs.State.{Shown}
 use Rattle.zic_lines.specs.declared.rules.Rules.{Rules}
-use Rattle.zic_occurrences.specs.Laws.{IsLastOccurrence}
-use Rattle.zic_occurrences.specs.Occurrence.{RuleSet, Occurrence, year_second}
+use Rattle.zic_states.specs.OccurrenceLaws.{IsLastOccurrence}
+use Rattle.zic_states.specs.Occurrence.{RuleSet, Occurrence, year_second}
 use Rattle.zic_states.specs.Change.{IsAfterChanges}
 use Rattle.zic_states.specs.End.{IsEnd, IsEndBy}
 use Rattle.zic_states.specs.Laws.{IsOrderly}

@@ -2,18 +2,18 @@
 use Rattle.std.proofs.Common.{◌≡◌, ℕ, inl, inr, All, List, refl, sym, ap, ◌∙◌, arith}
 use Rattle.std.specs.Prelude.{ℤ, pos, ◌+ℤ◌, ◌-ℤ◌, ◌<ℤ◌, ◌≤ℤ◌}
 use Rattle.std.proofs.lemmas.Int.{ints, by_lt_z}
-use Rattle.zic_words.specs.declared.saving.Saving.{Saving}
-use Rattle.zic_lines.specs.declared.moment.Moment.{Moment}
-use Rattle.zic_lines.specs.declared.rule.Rule.{Rule}
+use Rattle.zic_lines.specs.declared.time.Saving.{Saving}
+use Rattle.zic_lines.specs.declared.rule_line.Moment.{Moment}
+use Rattle.zic_lines.specs.declared.rule_line.Rule.{Rule}
 use Rattle.zic_lines.specs.declared.zone_line.ZoneLine.{ZoneLine}
 use Rattle.zic_source.specs.Sound.{IsSoundRule}
 use Rattle.zic_base.proofs.Elements.{get_contained}
-use Rattle.zic_occurrences.specs.Laws.{IsLastOccurrence}
-use Rattle.zic_occurrences.specs.Occurrence.{RuleSet, Occurrence, IsOccurrence, nominal, nominal_second, year_second}
-use Rattle.zic_occurrences.specs.Order.{IsInstant, IsInOrder, instant_by}
-use Rattle.zic_occurrences.proofs.Bounds.{years_apart, two_years, instant_from, instant_to, year_second-period}
-use Rattle.zic_occurrences.proofs.Instants.{instants_rise}
-use Rattle.zic_occurrences.proofs.Same.{one_place, one_instant}
+use Rattle.zic_states.specs.OccurrenceLaws.{IsLastOccurrence}
+use Rattle.zic_states.specs.Occurrence.{RuleSet, Occurrence, IsOccurrence, nominal, nominal_second, year_second}
+use Rattle.zic_states.specs.Order.{IsInstant, IsInOrder, instant_by}
+use Rattle.zic_states.proofs.Bounds.{years_apart, two_years, instant_from, instant_to, year_second-period}
+use Rattle.zic_states.proofs.Instants.{instants_rise}
+use Rattle.zic_states.proofs.Same.{one_place, one_instant}
 use Rattle.zic_states.specs.Tail.{Alternate, FollowsAnother}
 use Rattle.zic_states.proofs.TailRepeats.{follows_another}
 use Rattle.zic_states.proofs.TailSet.{rule_in, IsNamedTo, occurs_after}

@@ -7,9 +7,9 @@ use Rattle.zic_calendar.specs.Calendar.{day_number, is_leap_year}
 use Rattle.zic_calendar.specs.DayForm.{form_day, IsNearMonth}
 use Rattle.zic_calendar.proofs.DateLemmas.{days_of_months-zero}
 use Rattle.zic_calendar.proofs.FormLemmas.{form_bounds, month_length_bounds}
-use Rattle.zic_lines.specs.declared.moment.Moment.{Moment}
-use Rattle.zic_occurrences.specs.Occurrence.{nominal_second, year_second}
-use Rattle.zic_occurrences.proofs.Bounds.{years_apart, moment_to, nominal_second-period}
+use Rattle.zic_lines.specs.declared.rule_line.Moment.{Moment}
+use Rattle.zic_states.specs.Occurrence.{nominal_second, year_second}
+use Rattle.zic_states.proofs.Bounds.{years_apart, moment_to, nominal_second-period}
 use Rattle.zic_footer.specs.code.Turns.{IsYearly, LiesBetween, FollowInTurn}
 
 -- ---- near their years

@@ -5,9 +5,9 @@ use Rattle.std.proofs.lemmas.Int.{ints}
 use Rattle.zic_calendar.specs.Calendar.{day_number, days_of_months, is_leap_year}
 use Rattle.zic_calendar.proofs.DateLemmas.{day_number-next_year, days_of_months-zero}
 use Rattle.zic_calendar.proofs.FormLemmas.{month_length_bounds}
-use Rattle.zic_words.specs.Month.{IsMonth}
-use Rattle.zic_lines.specs.declared.moment.Moment.{Moment}
-use Rattle.zic_occurrences.specs.Occurrence.{nominal_second}
+use Rattle.zic_lines.specs.Month.{IsMonth}
+use Rattle.zic_lines.specs.declared.rule_line.Moment.{Moment}
+use Rattle.zic_states.specs.Occurrence.{nominal_second}
 use Rattle.zic_footer.specs.code.Turns.{IsYearly, LiesBetween, FollowInTurn, AreMonthsApart}
 use Rattle.zic_footer.proofs.Moments.{moment_near}
 

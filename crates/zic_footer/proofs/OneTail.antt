@@ -3,15 +3,15 @@ use Rattle.std.proofs.Common.{◌≡◌, ℕ, zero, suc, ◌≤◌, ◌<◌, ◌
 use Rattle.std.specs.Prelude.{ℤ, pos, ◌+ℤ◌, slice_get, AllPairs}
 use Rattle.std.proofs.lemmas.Int.{ints}
 use Rattle.std.proofs.lemmas.Option.{same_Some}
-use Rattle.zic_words.specs.declared.saving.Saving.{Saving}
-use Rattle.zic_lines.specs.declared.moment.Moment.{Moment}
-use Rattle.zic_lines.specs.declared.rule.Rule.{Rule}
+use Rattle.zic_lines.specs.declared.time.Saving.{Saving}
+use Rattle.zic_lines.specs.declared.rule_line.Moment.{Moment}
+use Rattle.zic_lines.specs.declared.rule_line.Rule.{Rule}
 use Rattle.zic_lines.specs.declared.rules.Rules.{Rules}
 use Rattle.zic_lines.specs.declared.rules.Rules.TheVariants.{Set}
 use Rattle.zic_lines.specs.declared.zone_line.ZoneLine.{ZoneLine}
 use Rattle.zic_base.proofs.Elements.{all_got, get_contained}
-use Rattle.zic_occurrences.specs.Occurrence.{IsMember, year_second}
-use Rattle.zic_occurrences.proofs.Bounds.{years_apart}
+use Rattle.zic_states.specs.Occurrence.{IsMember, year_second}
+use Rattle.zic_states.proofs.Bounds.{years_apart}
 use Rattle.zic_states.specs.Abbreviation.{abbreviation}
 use Rattle.zic_states.specs.End.{IsEnd, IsEndBy}
 use Rattle.zic_states.specs.Laws.{IsOrderly}

@@ -7,14 +7,14 @@ use Rattle.zic_base.specs.Memory.{IfRefusal}
 use Rattle.zic_base.specs.State.{Shown}
 use Rattle.zic_base.specs.declared.fault.Kind.{Kind}
 use Rattle.zic_base.specs.declared.fault.Kind.TheVariants as kind
-use Rattle.zic_base.specs.declared.place.Place.{Place}
-use Rattle.zic_base.specs.declared.zone_stop.ZoneStop.{ZoneStop}
+use Rattle.zic_base.specs.declared.fault.Place.{Place}
+use Rattle.zic_base.specs.declared.stops.ZoneStop.{ZoneStop}
 use Rattle.zic_states.specs.Tail.{Alternate}
 use Rattle.zic_states.specs.Until.{set_of}
 use Rattle.zic_states.specs.Zone.{Zone}
 use Rattle.zic_states.proofs.TailInForce.{given}
 use Rattle.zic_states.proofs.TailSet.{IsNamedTo}
-use Rattle.zic_words.specs.Limits.{IsWithinLimits}
+use Rattle.zic_lines.specs.Limits.{IsWithinLimits}
 use Rattle.zic_rules.specs.Tail.{IsConstantTail, IsRulesTail}
 use Rattle.zic_rules.specs.Timeline.{IsWholeZone}
 use Rattle.zic_rules.specs.declared.tail.TailRule.{TailRule}

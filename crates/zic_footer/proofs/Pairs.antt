@@ -1,7 +1,7 @@
 -- The string of a pair of rules.
 use Rattle.std.proofs.Common.{◌≡◌, inl, inr, true, false, List, ℕ, [], ◌∷◌, Result, Ok, Err, Some, sym, ap, subst, arith}
 use Rattle.std.specs.Prelude.{ℤ, ◌+ℤ◌, IfOk, slice_get}
-use Rattle.zic_base.specs.declared.zone_stop.ZoneStop.{ZoneStop}
+use Rattle.zic_base.specs.declared.stops.ZoneStop.{ZoneStop}
 use Rattle.zic_posix.specs.Footer.{TzString}
 use Rattle.zic_posix.specs.Grammar.{IsName, IsEdge, IsDaylight, IsTzString}
 use Rattle.zic_posix.specs.declared.footer.Dst.{Dst}

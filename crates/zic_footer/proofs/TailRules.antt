@@ -8,14 +8,14 @@ use borrow.Author.Differences.{up}
 use Rattle.zic_calendar.specs.declared.day_form.On.{On}
 use Rattle.zic_calendar.specs.DayForm.{FormFits}
 use Rattle.zic_calendar.proofs.FormLemmas.{FormFits-period}
-use Rattle.zic_words.specs.declared.time.TheConstants.{GREATEST_OFFSET}
-use Rattle.zic_words.specs.declared.saving.Saving.{Saving}
-use Rattle.zic_lines.specs.declared.rule.Rule.{Rule}
+use Rattle.zic_lines.specs.declared.time.TheConstants.{GREATEST_OFFSET}
+use Rattle.zic_lines.specs.declared.time.Saving.{Saving}
+use Rattle.zic_lines.specs.declared.rule_line.Rule.{Rule}
 use Rattle.zic_lines.specs.declared.rules.Rules.{Rules}
 use Rattle.zic_lines.specs.declared.zone_line.ZoneLine.{ZoneLine}
 use Rattle.zic_source.specs.Sound.{IsSoundRule, IsWithinDay}
 use Rattle.zic_base.proofs.Elements.{got, all_got}
-use Rattle.zic_occurrences.specs.Occurrence.{RuleSet, IsMember}
+use Rattle.zic_states.specs.Occurrence.{RuleSet, IsMember}
 use Rattle.zic_states.specs.Fault.{HasOffsetOutOfRange, IsSavingOf}
 use Rattle.zic_states.specs.Laws.{IsOrderly}
 use Rattle.zic_states.specs.Tail.{IsContinuing}

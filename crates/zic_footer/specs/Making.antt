@@ -6,7 +6,7 @@ use Rattle.zic_base.specs.Fault.{fault_at}
 use Rattle.zic_base.specs.State.{Shown}
 use Rattle.zic_base.specs.declared.fault.Fault.{Fault}
 use Rattle.zic_base.specs.declared.fault.Kind.TheVariants.{NoFooter, PermanentDaylight}
-use Rattle.zic_base.specs.declared.place.Place.{Place}
+use Rattle.zic_base.specs.declared.fault.Place.{Place}
 use Rattle.zic_calendar.specs.Calendar.{days_in_month}
 use Rattle.zic_calendar.specs.DayForm.{IsDayOf, last_meant, weekday_before}
 use Rattle.zic_calendar.specs.declared.day_form.On.{On}
@@ -17,7 +17,7 @@ use Rattle.zic_posix.specs.declared.footer.DayRule.{DayRule}
 use Rattle.zic_posix.specs.declared.footer.DayRule.TheVariants.{J, M}
 use Rattle.zic_posix.specs.declared.footer.Dst.{Dst}
 use Rattle.zic_posix.specs.declared.footer.Edge.{Edge}
-use Rattle.zic_posix.specs.declared.limit.TheConstants.{MAX_WIDE_HOURS}
+use Rattle.zic_posix.specs.declared.footer.TheConstants.{MAX_WIDE_HOURS}
 use Rattle.zic_rules.specs.Tail.{IsTailBy, HasConstantTail}
 use Rattle.zic_rules.specs.declared.tail.TailRule.{TailRule}
 use Rattle.zic_states.specs.Change.{IsAfterChanges}
@@ -25,8 +25,8 @@ use Rattle.zic_states.specs.End.{IsEnd}
 use Rattle.zic_states.specs.Tail.{Alternate}
 use Rattle.zic_states.specs.Until.{set_of}
 use Rattle.zic_states.specs.Zone.{Zone, Shows}
-use Rattle.zic_words.specs.declared.clock.ClockForm.{ClockForm}
-use Rattle.zic_words.specs.declared.clock.ClockForm.TheVariants.{Wall, Standard, Universal}
+use Rattle.zic_lines.specs.declared.clock.ClockForm.{ClockForm}
+use Rattle.zic_lines.specs.declared.clock.ClockForm.TheVariants.{Wall, Standard, Universal}
 
 -- In this year the form seeks this weekday among seven days, of which this day of the month is the last, counted on past the month's end:
 -- zic(8), ON

@@ -2,9 +2,9 @@
 
 ghost use Rattle.std.specs.Prelude.{◌≡◌, ◌≤ℤ◌, ℤ, pos, neg_ℤ};
 ghost use Rattle.zic_calendar.specs.DayForm.{FormFits};
-ghost use Rattle.zic_words.specs.Month.{IsMonth};
-ghost use Rattle.zic_words.specs.declared.clock.TheConstants.{LATEST_TIME};
-ghost use Rattle.zic_words.specs.Time.{IsWithin};
+ghost use Rattle.zic_lines.specs.Month.{IsMonth};
+ghost use Rattle.zic_lines.specs.declared.clock.TheConstants.{LATEST_TIME};
+ghost use Rattle.zic_lines.specs.Time.{IsWithin};
 ghost use Rattle.zic_source.specs.Sound.{IsWithinDay};
 ghost use Rattle.zic_footer.specs.Making as making;
 ghost use Rattle.zic_footer.specs.code.Edges as edges;

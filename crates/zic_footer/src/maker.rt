@@ -6,7 +6,7 @@ ghost use Rattle.zic_base.specs.Memory.{IfRefusal, OnOutOfMemory};
 ghost use Rattle.zic_base.specs.State.{shown};
 ghost use Rattle.zic_posix.specs.Footer as footer;
 ghost use Rattle.zic_posix.specs.Grammar.{IsName};
-ghost use Rattle.zic_words.specs.Limits.{IsWithinLimits};
+ghost use Rattle.zic_lines.specs.Limits.{IsWithinLimits};
 ghost use Rattle.zic_footer.specs.Making.{IsMade, GoesOn, IsFaultOfFooter, IsWide};
 ghost use Rattle.zic_footer.specs.code.Edges as edges;
 ghost use Rattle.zic_footer.specs.code.Faults.{IsFirstFault};

@@ -4,8 +4,8 @@ ghost use Rattle.std.specs.Prelude.{◌↔◌, pos, IsTrue};
 ghost use Rattle.std.specs.Int.{IsInRange};
 ghost use Rattle.zic_footer.specs.code.Turns.{IsYearly, LiesBetween, FollowInTurn, AreMonthsApart};
 
-use zic_occurrences::nominal_second;
 use zic_source::Moment;
+use zic_states::nominal_second;
 
 /// The first year of a cycle of the calendar. It could be any.
 const FIRST_YEAR: u16 = 2000;

@@ -4,7 +4,7 @@ use Rattle.std.specs.Global.{Vec}
 use Rattle.std.specs.Prelude.{IfSome}
 use Rattle.std.specs.Option.{option_or}
 use Rattle.zic_base.specs.declared.row_fault.RowFault.{RowFault}
-use Rattle.zic_plan.specs.Noted.{RowNote}
+use Rattle.zic_layouts.specs.Noted.{RowNote}
 use Rattle.zic_io.specs.Faults.{AreLines, IsHead, IsRecordLine, fault_of, header_line}
 use Rattle.zic_io.specs.code.FaultList.{Gets, GetsHeader, IsFileFor, IsFileOf, IsFileOfRecords, kept}
 use Rattle.zic_io.specs.declared.list_output.ListOutput.{ListOutput}

@@ -11,7 +11,7 @@ use Rattle.zic_base.specs.RowFault.{row_kind_word}
 use Rattle.zic_base.specs.declared.row_fault.RowFault.{RowFault}
 use Rattle.zic_base.specs.declared.row_fault.RowKind.{RowKind}
 use Rattle.zic_base.specs.declared.row_fault.RowKind.TheVariants as kind
-use Rattle.zic_plan.specs.declared.row_log.FaultDetail.{FaultDetail}
+use Rattle.zic_layouts.specs.declared.row_log.FaultDetail.{FaultDetail}
 use Rattle.zic_io.specs.Faults.{fault_line, field_if, line_field, value_field}
 use Rattle.zic_io.specs.declared.fault_line.FaultFields.{FaultFields}
 

@@ -10,7 +10,7 @@ use Rattle.zic_io.specs.code.Word.{IsFailureOfWord}
 use Rattle.zic_io.specs.Sources.{known_of, known_after, AreTextsOf, IsTextOf}
 use Rattle.zic_io.specs.declared.failure.Failure.{Failure}
 use Rattle.zic_io.specs.declared.input.TheConstants.{MAX_SOURCE}
-use Rattle.zic_base.specs.declared.word.TheConstants.{STANDARD_INPUT}
+use Rattle.zic_base.specs.declared.constants.TheConstants.{STANDARD_INPUT}
 
 -- what is known of standard input once the texts of words were read
 abbrev pub known_afters : List (List ℕ) → Option (List ℕ) → Option (List ℕ)

@@ -1,9 +1,9 @@
 -- Why sources and files aren't read, why output isn't written, and the failures of this.
 use Rattle.std.specs.Prelude.{◌≡◌, ◌≢◌, ◌==◌, ◌⊎◌, ℕ, List, ◌∷◌, ◌++◌, if◌then◌else◌, string_bytes, Option, All}
 use Rattle.zic_base.specs.declared.fault.Fault.{Fault}
-use Rattle.zic_base.specs.declared.run_stop.RunStop.{RunStop}
-use Rattle.zic_base.specs.declared.run_stop.RunStop.TheVariants as stops
-use Rattle.zic_base.specs.declared.word.TheConstants.{STANDARD_INPUT}
+use Rattle.zic_base.specs.declared.stops.RunStop.{RunStop}
+use Rattle.zic_base.specs.declared.stops.RunStop.TheVariants as stops
+use Rattle.zic_base.specs.declared.constants.TheConstants.{STANDARD_INPUT}
 use Rattle.zic_counted.specs.Counts.{Counts, HasFailedSince, HasTakenAbove}
 use Rattle.zic_counted.specs.Written.{FailsWithin}
 use Rattle.zic_tzif.specs.declared.reason.ReadStop.{ReadStop}

@@ -5,10 +5,10 @@ use Rattle.csv.specs.Writing.{default_writer, row_text}
 use Rattle.zic_counted.specs.Counts.{Counts}
 use Rattle.zic_base.specs.RowFault.{row_kind_word}
 use Rattle.zic_base.specs.declared.row_fault.RowFault.{RowFault}
-use Rattle.zic_plan.specs.Noted.{RowNote}
-use Rattle.zic_plan.specs.declared.row_log.FaultDetail.{FaultDetail}
-use Rattle.zic_plan.specs.declared.row_log.LineEnd.{LineEnd}
-use Rattle.zic_plan.specs.declared.row_log.LineEnd.TheVariants as ends
+use Rattle.zic_layouts.specs.Noted.{RowNote}
+use Rattle.zic_layouts.specs.declared.row_log.FaultDetail.{FaultDetail}
+use Rattle.zic_layouts.specs.declared.row_log.LineEnd.{LineEnd}
+use Rattle.zic_layouts.specs.declared.row_log.LineEnd.TheVariants as ends
 use Rattle.zic_io.specs.declared.fault_line.FaultFields.{FaultFields}
 
 -- the fault of a row that was noted, where there is one

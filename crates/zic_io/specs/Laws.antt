@@ -4,7 +4,7 @@ use Rattle.csv.specs.Machine.{next_record}
 use Rattle.csv.specs.Reading.{default_config}
 use Rattle.csv.specs.declared.parser.State.TheVariants as st
 use Rattle.zic_base.specs.declared.row_fault.RowFault.{RowFault}
-use Rattle.zic_plan.specs.declared.row_log.FaultDetail.{FaultDetail}
+use Rattle.zic_layouts.specs.declared.row_log.FaultDetail.{FaultDetail}
 use Rattle.zic_io.specs.Faults.{fault_fields, fault_line}
 use Rattle.zic_io.specs.declared.fault_line.FaultFields.{FaultFields}
 

@@ -1,7 +1,7 @@
 -- The texts that the words for sources name.
 use Rattle.std.specs.Prelude.{◌≡◌, ◌≤◌, ℕ, List, [], ◌∷◌, length, Option, None, IfSome, bytes_eq, if◌then◌else◌}
 use Rattle.zic_io.specs.declared.input.TheConstants.{MAX_SOURCE}
-use Rattle.zic_base.specs.declared.word.TheConstants.{STANDARD_INPUT}
+use Rattle.zic_base.specs.declared.constants.TheConstants.{STANDARD_INPUT}
 
 -- the text that a word names, as far as it is known: `-` is standard input, and of a file nothing is
 -- known

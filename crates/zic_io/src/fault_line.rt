@@ -9,7 +9,7 @@ use crate::list_output::ListOutput;
 use itoa::Buffer;
 use std::io::Write;
 use zic_base::RowFault;
-use zic_plan::{FaultDetail, FaultyRow, LineEnd};
+use zic_layouts::{FaultDetail, FaultyRow, LineEnd};
 
 /// Which fields the line of a fault has after the number of its row and the name of the fault.
 #[derive(Clone, Copy, Debug, PartialEq, Eq)]

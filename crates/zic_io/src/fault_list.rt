@@ -9,7 +9,7 @@ use std::io::Write;
 use std::marker::Model;
 use std::mem;
 use zic_base::RowFault;
-use zic_plan::{FaultyRow, Noted, RowLog};
+use zic_layouts::{FaultyRow, Noted, RowLog};
 
 /// Takes note of rows with a fault: counts them, keeps the first fault, and writes each into two files,
 /// where there are such. Into the one goes a line with the number of the row, the name of the fault

@@ -3,7 +3,7 @@
 ghost use Rattle.std.specs.Prelude.{◌≡◌, ◌≢◌, ◌<◌, ◌≤◌, ◌+◌, length, min, take, IfOk, IfErr, IfSome, OnOk};
 ghost use Rattle.std.specs.Io.{StartsWith, appended_bytes};
 ghost use Rattle.std.specs.Io.KnownBytes.{Consumes, IsAtEnd};
-ghost use Rattle.zic_base.specs.declared.limit.TheConstants.{LONGEST_FILE};
+ghost use Rattle.zic_base.specs.declared.constants.TheConstants.{LONGEST_FILE};
 ghost use Rattle.zic_counted.specs.Counts.{CountsTaken, HasFailedSince, HasTakenAbove, risen, greatest};
 ghost use Rattle.zic_io.specs.Failing.{IsFailureOfText, IsFailureOfBytes};
 ghost use Rattle.zic_io.specs.declared.input.TheConstants.{MAX_SOURCE};

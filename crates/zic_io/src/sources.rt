@@ -6,7 +6,7 @@ ghost use Rattle.zic_io.specs.Failing.{IsFailureOfPath, IsFailureOfSources};
 ghost use Rattle.zic_io.specs.code.Word.{IsFailureOfWord};
 ghost use Rattle.zic_io.specs.Sources.{known_of, AreTextsOf};
 ghost use Rattle.zic_io.specs.declared.input.TheConstants.{MAX_SOURCE};
-ghost use Rattle.zic_base.specs.declared.word.TheConstants.{STANDARD_INPUT};
+ghost use Rattle.zic_base.specs.declared.constants.TheConstants.{STANDARD_INPUT};
 
 use crate::failure::{Failure, cannot_read};
 use crate::input::{read_file_bytes, read_source_text};

@@ -6,7 +6,7 @@ use std::alloc::{AllocError, Global};
 use std::fs::{self, Files as FileSystem};
 use std::str;
 use zic_files::ZoneTree;
-use zic_words::Name;
+use zic_lines::Name;
 
 /// A folder of TZif files, as `build` makes one: the file of a zone is at the folder's path, a slash
 /// and the zone's name. No contract says anything about the files.

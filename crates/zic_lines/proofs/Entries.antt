@@ -3,13 +3,13 @@ use Rattle.std.proofs.Common.{◌≡◌, ℕ, Bool, true, false, cond, List, [],
 use Rattle.std.specs.Prelude.{IfSome, IfOk, Result, Ok, Err, map, option_map, get_or, slice_index_or}
 use Rattle.std.proofs.lemmas.Bool.{le-leb, leb-true}
 use Rattle.zic_base.specs.Check.{Check, check, first_failed}
-use Rattle.zic_base.specs.declared.place.Place.{Place}
+use Rattle.zic_base.specs.declared.fault.Place.{Place}
 use Rattle.zic_base.proofs.Checks.{each_passes, first_failed-both, first_failed-append}
-use Rattle.zic_words.specs.declared.keyword.Keyword.{Keyword}
-use Rattle.zic_words.specs.declared.keyword.Keyword.TheVariants as keywords
-use Rattle.zic_words.specs.Keyword.{keyword_of}
+use Rattle.zic_lines.specs.declared.keyword.Keyword.{Keyword}
+use Rattle.zic_lines.specs.declared.keyword.Keyword.TheVariants as keywords
+use Rattle.zic_lines.specs.Keyword.{keyword_of}
 use Rattle.zic_lines.specs.declared.field.TheConstants.{LONGEST_LINE}
-use Rattle.zic_lines.specs.declared.rule.Rule.{Rule}
+use Rattle.zic_lines.specs.declared.rule_line.Rule.{Rule}
 use Rattle.zic_lines.specs.declared.zone_line.ZoneLine.{ZoneLine}
 use Rattle.zic_lines.specs.declared.link.Link.{Link}
 use Rattle.zic_lines.specs.ZoneLine.{IsContinuationLine}
@@ -21,7 +21,7 @@ use Rattle.zic_lines.specs.Entry.{is_continuation}
 use Rattle.zic_lines.specs.Grammar.{IsLine, FieldsSay, Says}
 use Rattle.zic_lines.specs.code.Entries.{IsOtherLine}
 use Rattle.zic_lines.specs.Checks.{byte_checks, continuation_checks, keyword_checks, kind_of, numbered_checks, field_checks, line_checks}
-use Rattle.zic_lines.specs.declared.field_fault.FieldFault.{FieldFault}
+use Rattle.zic_lines.specs.declared.entry.FieldFault.{FieldFault}
 use Rattle.zic_lines.proofs.RuleLines.{rule_said, rule_passes, rule_once}
 use Rattle.zic_lines.proofs.ZoneLines.{continuation_said, continuation_passes, continuation_once, zone_said, zone_passes}
 use Rattle.zic_lines.proofs.LinkLines.{link_said, link_passes, link_once}

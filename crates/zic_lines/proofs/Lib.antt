@@ -1,3 +1,11 @@
+pub mod Words
+pub mod OnlyWords
+pub mod Splits
+pub mod Digits
+pub mod Seconds
+pub mod Times
+pub mod ClockTimes
+pub mod WordRanges
 pub mod Parsed
 pub mod Shapes
 pub mod Options

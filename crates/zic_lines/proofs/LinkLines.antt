@@ -2,13 +2,13 @@
 use Rattle.std.proofs.Common.{◌≡◌, ℕ, List, [], ◌∷◌, Some, None, Result, Ok, Err, true, refl, ap, ◌∙◌}
 use Rattle.std.specs.Prelude.{IfOk}
 use Rattle.zic_base.specs.Check.{first_failed}
-use Rattle.zic_base.specs.declared.place.Place.{Place}
+use Rattle.zic_base.specs.declared.fault.Place.{Place}
 use Rattle.zic_base.proofs.Checks.{each_passes}
-use Rattle.zic_words.specs.declared.keyword.Keyword.TheVariants as keywords
-use Rattle.zic_words.specs.Keyword.{keyword_of}
+use Rattle.zic_lines.specs.declared.keyword.Keyword.TheVariants as keywords
+use Rattle.zic_lines.specs.Keyword.{keyword_of}
 use Rattle.zic_lines.specs.declared.link.Link.{Link}
 use Rattle.zic_lines.specs.LinkLine.{IsLinkLine}
-use Rattle.zic_words.specs.Name.{is_name}
+use Rattle.zic_lines.specs.Name.{is_name}
 use Rattle.zic_lines.specs.Checks.{link_checks}
 use Rattle.zic_lines.proofs.Parsed.{unchanged}
 

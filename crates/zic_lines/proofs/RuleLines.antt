@@ -5,25 +5,25 @@ use Rattle.zic_base.specs.Check.{check, first_failed}
 use Rattle.zic_base.specs.declared.fault.Kind.TheVariants.{Name, Reserved, Month, Day, Time}
 use Rattle.zic_base.specs.Option.{some_and}
 use Rattle.zic_calendar.specs.declared.day_form.On.{On}
-use Rattle.zic_base.specs.declared.place.Place.{Place}
+use Rattle.zic_base.specs.declared.fault.Place.{Place}
 use Rattle.zic_base.proofs.Checks.{each_passes, first_failed-stops}
-use Rattle.zic_lines.specs.declared.field_fault.FieldFault.{FieldFault}
-use Rattle.zic_lines.specs.declared.field_fault.FieldFault.TheVariants.{At}
-use Rattle.zic_lines.specs.declared.rule.Rule.{Rule}
-use Rattle.zic_words.specs.declared.keyword.Keyword.TheVariants as keywords
-use Rattle.zic_words.specs.Keyword.{keyword_of}
-use Rattle.zic_words.specs.Year.{year_of, last_year_of, ends_before, is_one_leap_year}
-use Rattle.zic_words.specs.Month.{month_of}
-use Rattle.zic_words.specs.DayForm.{day_form_of}
-use Rattle.zic_words.specs.Clock.{clock_time_of}
-use Rattle.zic_words.specs.Saving.{saving_of}
-use Rattle.zic_words.specs.Letter.{letter_of}
+use Rattle.zic_lines.specs.declared.entry.FieldFault.{FieldFault}
+use Rattle.zic_lines.specs.declared.entry.FieldFault.TheVariants.{At}
+use Rattle.zic_lines.specs.declared.rule_line.Rule.{Rule}
+use Rattle.zic_lines.specs.declared.keyword.Keyword.TheVariants as keywords
+use Rattle.zic_lines.specs.Keyword.{keyword_of}
+use Rattle.zic_lines.specs.Year.{year_of, last_year_of, ends_before, is_one_leap_year}
+use Rattle.zic_lines.specs.Month.{month_of}
+use Rattle.zic_lines.specs.DayForm.{day_form_of}
+use Rattle.zic_lines.specs.Clock.{clock_time_of}
+use Rattle.zic_lines.specs.Saving.{saving_of}
+use Rattle.zic_lines.specs.Letter.{letter_of}
 use Rattle.zic_lines.specs.RuleLine.{IsRuleLine}
 use Rattle.zic_lines.specs.Checks.{rule_checks, years_of, rule_day_of}
-use Rattle.zic_words.specs.Dash.{is_dash}
-use Rattle.zic_words.specs.SetName.{is_set_name}
-use Rattle.zic_words.specs.declared.clock.ClockTime.{ClockTime}
-use Rattle.zic_words.specs.declared.saving.Saving.{Saving}
+use Rattle.zic_lines.specs.Dash.{is_dash}
+use Rattle.zic_lines.specs.SetName.{is_set_name}
+use Rattle.zic_lines.specs.declared.clock.ClockTime.{ClockTime}
+use Rattle.zic_lines.specs.declared.time.Saving.{Saving}
 use Rattle.zic_lines.specs.declared.rule_line.Years.{Years}
 use Rattle.zic_lines.specs.declared.rule_line.Times.{Times}
 use Rattle.zic_lines.specs.declared.rule_line.Effect.{Effect}

@@ -2,21 +2,21 @@
 use Rattle.std.proofs.Common.{◌≡◌, ◌≤◌, ◌+◌, leb, ℕ, List, [], ◌∷◌, length, Option, Some, None, Result, Ok, Err, true, false, refl, sym, ap, subst, ◌∙◌, arith}
 use Rattle.std.proofs.lemmas.Bool.{le-leb, leb-true}
 use Rattle.zic_base.specs.Check.{check, first_failed}
-use Rattle.zic_base.specs.declared.place.Place.{Place}
+use Rattle.zic_base.specs.declared.fault.Place.{Place}
 use Rattle.zic_base.proofs.Checks.{EachPasses, passes, each_passes}
 use Rattle.zic_base.specs.declared.fault.Kind.TheVariants.{Name}
 use Rattle.zic_calendar.specs.Calendar.{is_leap_year}
 use Rattle.zic_calendar.specs.declared.day_form.On.{On}
-use Rattle.zic_words.specs.Year.{year_of}
-use Rattle.zic_words.specs.Month.{month_of}
-use Rattle.zic_words.specs.DayForm.{day_form_of}
-use Rattle.zic_words.specs.Clock.{clock_time_of}
-use Rattle.zic_words.specs.declared.clock.ClockTime.{ClockTime}
-use Rattle.zic_words.specs.Name.{is_name}
-use Rattle.zic_lines.specs.declared.field_fault.FieldFault.TheVariants.{Count, At}
-use Rattle.zic_words.specs.declared.keyword.Keyword.TheVariants as keywords
-use Rattle.zic_words.specs.Keyword.{keyword_of}
-use Rattle.zic_words.specs.Time.{offset_of}
+use Rattle.zic_lines.specs.Year.{year_of}
+use Rattle.zic_lines.specs.Month.{month_of}
+use Rattle.zic_lines.specs.DayForm.{day_form_of}
+use Rattle.zic_lines.specs.Clock.{clock_time_of}
+use Rattle.zic_lines.specs.declared.clock.ClockTime.{ClockTime}
+use Rattle.zic_lines.specs.Name.{is_name}
+use Rattle.zic_lines.specs.declared.entry.FieldFault.TheVariants.{Count, At}
+use Rattle.zic_lines.specs.declared.keyword.Keyword.TheVariants as keywords
+use Rattle.zic_lines.specs.Keyword.{keyword_of}
+use Rattle.zic_lines.specs.Time.{offset_of}
 use Rattle.zic_lines.specs.declared.until.Until.{Until}
 use Rattle.zic_lines.specs.declared.zone_line.ZoneLine.{ZoneLine}
 use Rattle.zic_lines.specs.RulesField.{rules_of}

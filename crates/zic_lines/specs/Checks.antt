@@ -8,25 +8,25 @@ use Rattle.zic_base.specs.Check.{Check, check, first_failed}
 use Rattle.zic_base.specs.Option.{◌>>=◌, some_and}
 use Rattle.zic_calendar.specs.Calendar.{is_leap_year}
 use Rattle.zic_calendar.specs.declared.day_form.On.{On}
-use Rattle.zic_words.specs.declared.keyword.Keyword as keyword
-use Rattle.zic_words.specs.declared.keyword.Keyword.TheVariants as keywords
-use Rattle.zic_words.specs.Dash.{is_dash}
-use Rattle.zic_words.specs.Keyword.{keyword_of}
-use Rattle.zic_words.specs.Name.{is_name}
-use Rattle.zic_words.specs.SetName.{is_set_name}
-use Rattle.zic_words.specs.Year.{year_of, last_year_of, ends_before, is_one_leap_year}
-use Rattle.zic_words.specs.Month.{month_of}
-use Rattle.zic_words.specs.DayForm.{day_form_of}
-use Rattle.zic_words.specs.Clock.{clock_time_of}
-use Rattle.zic_words.specs.Saving.{saving_of}
-use Rattle.zic_words.specs.Letter.{letter_of}
-use Rattle.zic_words.specs.Time.{offset_of}
+use Rattle.zic_lines.specs.declared.keyword.Keyword as keyword
+use Rattle.zic_lines.specs.declared.keyword.Keyword.TheVariants as keywords
+use Rattle.zic_lines.specs.Dash.{is_dash}
+use Rattle.zic_lines.specs.Keyword.{keyword_of}
+use Rattle.zic_lines.specs.Name.{is_name}
+use Rattle.zic_lines.specs.SetName.{is_set_name}
+use Rattle.zic_lines.specs.Year.{year_of, last_year_of, ends_before, is_one_leap_year}
+use Rattle.zic_lines.specs.Month.{month_of}
+use Rattle.zic_lines.specs.DayForm.{day_form_of}
+use Rattle.zic_lines.specs.Clock.{clock_time_of}
+use Rattle.zic_lines.specs.Saving.{saving_of}
+use Rattle.zic_lines.specs.Letter.{letter_of}
+use Rattle.zic_lines.specs.Time.{offset_of}
 use Rattle.zic_lines.specs.declared.field.TheConstants.{LONGEST_LINE}
 use Rattle.zic_lines.specs.Field.{is_ascii_code, is_closed, fields}
 use Rattle.zic_lines.specs.RulesField.{rules_of, rules_kind}
 use Rattle.zic_lines.specs.Format.{format_of}
-use Rattle.zic_lines.specs.declared.field_fault.FieldFault.{FieldFault}
-use Rattle.zic_lines.specs.declared.field_fault.FieldFault.TheVariants.{Count, At}
+use Rattle.zic_lines.specs.declared.entry.FieldFault.{FieldFault}
+use Rattle.zic_lines.specs.declared.entry.FieldFault.TheVariants.{Count, At}
 
 -- the checks of any line's bytes
 abbrev pub byte_checks : List ℕ → List (Check Kind)

@@ -1,7 +1,7 @@
 -- The content of one line: zic(8), FILES. A Rule line says a rule, a Zone line a zone's name and its first line, a continuation line
 -- one more line of the zone, and a Link line a link.
 use Rattle.std.specs.Prelude.{is_some, ℕ, Bool, true, false, List, [], ◌∷◌}
-use Rattle.zic_lines.specs.declared.rule.Rule.{Rule}
+use Rattle.zic_lines.specs.declared.rule_line.Rule.{Rule}
 use Rattle.zic_lines.specs.declared.zone_line.ZoneLine.{ZoneLine}
 use Rattle.zic_lines.specs.declared.link.Link.{Link}
 use Rattle.zic_lines.specs.declared.entry.Entry.{Entry}

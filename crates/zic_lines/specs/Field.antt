@@ -2,7 +2,7 @@
 -- means `-`, are own choice.
 use Rattle.std.specs.Prelude.{ℕ, ◌+◌, ◌%◌, Bool, true, false, not, ◌&&◌, ◌||◌, List, [], ◌∷◌, map, take, filter, count_by, take_while, length, nat_le, nat_lt, slice_range, ◌==◌}
 use Rattle.std.specs.List.{slice_split, enumerate_from, list_all}
-use Rattle.zic_words.specs.Dash.{dash}
+use Rattle.zic_lines.specs.Dash.{dash}
 use Rattle.zic_lines.specs.declared.field.FieldRange.{FieldRange}
 
 -- the double quote

@@ -4,8 +4,8 @@ use Rattle.std.specs.Prelude.{ℕ, Bool, ◌||◌, List, [], ◌∷◌, Option, 
 use Rattle.std.specs.List.{list_any}
 use Rattle.zic_lines.specs.declared.format.Format.{Format}
 use Rattle.zic_lines.specs.declared.format.Format.TheVariants.{Plain, Letter, Offset, Pair}
-use Rattle.zic_words.specs.Dash.{is_dash}
-use Rattle.zic_words.specs.Parts.{split_at_most_once}
+use Rattle.zic_lines.specs.Dash.{is_dash}
+use Rattle.zic_lines.specs.Parts.{split_at_most_once}
 
 -- one abbreviation, or two with `/` between them: for standard time, and for daylight saving time
 abbrev pub slashed : Option (List ℕ × Option (List ℕ)) → Option Format

@@ -1,7 +1,7 @@
 -- The lines of source texts: zic(8), FILES; that the last line needs no newline is own choice.
 use Rattle.std.specs.Prelude.{ℕ, List, [], ◌∷◌, map, ◌==◌}
 use Rattle.std.specs.List.{slice_split, enumerate_from}
-use Rattle.zic_base.specs.declared.place.Place.{Place}
+use Rattle.zic_base.specs.declared.fault.Place.{Place}
 
 -- the parts, but for the last where it is empty
 abbrev pub without_empty_last : List (List ℕ) → List (List ℕ)

@@ -1,17 +1,17 @@
 -- A Rule line: zic(8), FILES.
 use Rattle.std.specs.Prelude.{◌≡◌, ℕ, not, List, [], ◌∷◌, Some, IsTrue}
-use Rattle.zic_base.specs.declared.place.Place.{Place}
-use Rattle.zic_lines.specs.declared.rule.Rule.{Rule}
-use Rattle.zic_words.specs.Dash.{is_dash}
-use Rattle.zic_words.specs.declared.keyword.Keyword.TheVariants as keywords
-use Rattle.zic_words.specs.Keyword.{keyword_of}
-use Rattle.zic_words.specs.SetName.{is_set_name}
-use Rattle.zic_words.specs.Year.{year_of, last_year_of, ends_before, is_one_leap_year}
-use Rattle.zic_words.specs.Month.{month_of}
-use Rattle.zic_words.specs.DayForm.{day_form_of}
-use Rattle.zic_words.specs.Clock.{clock_time_of}
-use Rattle.zic_words.specs.Saving.{saving_of}
-use Rattle.zic_words.specs.Letter.{letter_of}
+use Rattle.zic_base.specs.declared.fault.Place.{Place}
+use Rattle.zic_lines.specs.declared.rule_line.Rule.{Rule}
+use Rattle.zic_lines.specs.Dash.{is_dash}
+use Rattle.zic_lines.specs.declared.keyword.Keyword.TheVariants as keywords
+use Rattle.zic_lines.specs.Keyword.{keyword_of}
+use Rattle.zic_lines.specs.SetName.{is_set_name}
+use Rattle.zic_lines.specs.Year.{year_of, last_year_of, ends_before, is_one_leap_year}
+use Rattle.zic_lines.specs.Month.{month_of}
+use Rattle.zic_lines.specs.DayForm.{day_form_of}
+use Rattle.zic_lines.specs.Clock.{clock_time_of}
+use Rattle.zic_lines.specs.Saving.{saving_of}
+use Rattle.zic_lines.specs.Letter.{letter_of}
 
 -- The fields at this place are `Rule NAME FROM TO - IN ON AT SAVE LETTER`, and say this of a rule.
 pub record IsRuleLine (place : Place) (fields : List (List ℕ)) (rule : Rule) : Type 0 where

@@ -5,9 +5,9 @@ use Rattle.zic_base.specs.declared.fault.Kind.{Kind}
 use Rattle.zic_base.specs.declared.fault.Kind.TheVariants.{Name, Save}
 use Rattle.zic_lines.specs.declared.rules.Rules.{Rules}
 use Rattle.zic_lines.specs.declared.rules.Rules.TheVariants.{Standard, Amount, Set}
-use Rattle.zic_words.specs.Dash.{is_dash}
-use Rattle.zic_words.specs.Saving.{saving_of}
-use Rattle.zic_words.specs.SetName.{is_set_name}
+use Rattle.zic_lines.specs.Dash.{is_dash}
+use Rattle.zic_lines.specs.Saving.{saving_of}
+use Rattle.zic_lines.specs.SetName.{is_set_name}
 
 -- A text that begins with a digit, `-` or `+` is an amount of saving.
 abbrev pub begins_amount : List ℕ → Bool

@@ -3,10 +3,10 @@ use Rattle.std.specs.Prelude.{ℕ, List, [], ◌∷◌, pos, Option, Some, None,
 use Rattle.zic_calendar.specs.Calendar.{is_leap_year}
 use Rattle.zic_lines.specs.declared.until.Until.{Until}
 use Rattle.zic_base.specs.Option.{◌>>=◌}
-use Rattle.zic_words.specs.Year.{year_of}
-use Rattle.zic_words.specs.Month.{month_of}
-use Rattle.zic_words.specs.DayForm.{day_form_of}
-use Rattle.zic_words.specs.Clock.{clock_time_of}
+use Rattle.zic_lines.specs.Year.{year_of}
+use Rattle.zic_lines.specs.Month.{month_of}
+use Rattle.zic_lines.specs.DayForm.{day_form_of}
+use Rattle.zic_lines.specs.Clock.{clock_time_of}
 
 -- YEAR MONTH DAY TIME, with a plain day that the month has in that year
 unfoldable pub until_at : List ℕ → List ℕ → List ℕ → List ℕ → Option Until

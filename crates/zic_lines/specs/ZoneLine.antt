@@ -1,11 +1,11 @@
 -- Zone lines and continuation lines: zic(8), FILES.
 use Rattle.std.specs.Prelude.{◌≡◌, ℕ, List, ◌∷◌, Some, IsTrue}
-use Rattle.zic_base.specs.declared.place.Place.{Place}
-use Rattle.zic_words.specs.declared.keyword.Keyword.TheVariants.{Zone}
+use Rattle.zic_base.specs.declared.fault.Place.{Place}
+use Rattle.zic_lines.specs.declared.keyword.Keyword.TheVariants.{Zone}
 use Rattle.zic_lines.specs.declared.zone_line.ZoneLine.{ZoneLine}
-use Rattle.zic_words.specs.Keyword.{keyword_of}
-use Rattle.zic_words.specs.Name.{is_name}
-use Rattle.zic_words.specs.Time.{offset_of}
+use Rattle.zic_lines.specs.Keyword.{keyword_of}
+use Rattle.zic_lines.specs.Name.{is_name}
+use Rattle.zic_lines.specs.Time.{offset_of}
 use Rattle.zic_lines.specs.RulesField.{rules_of}
 use Rattle.zic_lines.specs.Format.{format_of}
 use Rattle.zic_lines.specs.Until.{until_of}

@@ -1,26 +1,25 @@
-//! Entries: lines by their keywords.
+//! Entries: lines by their keywords, and the first fault of the fields of a line.
 
 ghost use Rattle.std.specs.Prelude.{◌≡◌, ◌<◌, OnOk, IfOk, IfErr, Some, None, [], length, slice_index_or};
 ghost use Rattle.zic_base.specs.Check.{first_failed};
 ghost use Rattle.zic_base.specs.Fault.{fault_of, IsFirstFailed};
 ghost use Rattle.zic_base.specs.Memory.{IfRefusal, OnOutOfMemory};
-ghost use Rattle.zic_words.specs.Keyword.{keyword_of};
+ghost use Rattle.zic_lines.specs.Keyword.{keyword_of};
 ghost use Rattle.zic_lines.specs.Entry.{is_continuation};
 ghost use Rattle.zic_lines.specs.Grammar.{FieldsSay};
-ghost use Rattle.zic_lines.specs.Checks.{field_checks, numbered_checks, keyword_checks, faulty_field};
+ghost use Rattle.zic_lines.specs.Checks.{field_checks, numbered_checks, keyword_checks, faulty_field, kind_of, field_of};
 ghost use Rattle.zic_lines.specs.code.Texts.{texts_of};
 
 use crate::field::Fields;
-use crate::field_fault::FieldFault;
+use crate::keyword::{Keyword, parse_keyword};
 use crate::link::{Link, link_line};
-use crate::rule::Rule;
-use crate::rule_line::rule_line;
+use crate::name::Name;
+use crate::rule_line::{Rule, rule_line};
 use crate::until::text_or;
 use crate::zone_line::{ZoneLine, continuation_line, zone_line};
 use std::alloc::{AllocError, Global};
 use std::borrow::CowSlice;
 use zic_base::{Kind, Place, Stop};
-use zic_words::{Keyword, Name, parse_keyword};
 
 /// A place of no line.
 const NOWHERE: Place = Place { text: 1, line: 1 };
@@ -91,10 +90,9 @@ pub fn faulty_field(alloc: Global, awaited: bool, fields: &Fields) -> Option<usi
     if fields.len() == 0 {
         return None;
     }
-    match parse_entry(alloc, awaited, NOWHERE, fields.texts()) {
-        Ok(_) => None,
-        Err(fault) => fault.field(),
-    }
+    parse_entry(alloc, awaited, NOWHERE, fields.texts())
+        .err()?
+        .field()
 }
 
 /// Returns the keyword that the first field stands for, if it does.
@@ -102,4 +100,35 @@ pub fn first_keyword(fields: &Fields) -> Option<Keyword>
     ensures { result ≡ keyword_of (slice_index_or fields.now.texts 0 []) }
 {
     parse_keyword(text_or(fields.texts(), 0, &[]))
+}
+
+/// What is wrong with the fields of a line.
+#[derive(Clone, Copy)]
+pub(crate) enum FieldFault {
+    /// Their number.
+    Count,
+    /// The field of this number, from 0.
+    At(Kind, usize),
+}
+
+impl FieldFault {
+    /// Returns the kind of the fault.
+    pub(crate) fn kind(self) -> Kind
+        ensures { result ≡ kind_of self }
+    {
+        match self {
+            FieldFault::Count => Kind::FieldCount,
+            FieldFault::At(kind, _) => kind,
+        }
+    }
+
+    /// Returns the number of the field that it is about, if it is about one.
+    pub(crate) fn field(self) -> Option<usize>
+        ensures { result ≡ field_of self }
+    {
+        match self {
+            FieldFault::Count => None,
+            FieldFault::At(_, field) => Some(field),
+        }
+    }
 }

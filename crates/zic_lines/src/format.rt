@@ -1,12 +1,12 @@
 //! The FORMAT of a zone's line.
 
 ghost use Rattle.std.specs.Prelude.{◌≡◌, is_some, IfSome, IfOk, Some};
-ghost use Rattle.zic_words.specs.Parts.{split_at_most_once};
+ghost use Rattle.zic_lines.specs.Parts.{split_at_most_once};
 ghost use Rattle.zic_lines.specs.Format.{format_of, has_slash, slashed, conversion};
 
+use crate::word::{is_dash, split_at_most_once};
 use std::alloc::{AllocError, Global};
 use zic_base::ShortText;
-use zic_words::{is_dash, split_at_most_once};
 
 /// A part of a FORMAT, printable ASCII and white space; up to 16 bytes are stored inline.
 pub type FormatPart = ShortText<16>;

@@ -2,17 +2,16 @@
 
 ghost use Rattle.std.specs.Prelude.{◌≡◌, OnOk, IfOk, IfErr, Some, None};
 ghost use Rattle.zic_base.specs.Check.{first_failed};
-ghost use Rattle.zic_words.specs.declared.keyword.Keyword.TheVariants as keywords;
+ghost use Rattle.zic_lines.specs.declared.keyword.Keyword.TheVariants as keywords;
 ghost use Rattle.zic_lines.specs.Checks.{link_checks};
 ghost use Rattle.zic_lines.specs.code.Entries.{IsOtherLine};
 ghost use Rattle.zic_lines.specs.code.Texts.{texts_of, BeginsWith};
 
-use crate::entry::Entry;
-use crate::field_fault::FieldFault;
+use crate::entry::{Entry, FieldFault};
+use crate::name::Name;
 use std::alloc::{AllocError, Global};
 use std::borrow::CowSlice;
 use zic_base::{Kind, Place};
-use zic_words::Name;
 
 /// A Link line: one more name for a zone.
 #[derive(Debug, Drop)]

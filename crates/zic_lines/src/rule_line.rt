@@ -1,24 +1,25 @@
-//! Rule lines.
+//! Rules of a source, the moments of a year at which they take effect, and Rule lines.
 
 ghost use Rattle.std.specs.Prelude.{◌≡◌, OnOk, IfOk, IfErr, Some, None};
 ghost use Rattle.zic_base.specs.Check.{first_failed};
-ghost use Rattle.zic_words.specs.declared.keyword.Keyword.TheVariants as keywords;
+ghost use Rattle.zic_lines.specs.declared.keyword.Keyword.TheVariants as keywords;
 ghost use Rattle.zic_lines.specs.Checks.{rule_checks};
 ghost use Rattle.zic_lines.specs.code.Entries.{IsOtherLine};
 ghost use Rattle.zic_lines.specs.code.LineParts.{year_checks, SayYears, moment_checks, SayMoment, time_checks, SayTimes, effect_checks, SayEffect, rule_with};
 ghost use Rattle.zic_lines.specs.code.Texts.{texts_of, BeginsWith};
 
-use crate::entry::Entry;
-use crate::field_fault::FieldFault;
-use crate::moment::Moment;
-use crate::rule::Rule;
+use crate::clock::{ClockTime, clock_time};
+use crate::day_form::{parse_day_form, parse_month};
+use crate::entry::{Entry, FieldFault};
+use crate::letter::Letter;
+use crate::set_name::SetName;
+use crate::time::{Saving, save};
+use crate::word::is_dash;
+use crate::year::{ends_before, is_one_leap_year, last_year, parse_year};
 use std::alloc::{AllocError, Global};
 use std::borrow::CowSlice;
 use zic_base::{Kind, Place};
-use zic_words::{
-    Letter, Saving, SetName, clock_time, ends_before, is_dash, is_one_leap_year, last_year,
-    parse_day_form, parse_month, parse_year, save,
-};
+use zic_calendar::On;
 
 /// The years of a rule.
 #[derive(Clone, Copy)]
@@ -166,4 +167,36 @@ pub(crate) fn rule_line(
     )?;
     let effect = rule_effect(alloc, saved.as_slice(), letter.as_slice())?;
     Ok(rule_of(place, name, times, effect).map(Entry::Rule))
+}
+
+/// A Rule line: in each year from the first to the last, a day and a time when the saving of its
+/// set changes.
+#[derive(Debug, Drop)]
+pub struct Rule {
+    /// The place of the line.
+    pub place: Place,
+    /// The set to which the rule belongs.
+    pub name: SetName,
+    /// FROM: the first year, 1 to 9000.
+    pub first: u16,
+    /// TO: the last year, from the first to 9000; `None` where there is no last year.
+    pub last: Option<u16>,
+    /// IN, ON and AT: the moment of the change in each year.
+    pub moment: Moment,
+    /// SAVE: the saving from then on.
+    pub saving: Saving,
+    /// LETTER/S: the text for which `%s` of a FORMAT stands.
+    pub letter: Letter,
+}
+
+/// A moment of a year, as a rule names it for each of its years, and an UNTIL for one.
+#[derive(Clone, Copy, Debug, PartialEq, Eq)]
+pub struct Moment {
+    /// IN or MONTH: 1 to 12.
+    pub month: u8,
+    /// ON or DAY: the form of the day.
+    pub on: On,
+    /// AT or TIME: seconds after 00:00 of that day, within 300:00:00 either way, and the clock by
+    /// which they are meant.
+    pub at: ClockTime,
 }

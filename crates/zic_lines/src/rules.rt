@@ -1,13 +1,15 @@
 //! The RULES of a zone's line.
 
 ghost use Rattle.std.specs.Prelude.{◌≡◌, OnOk, IfOk, IfErr, is_some, Some, None, true};
-ghost use Rattle.zic_lines.specs.declared.field_fault.FieldFault.TheVariants.{At};
+ghost use Rattle.zic_lines.specs.declared.entry.FieldFault.TheVariants.{At};
 ghost use Rattle.zic_lines.specs.RulesField.{begins_amount, rules_of, rules_kind};
 
-use crate::field_fault::FieldFault;
+use crate::entry::FieldFault;
+use crate::set_name::SetName;
+use crate::time::{Saving, save};
+use crate::word::is_dash;
 use std::alloc::{AllocError, Global};
 use zic_base::Kind;
-use zic_words::{Saving, SetName, is_dash, save};
 
 /// The RULES of a Zone or continuation line (zic(8), RULES).
 #[derive(Debug, Drop)]

@@ -6,12 +6,14 @@ ghost use Rattle.zic_lines.specs.Checks.{date_checks, until_checks};
 ghost use Rattle.zic_lines.specs.Until.{until_of, until_at};
 ghost use Rattle.zic_lines.specs.code.Texts.{texts_of};
 
-use crate::field_fault::FieldFault;
-use crate::moment::Moment;
+use crate::clock::clock_time;
+use crate::day_form::{parse_day_form, parse_month};
+use crate::entry::FieldFault;
+use crate::rule_line::Moment;
+use crate::year::parse_year;
 use std::borrow::CowSlice;
 use zic_base::Kind;
 use zic_calendar::is_leap_year;
-use zic_words::{clock_time, parse_day_form, parse_month, parse_year};
 
 /// The UNTIL of a line: the moment at which the line that follows takes over (zic(8), UNTIL).
 #[derive(Clone, Copy, Debug, PartialEq, Eq)]

@@ -2,7 +2,7 @@
 
 ghost use Rattle.std.specs.Prelude.{◌≡◌, ◌≤◌, ◌∷◌, OnOk, IfOk, IfErr, Some, None, true, is_some, length};
 ghost use Rattle.zic_base.specs.Check.{first_failed};
-ghost use Rattle.zic_words.specs.declared.keyword.Keyword.TheVariants as keywords;
+ghost use Rattle.zic_lines.specs.declared.keyword.Keyword.TheVariants as keywords;
 ghost use Rattle.zic_lines.specs.Checks.{zone_part_checks, zone_checks, continuation_checks};
 ghost use Rattle.zic_lines.specs.ZoneLine.{IsContinuationLine};
 ghost use Rattle.zic_lines.specs.Format.{format_of};
@@ -11,15 +11,15 @@ ghost use Rattle.zic_lines.specs.code.Entries.{IsOtherLine, IsZoneOf};
 ghost use Rattle.zic_lines.specs.code.LineParts.{shown_checks};
 ghost use Rattle.zic_lines.specs.code.Texts.{texts_of, BeginsWith};
 
-use crate::entry::Entry;
-use crate::field_fault::FieldFault;
+use crate::entry::{Entry, FieldFault};
 use crate::format::{Format, parse_format};
+use crate::name::Name;
 use crate::rules::{Rules, parse_rules};
+use crate::time::offset;
 use crate::until::{Until, parse_until};
 use std::alloc::{AllocError, Global};
 use std::borrow::CowSlice;
 use zic_base::{Kind, Place};
-use zic_words::{Name, offset};
 
 /// A Zone or continuation line, which governs from the UNTIL of the line before it, if there is
 /// one, up to its own (zic(8), Zone lines).

@@ -2,8 +2,8 @@
 use Rattle.std.proofs.Common.{inl, inr, ℤ, List, [], ◌∷◌, ◌++◌, sym, arith}
 use Rattle.std.proofs.lemmas.List.Elements.{Contains-push, Contains-push_cases}
 use Rattle.zic_tzif.specs.Content.{Content}
-use Rattle.zic_plan.specs.declared.disambiguation.Disambiguation.{Disambiguation}
-use Rattle.zic_plan.specs.declared.disambiguation.Disambiguation.TheVariants as choice
+use Rattle.zic_layouts.specs.declared.disambiguation.Disambiguation.{Disambiguation}
+use Rattle.zic_layouts.specs.declared.disambiguation.Disambiguation.TheVariants as choice
 use Rattle.zic_local.specs.LocalTime.{IsInstantOf, AreInstantsOf}
 use Rattle.zic_local.specs.Choice.{IsOnly, IsFirst, IsLast, Means}
 use Rattle.zic_local.proofs.Lists.{head_is, least, last_is, greatest}

@@ -3,14 +3,14 @@ use Rattle.std.proofs.Common.{◌≡◌, ℕ, suc, zero, ℤ, pos, ◌+ℤ◌, �
 use Rattle.std.specs.Option.{MatchOption}
 use Rattle.std.proofs.lemmas.Int.{ints, by_lt_z}
 use Rattle.zic_base.specs.State.{Shown}
-use Rattle.zic_base.specs.declared.limit.TheConstants.{FARTHEST_FILE_OFFSET}
+use Rattle.zic_base.specs.declared.constants.TheConstants.{FARTHEST_FILE_OFFSET}
 use Rattle.zic_posix.specs.Instants.{Includes}
-use Rattle.zic_posix.specs.declared.instants.Instants.{Instants}
+use Rattle.zic_posix.specs.declared.span.Instants.{Instants}
 use Rattle.zic_tzif.specs.Content.{Content}
 use Rattle.zic_tzif.specs.Answer.{Answers, AnswersThroughout, IsUnspecified}
-use Rattle.zic_local.specs.declared.local_instants.Gap.{Gap}
-use Rattle.zic_local.specs.declared.local_instants.LocalInstants.{LocalInstants}
-use Rattle.zic_local.specs.declared.local_instants.LocalInstants.TheVariants as instants
+use Rattle.zic_local.specs.declared.local_time.Gap.{Gap}
+use Rattle.zic_local.specs.declared.local_time.LocalInstants.{LocalInstants}
+use Rattle.zic_local.specs.declared.local_time.LocalInstants.TheVariants as instants
 use Rattle.zic_local.specs.LocalTime.{IsOffsetAt, IsInstantOf, AreInstantsOf, PassesOver, AnswersLocal, HaveOffsets}
 use Rattle.zic_local.specs.code.Walk.{AnswersLocalUpTo, with_instant, with_gap, IsInSpan, IsPassedAt}
 use Rattle.zic_local.proofs.Lists.{not_empty}

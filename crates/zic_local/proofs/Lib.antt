@@ -1,3 +1,9 @@
+pub mod Days
+pub mod Ends
+pub mod Meant
+pub mod NextOnce
+pub mod Searching
+pub mod Written
 pub mod Choices
 pub mod Existing
 pub mod Indexing

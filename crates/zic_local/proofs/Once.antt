@@ -6,14 +6,14 @@ use Rattle.std.proofs.lemmas.List.{get_or_push, length_push}
 use Rattle.zic_base.specs.State.{Shown}
 use Rattle.zic_tzif.specs.Content.{Content}
 use Rattle.zic_tzif.proofs.AnswerLemmas.{one_answer}
-use Rattle.zic_plan.specs.declared.disambiguation.Disambiguation.{Disambiguation}
-use Rattle.zic_plan.specs.declared.disambiguation.Disambiguation.TheVariants as choice
-use Rattle.zic_local.specs.declared.disambiguation.Unresolved.{Unresolved}
-use Rattle.zic_local.specs.declared.disambiguation.Unresolved.TheVariants as unresolved
-use Rattle.zic_local.specs.declared.local_instants.Gap.{Gap}
-use Rattle.zic_local.specs.declared.local_instants.Fold.{Fold}
-use Rattle.zic_local.specs.declared.local_instants.LocalInstants.{LocalInstants}
-use Rattle.zic_local.specs.declared.local_instants.LocalInstants.TheVariants as instants
+use Rattle.zic_layouts.specs.declared.disambiguation.Disambiguation.{Disambiguation}
+use Rattle.zic_layouts.specs.declared.disambiguation.Disambiguation.TheVariants as choice
+use Rattle.zic_local.specs.declared.local_time.Unresolved.{Unresolved}
+use Rattle.zic_local.specs.declared.local_time.Unresolved.TheVariants as unresolved
+use Rattle.zic_local.specs.declared.local_time.Gap.{Gap}
+use Rattle.zic_local.specs.declared.local_time.Fold.{Fold}
+use Rattle.zic_local.specs.declared.local_time.LocalInstants.{LocalInstants}
+use Rattle.zic_local.specs.declared.local_time.LocalInstants.TheVariants as instants
 use Rattle.zic_local.specs.LocalTime.{IsOffsetAt, IsInstantOf, AreInstantsOf, IsGapOf, IsFoldOf, AnswersLocal}
 use Rattle.zic_local.specs.Choice.{IsOnly, IsFirst, IsLast, IsReadBefore, IsReadAfter, Means, IsUnresolved}
 use Rattle.zic_local.proofs.Lists.{head_is, last_is, below_last, not_empty, just_once}

@@ -3,13 +3,13 @@ use Rattle.std.proofs.Common.{◌≡◌, true, false, ℤ, pos, ◌+ℤ◌, ◌-
 use Rattle.std.specs.Option.{MatchOption, is_some}
 use Rattle.std.proofs.lemmas.Int.{ints, by_lt_z}
 use Rattle.zic_base.specs.State.{Shown}
-use Rattle.zic_base.specs.declared.limit.TheConstants.{FARTHEST_FILE_OFFSET}
+use Rattle.zic_base.specs.declared.constants.TheConstants.{FARTHEST_FILE_OFFSET}
 use Rattle.zic_posix.specs.Instants.{Includes}
-use Rattle.zic_posix.specs.declared.instants.Instants.{Instants}
+use Rattle.zic_posix.specs.declared.span.Instants.{Instants}
 use Rattle.zic_tzif.specs.Content.{Content}
 use Rattle.zic_tzif.specs.Answer.{AnswersThroughout}
 use Rattle.zic_local.specs.declared.local_index.Passed.{Passed}
-use Rattle.zic_local.specs.declared.local_instants.Gap.{Gap}
+use Rattle.zic_local.specs.declared.local_time.Gap.{Gap}
 use Rattle.zic_local.specs.Index.{IsPassed}
 use Rattle.zic_local.specs.LocalTime.{HaveOffsets, IsGapOf, PassesOver}
 use Rattle.zic_local.specs.code.Indexing.{IsQuiet}

@@ -4,14 +4,14 @@ use Rattle.std.specs.Int.{int_max}
 use Rattle.std.specs.Option.{MatchOption}
 use Rattle.std.proofs.lemmas.Int.{ints, clamps, by_lt_z}
 use Rattle.zic_base.specs.State.{Shown}
-use Rattle.zic_base.specs.declared.limit.TheConstants.{FARTHEST_FILE_OFFSET}
+use Rattle.zic_base.specs.declared.constants.TheConstants.{FARTHEST_FILE_OFFSET}
 use Rattle.zic_posix.specs.Instants.{Includes, AreBetween}
-use Rattle.zic_posix.specs.declared.instants.Instants.{Instants}
+use Rattle.zic_posix.specs.declared.span.Instants.{Instants}
 use Rattle.zic_tzif.specs.Content.{Content}
 use Rattle.zic_tzif.specs.Answer.{AnswersThroughout, MayChangeAt}
-use Rattle.zic_local.specs.declared.local_instants.Gap.{Gap}
-use Rattle.zic_local.specs.declared.local_instants.LocalInstants.{LocalInstants}
-use Rattle.zic_local.specs.declared.local_instants.LocalInstants.TheVariants as instants
+use Rattle.zic_local.specs.declared.local_time.Gap.{Gap}
+use Rattle.zic_local.specs.declared.local_time.LocalInstants.{LocalInstants}
+use Rattle.zic_local.specs.declared.local_time.LocalInstants.TheVariants as instants
 use Rattle.zic_local.specs.LocalTime.{HaveOffsets}
 use Rattle.zic_local.specs.code.Walk.{with_instant, with_gap, found_count, IsInSpan, IsPassedAt, IsWalked}
 use Rattle.zic_local.proofs.Steps.{known_first, known_more, known_gap, next_instant, next_gap, no_gap_inside, near_in_span}

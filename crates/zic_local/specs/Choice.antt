@@ -2,13 +2,13 @@
 -- `disambiguation` in ECMAScript's Temporal; `compatible` is what RFC 5545, 3.3.5, asks for.
 use Rattle.std.specs.Prelude.{◌≡◌, ℤ, ◌+ℤ◌, ◌≤ℤ◌, ◌⊎◌}
 use Rattle.zic_tzif.specs.Content.{Content}
-use Rattle.zic_plan.specs.declared.disambiguation.Disambiguation.{Disambiguation}
-use Rattle.zic_plan.specs.declared.disambiguation.Disambiguation.TheVariants as choice
-use Rattle.zic_local.specs.declared.disambiguation.Unresolved.{Unresolved}
-use Rattle.zic_local.specs.declared.disambiguation.Unresolved.TheVariants as unresolved
-use Rattle.zic_local.specs.declared.local_instants.Gap.{Gap}
-use Rattle.zic_local.specs.declared.local_instants.Fold.{Fold}
-use Rattle.zic_local.specs.declared.local_instants.LocalInstants.TheVariants as instants
+use Rattle.zic_layouts.specs.declared.disambiguation.Disambiguation.{Disambiguation}
+use Rattle.zic_layouts.specs.declared.disambiguation.Disambiguation.TheVariants as choice
+use Rattle.zic_local.specs.declared.local_time.Unresolved.{Unresolved}
+use Rattle.zic_local.specs.declared.local_time.Unresolved.TheVariants as unresolved
+use Rattle.zic_local.specs.declared.local_time.Gap.{Gap}
+use Rattle.zic_local.specs.declared.local_time.Fold.{Fold}
+use Rattle.zic_local.specs.declared.local_time.LocalInstants.TheVariants as instants
 use Rattle.zic_local.specs.LocalTime.{IsInstantOf, IsFoldOf, AnswersLocal}
 
 -- the only instant of a local time

@@ -1,6 +1,6 @@
 -- What finds the instants of a local time without a walk over the changes near it.
 use Rattle.std.specs.Prelude.{ℤ, ◌+ℤ◌, ◌<ℤ◌, ◌≤ℤ◌, ◌≤◌, List, All, AllPairs, Contains, unsigned_abs}
-use Rattle.zic_base.specs.declared.limit.TheConstants.{FARTHEST_FILE_OFFSET}
+use Rattle.zic_base.specs.declared.constants.TheConstants.{FARTHEST_FILE_OFFSET}
 use Rattle.zic_tzif.specs.Content.{Content}
 use Rattle.zic_local.specs.declared.local_index.LocalIndex.{LocalIndex}
 use Rattle.zic_local.specs.declared.local_index.Passed.{Passed}

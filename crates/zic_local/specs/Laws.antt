@@ -4,10 +4,10 @@ use Rattle.zic_base.specs.State.{Shown}
 use Rattle.zic_tzif.specs.Content.{Content}
 use Rattle.zic_tzif.specs.Answer.{Answers, IsUnspecified}
 use Rattle.zic_tzif.specs.Reading.{IsFile}
-use Rattle.zic_plan.specs.declared.disambiguation.Disambiguation.{Disambiguation}
-use Rattle.zic_local.specs.declared.disambiguation.Unresolved.{Unresolved}
-use Rattle.zic_local.specs.declared.local_instants.LocalInstants.{LocalInstants}
-use Rattle.zic_local.specs.declared.local_instants.LocalInstants.TheVariants as instants
+use Rattle.zic_layouts.specs.declared.disambiguation.Disambiguation.{Disambiguation}
+use Rattle.zic_local.specs.declared.local_time.Unresolved.{Unresolved}
+use Rattle.zic_local.specs.declared.local_time.LocalInstants.{LocalInstants}
+use Rattle.zic_local.specs.declared.local_time.LocalInstants.TheVariants as instants
 use Rattle.zic_local.specs.LocalTime.{IsInstantOf, AreInstantsOf, HaveOffsets, HaveOffsetsWithin, AnswersLocal}
 use Rattle.zic_local.specs.Choice.{Means, IsUnresolved}
 

@@ -1,3 +1,6 @@
+pub mod Due
+pub mod ScheduleLaws
+pub mod Weekdays
 pub mod Choice
 pub mod code
 pub mod Index

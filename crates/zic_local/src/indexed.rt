@@ -1,15 +1,14 @@
 //! The instants of a local time, found offset by offset.
 
 ghost use Rattle.std.specs.Prelude.{◌≡◌, ◌≤◌, ℤ, pos, ◌+ℤ◌, ◌-ℤ◌, ◌≤ℤ◌, MatchOption, unsigned_abs};
-ghost use Rattle.zic_base.specs.declared.limit.TheConstants.{FARTHEST_FILE_OFFSET};
+ghost use Rattle.zic_base.specs.declared.constants.TheConstants.{FARTHEST_FILE_OFFSET};
 ghost use Rattle.zic_local.specs.Index.{IsIndexOf};
 ghost use Rattle.zic_local.specs.LocalTime.{HaveOffsets, IsGapOf, IsInRange, IsOffsetAt, PassesOver, AnswersLocal};
 ghost use Rattle.zic_local.specs.code.Walk.{AnswersLocalUpTo};
 
 use crate::local_index::LocalIndex;
-use crate::local_instants::{Gap, LocalInstants};
+use crate::local_time::{Gap, LocalInstants, read_by};
 use crate::lookup::{FARTHEST, gap_at};
-use crate::reading::read_by;
 use zic_tzif::{Answer, Zone};
 
 /// Returns the instants of a local time as [`crate::instants`] does, by the zone's index. Takes a

@@ -7,13 +7,11 @@ ghost use Rattle.zic_local.specs.LocalTime.{HaveOffsets, IsInRange, AnswersLocal
 ghost use Rattle.zic_local.specs.Choice.{Means, IsUnresolved};
 ghost use Rattle.zic_local.specs.code.Walk.{HasNearOffset, IsInSpan, IsPassedAt};
 
-use crate::disambiguation::Unresolved;
 use crate::indexed::instants_in;
 use crate::local_index::LocalIndex;
-use crate::local_instants::{Gap, LocalInstants};
-use crate::reading::read_by;
+use crate::local_time::{Gap, LocalInstants, Unresolved, read_by};
 use zic_base::FARTHEST_FILE_OFFSET;
-use zic_plan::Disambiguation;
+use zic_layouts::Disambiguation;
 use zic_tzif::{Answer, AnswerSpan, Zone};
 
 /// The farthest that an instant lies from its local time, in seconds.

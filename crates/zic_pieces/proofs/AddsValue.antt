@@ -7,9 +7,9 @@ use mathlib.Core.Logic.{dite}
 use native.Mathlib.Decide.{ℕ_discrete, dec_le}
 use lib.ListN.{get_elem?}
 use Rattle.atomic_table.proofs.Lists.{at_set, at_snoc, set_else, set_here}
-use Rattle.zic_pieces.specs.declared.event.Event.{Event}
-use Rattle.zic_pieces.specs.declared.event.Event.TheVariants.{Drew, Reported, Glanced}
-use Rattle.zic_pieces.specs.declared.event.Known.{Known}
+use Rattle.zic_pieces.specs.declared.pass.Event.{Event}
+use Rattle.zic_pieces.specs.declared.pass.Event.TheVariants.{Drew, Reported, Glanced}
+use Rattle.zic_pieces.specs.declared.pass.Known.{Known}
 use Rattle.zic_pieces.specs.Events.{Has, draws, past, weigh}
 use Rattle.zic_pieces.specs.Core.{first, drew, reported, glanced, left, right, both, spent}
 use Rattle.zic_pieces.specs.code.Core.{total, parts_if, SomeHas, IsPassOf, IsCore}

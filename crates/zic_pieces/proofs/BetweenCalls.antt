@@ -2,7 +2,7 @@
 use Rattle.std.proofs.Common.{◌≡◌, ℕ, ◌+◌, ◌-◌, ◌<◌, ◌≤◌, Bool, true, false, ◌||◌, nat_le, [], ◌∷◌, length, refl, sym, ap, ◌∙◌, subst, arith, length-append}
 use Rattle.std.proofs.lemmas.Bool.Decides.{nat_tests}
 use mathlib.Core.Option.{some-ne-none}
-use Rattle.zic_pieces.specs.declared.event.Known.{Known}
+use Rattle.zic_pieces.specs.declared.pass.Known.{Known}
 use Rattle.zic_pieces.specs.Events.{past}
 use Rattle.zic_pieces.specs.Given.{given}
 use Rattle.zic_pieces.specs.code.Whole.{is_whole}

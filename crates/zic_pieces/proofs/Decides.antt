@@ -1,6 +1,6 @@
 -- What the workers' work comes to, once their claims are settled.
 use Rattle.std.proofs.Common.{◌≡◌, ℕ, ◌<◌, ◌≤◌, List, Option, Some, None, Result, sym, ◌∙◌, subst, ⊎_elim, arith}
-use Rattle.zic_pieces.specs.declared.event.Event.{Event}
+use Rattle.zic_pieces.specs.declared.pass.Event.{Event}
 use Rattle.zic_pieces.specs.declared.task.PieceStop.{PieceStop}
 use Rattle.zic_pieces.specs.Events.{times}
 use Rattle.zic_pieces.specs.Given.{given}

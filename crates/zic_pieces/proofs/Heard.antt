@@ -1,7 +1,7 @@
 -- Reports are heard.
 use Rattle.std.proofs.Common.{ℕ, [], ◌∷◌, refl, sym, subst, arith}
-use Rattle.zic_pieces.specs.declared.event.Event.TheVariants.{Drew, Glanced}
-use Rattle.zic_pieces.specs.declared.event.Known.{Known}
+use Rattle.zic_pieces.specs.declared.pass.Event.TheVariants.{Drew, Glanced}
+use Rattle.zic_pieces.specs.declared.pass.Known.{Known}
 use Rattle.zic_pieces.specs.Events.{Has, past}
 use Rattle.zic_pieces.specs.Core.{drew}
 use Rattle.zic_pieces.specs.Laws.{ReportsAreHeard}

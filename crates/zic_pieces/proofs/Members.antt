@@ -5,8 +5,8 @@ use mathlib.Core.Logic.{dite}
 use native.Mathlib.Decide.{ℕ_discrete}
 use lib.ListN.{get_elem?}
 use Rattle.atomic_table.proofs.Lists.{at_set, at_snoc, at_longer, set_else, set_here}
-use Rattle.zic_pieces.specs.declared.event.Event.{Event}
-use Rattle.zic_pieces.specs.declared.event.Known.{Known}
+use Rattle.zic_pieces.specs.declared.pass.Event.{Event}
+use Rattle.zic_pieces.specs.declared.pass.Known.{Known}
 use Rattle.zic_pieces.specs.Events.{Has}
 use Rattle.zic_pieces.specs.code.Core.{SomeHas}
 

@@ -4,7 +4,7 @@ use mathlib.Core.Option.{some}
 use mathlib.Core.Logic.{dite}
 use native.Mathlib.Decide.{ℕ_discrete, dec_le}
 use lib.ListN.{get_elem?}
-use Rattle.zic_pieces.specs.declared.event.Known.{Known}
+use Rattle.zic_pieces.specs.declared.pass.Known.{Known}
 use Rattle.zic_pieces.specs.Events.{draws, weigh, one_at}
 use Rattle.zic_pieces.specs.code.Core.{total, weigh_below, parts_if, IsCore}
 use Rattle.zic_pieces.specs.Passes.{IsSound}

@@ -5,7 +5,7 @@ use mathlib.Core.Option.{none, some}
 use lib.ListN.{get_elem?}
 use Rattle.atomic_table.specs.Table.{State, step, keeps, Allows, Splits, Joins}
 use Rattle.atomic_table.proofs.Lists.{set_here, set_again}
-use Rattle.zic_pieces.specs.declared.event.Known.{Known}
+use Rattle.zic_pieces.specs.declared.pass.Known.{Known}
 use Rattle.zic_pieces.specs.Events.{past}
 use Rattle.zic_pieces.specs.Core.{drew, reported, glanced, left, right, both, spent}
 use Rattle.zic_pieces.specs.code.Core.{IsCore}

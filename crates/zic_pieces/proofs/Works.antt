@@ -7,11 +7,11 @@ use mathlib.Core.Logic.{dite}
 use native.Mathlib.Decide.{ℕ_discrete, dec_le}
 use lib.ListN.{get_elem?}
 use Rattle.atomic_table.proofs.Lists.{at_longer}
-use Rattle.zic_pieces.specs.declared.event.Event.{Event}
-use Rattle.zic_pieces.specs.declared.event.Event.TheVariants.{Drew, Reported, Glanced}
+use Rattle.zic_pieces.specs.declared.pass.Event.{Event}
+use Rattle.zic_pieces.specs.declared.pass.Event.TheVariants.{Drew, Reported, Glanced}
 use Rattle.zic_pieces.specs.declared.task.PieceStop.{PieceStop}
-use Rattle.zic_pieces.specs.declared.event.Known.{Known}
-use Rattle.zic_pieces.specs.declared.claim.Claim.TheVariants.{Do, Skip, End}
+use Rattle.zic_pieces.specs.declared.pass.Known.{Known}
+use Rattle.zic_pieces.specs.declared.claims.Claim.TheVariants.{Do, Skip, End}
 use Rattle.zic_pieces.specs.Events.{Has, past, times, one_at}
 use Rattle.zic_pieces.specs.Given.{given}
 use Rattle.zic_pieces.specs.Core.{drew, reported, glanced}

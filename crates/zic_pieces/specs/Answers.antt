@@ -1,10 +1,10 @@
 -- The answers of the calls of claims.
 use Rattle.std.specs.Prelude.{◌≡◌, ℕ, ◌<◌, ◌≤◌, ◌⊎◌, true, false}
-use Rattle.zic_pieces.specs.declared.event.Known.{Known}
-use Rattle.zic_pieces.specs.declared.claim.Claim.{Claim}
-use Rattle.zic_pieces.specs.declared.claim.Claim.TheVariants.{Do, Skip, End}
-use Rattle.zic_pieces.specs.declared.claim.Split.{Split}
-use Rattle.zic_pieces.specs.declared.claim.Split.TheVariants.{Two, Full}
+use Rattle.zic_pieces.specs.declared.pass.Known.{Known}
+use Rattle.zic_pieces.specs.declared.claims.Claim.{Claim}
+use Rattle.zic_pieces.specs.declared.claims.Claim.TheVariants.{Do, Skip, End}
+use Rattle.zic_pieces.specs.declared.claims.Split.{Split}
+use Rattle.zic_pieces.specs.declared.claims.Split.TheVariants.{Two, Full}
 use Rattle.zic_pieces.specs.Events.{past}
 use Rattle.zic_pieces.specs.Core.{drew, glanced, left, right}
 use Rattle.zic_pieces.specs.Passes.{Held}

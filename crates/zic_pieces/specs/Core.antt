@@ -2,8 +2,8 @@
 -- adds 1 to NEXT, a report lowers FAULT, and a glance reads FAULT. Splitting and joining passes
 -- move what is known, and change neither word.
 use Rattle.std.specs.Prelude.{ℕ, ◌-◌, ◌+◌, false, ◌||◌, nat_le, min, [], ◌∷◌, ◌++◌}
-use Rattle.zic_pieces.specs.declared.event.Event.TheVariants.{Drew, Reported, Glanced}
-use Rattle.zic_pieces.specs.declared.event.Known.{Known}
+use Rattle.zic_pieces.specs.declared.pass.Event.TheVariants.{Drew, Reported, Glanced}
+use Rattle.zic_pieces.specs.declared.pass.Known.{Known}
 use Rattle.zic_pieces.specs.Events.{past}
 
 -- the first pass of n pieces stands for 1,024 passes, has no events and has seen n

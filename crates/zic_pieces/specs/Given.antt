@@ -1,7 +1,7 @@
 -- Which numbers were given, and which were skipped.
 use Rattle.std.specs.Prelude.{ℕ, ◌&&◌, nat_lt, nat_le, List, [], ◌∷◌, ◌++◌, if◌then◌else◌}
-use Rattle.zic_pieces.specs.declared.event.Event.{Event}
-use Rattle.zic_pieces.specs.declared.event.Event.TheVariants.{Drew, Reported, Glanced}
+use Rattle.zic_pieces.specs.declared.pass.Event.{Event}
+use Rattle.zic_pieces.specs.declared.pass.Event.TheVariants.{Drew, Reported, Glanced}
 
 -- a draw of i below n and a glance right after it that found i or more: i was given
 abbrev pub given_by : ℕ → Event → Event → List ℕ

@@ -1,8 +1,8 @@
 -- Laws of claims, in terms of their calls, and of tasks.
 use Rattle.std.specs.Prelude.{◌≡◌, ℕ, ◌<◌, ◌≤◌, List, Result, Ok, Err}
-use Rattle.zic_pieces.specs.declared.event.Known.{Known}
-use Rattle.zic_pieces.specs.declared.event.Event.{Event}
-use Rattle.zic_pieces.specs.declared.event.Event.TheVariants.{Reported}
+use Rattle.zic_pieces.specs.declared.pass.Known.{Known}
+use Rattle.zic_pieces.specs.declared.pass.Event.{Event}
+use Rattle.zic_pieces.specs.declared.pass.Event.TheVariants.{Reported}
 use Rattle.zic_pieces.specs.Events.{Has}
 use Rattle.zic_pieces.specs.Core.{drew}
 use Rattle.zic_pieces.specs.Passes.{IsSound}

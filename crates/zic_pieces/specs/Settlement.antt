@@ -1,7 +1,7 @@
 -- Facts that are known once all passes are one.
 use Rattle.std.specs.Prelude.{◌≡◌, ℕ, ◌<◌, ◌≤◌, ◌⊎◌, List}
-use Rattle.zic_pieces.specs.declared.event.Event.{Event}
-use Rattle.zic_pieces.specs.declared.event.Event.TheVariants.{Glanced, Reported}
+use Rattle.zic_pieces.specs.declared.pass.Event.{Event}
+use Rattle.zic_pieces.specs.declared.pass.Event.TheVariants.{Glanced, Reported}
 use Rattle.zic_pieces.specs.Events.{Has, times}
 
 -- these are the numbers below m, each once

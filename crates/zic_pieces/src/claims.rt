@@ -1,4 +1,4 @@
-//! Shared claims on numbered pieces.
+//! Shared claims on numbered pieces, and the answers of their calls.
 
 ghost use Rattle.std.specs.Prelude.{◌≡◌, ℕ, ◌+◌, ◌≤◌, ◌<◌, length, IfOk, IsTrue};
 ghost use Rattle.zic_pieces.specs.Events.{draws, times};
@@ -8,9 +8,7 @@ ghost use Rattle.zic_pieces.specs.Core.{first, both, glanced, reported};
 ghost use Rattle.zic_pieces.specs.Answers.{Answers, IsCut};
 ghost use Rattle.zic_pieces.specs.Passes.{IsOf, IsSound};
 
-use crate::claim::{Claim, Settled, Split};
-use crate::event::Known;
-use crate::pass::Pass;
+use crate::pass::{Known, Pass};
 use crate::rule::{Core, Draw, FAULT, Glance, Learn, NEXT, Part, Report};
 use atomic_table::Table;
 use std::alloc::{AllocError, Global};
@@ -190,4 +188,35 @@ impl Claims {
             ended,
         }
     }
+}
+
+/// The answer of a claim.
+#[derive(Clone, Copy, PartialEq, Eq, Debug, Drop)]
+pub enum Claim {
+    /// This piece is the caller's, and no number below it was known to be reported.
+    Do(u64),
+    /// This piece lies above a number that was reported.
+    Skip(u64),
+    /// There is no further piece.
+    End,
+}
+
+/// A pass that was to be cut in two.
+#[derive(Drop)]
+pub enum Split {
+    /// The old pass with all its events, and a new one of room 0.
+    Two(Pass, Pass),
+    /// A pass of room 0 is not cut.
+    Full(Pass),
+}
+
+/// The work of all passes together.
+#[derive(Clone, Copy, PartialEq, Eq, Debug, Drop)]
+pub struct Settled {
+    /// The least number reported, or the number of pieces if none was.
+    pub least: u64,
+    /// The number of pieces that were given.
+    pub given: u64,
+    /// Whether the pass had ended: then every piece was drawn.
+    pub ended: bool,
 }

@@ -12,23 +12,16 @@
 //! (`settle`).
 #![tactic(auto)]
 
-mod claim;
 mod claims;
 mod crew;
-mod event;
-mod gate;
 pub mod laws;
-mod order;
 mod pass;
 mod rule;
 mod run;
 mod task;
 mod work;
 
-pub use claim::{Claim, Settled, Split};
-pub use claims::{Claims, MAX_PIECES};
-pub use event::{Event, Known};
-pub use gate::{Gate, Open};
-pub use pass::Pass;
+pub use claims::{Claim, Claims, MAX_PIECES, Settled, Split};
+pub use pass::{Event, Gate, Known, Open, Pass};
 pub use run::run_task;
 pub use task::{PieceStop, Task, TaskStop};

@@ -1,6 +1,6 @@
 //! The rule of the two shared words, and the steps on them.
 
-use crate::event::Known;
+use crate::pass::Known;
 use atomic_table::{Join, Play, Split, TableRule};
 
 /// The word from which numbers are drawn.

@@ -7,10 +7,8 @@ ghost use Rattle.zic_pieces.specs.code.Stop.{the_stop};
 ghost use Rattle.zic_pieces.specs.code.Crew.{Each, IsFresh, parts_of, DidWork};
 
 use crate::claims::Claims;
-use crate::crew::{deal, merge_all};
-use crate::gate::Gate;
-use crate::order::in_order;
-use crate::pass::Pass;
+use crate::crew::{deal, in_order, merge_all};
+use crate::pass::{Gate, Pass};
 use crate::task::{PieceStop, Task, TaskStop};
 use crate::work::{Worked, work};
 use std::alloc::{AllocError, Global};

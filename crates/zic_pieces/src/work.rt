@@ -5,10 +5,8 @@ ghost use Rattle.zic_pieces.specs.Passes.{IsOf};
 ghost use Rattle.zic_pieces.specs.Task.{IsReason};
 ghost use Rattle.zic_pieces.specs.code.Work.{IsWork, the_lesser, AddsValue};
 
-use crate::claim::Claim;
-use crate::claims::Claims;
-use crate::gate::Gate;
-use crate::pass::Pass;
+use crate::claims::{Claim, Claims};
+use crate::pass::{Gate, Pass};
 use crate::task::{PieceStop, Task};
 use std::alloc::Global;
 

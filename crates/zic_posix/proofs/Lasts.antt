@@ -1,7 +1,7 @@
 -- The last of an edge's instants that isn't after an instant.
 use Rattle.std.proofs.Common.{◌≡◌, ℕ, ◌*◌, ◌/◌, ◌≤◌, inl, refl, arith, ℤ, pos, negsuc, ◌+ℤ◌, ◌-ℤ◌, ◌*ℤ◌, ◌<ℤ◌, ◌≤ℤ◌, unsigned_abs}
 use Rattle.std.proofs.lemmas.Int.{ints, by_lt_z}
-use Rattle.zic_base.specs.declared.limit.TheConstants.{FARTHEST_FILE_OFFSET}
+use Rattle.zic_base.specs.declared.constants.TheConstants.{FARTHEST_FILE_OFFSET}
 use Rattle.zic_calendar.specs.Calendar.{day_number, IsDate}
 use Rattle.zic_calendar.proofs.YearLemmas.{year_start-later, year_start-1970}
 use Rattle.zic_calendar.proofs.DateLemmas.{day_number-rises, day_number-period, days_of_months-zero, first_has, date_exists}

@@ -4,7 +4,7 @@ use Rattle.std.specs.Prelude.{int_le, IsSomeAnd}
 use Rattle.std.proofs.lemmas.Int.{ints, by_lt_z}
 use Rattle.zic_base.specs.State.{Shown}
 use Rattle.zic_posix.specs.declared.footer.Dst.{Dst}
-use Rattle.zic_posix.specs.declared.instants.Instants.{Instants}
+use Rattle.zic_posix.specs.declared.span.Instants.{Instants}
 use Rattle.zic_posix.specs.Footer.{TzString}
 use Rattle.zic_posix.specs.Grammar.{IsTzString}
 use Rattle.zic_posix.specs.Instants.{Includes, AreBetween}

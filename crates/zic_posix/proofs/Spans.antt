@@ -4,12 +4,12 @@ use Rattle.std.specs.Prelude.{int_le, IsSomeAnd}
 use Rattle.std.specs.Int.{int_max, int_min, int_rem_euclid, saturate_signed}
 use Rattle.std.proofs.lemmas.Bool.{cases_lt}
 use Rattle.std.proofs.lemmas.Int.{ints, clamps, by_lt_z}
-use Rattle.zic_base.specs.declared.limit.TheConstants.{FARTHEST_FILE_OFFSET}
+use Rattle.zic_base.specs.declared.constants.TheConstants.{FARTHEST_FILE_OFFSET}
 use Rattle.zic_calendar.specs.DayForm.{IsNearSupportedDay}
 use Rattle.zic_posix.specs.declared.footer.Dst.{Dst}
 use Rattle.zic_posix.specs.declared.footer.Edge.{Edge}
-use Rattle.zic_posix.specs.declared.instants.Instants.{Instants}
-use Rattle.zic_posix.specs.declared.instants.TheConstants.{MIN_INSTANT, MAX_INSTANT}
+use Rattle.zic_posix.specs.declared.span.Instants.{Instants}
+use Rattle.zic_posix.specs.declared.span.TheConstants.{MIN_INSTANT, MAX_INSTANT}
 use Rattle.zic_posix.specs.declared.span.Around.{Around}
 use Rattle.zic_posix.specs.declared.span.Phase.{Phase}
 use Rattle.zic_posix.specs.Footer.{TzString}

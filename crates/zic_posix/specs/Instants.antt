@@ -1,7 +1,7 @@
 -- Instants one after another, and how far they reach.
 use Rattle.std.specs.Prelude.{◌≡◌, ℤ, pos, ◌+ℤ◌, ◌<ℤ◌, ◌≤ℤ◌, ◌⊎◌}
-use Rattle.zic_posix.specs.declared.instants.Instants.{Instants}
-use Rattle.zic_posix.specs.declared.instants.TheConstants.{MIN_INSTANT, MAX_INSTANT}
+use Rattle.zic_posix.specs.declared.span.Instants.{Instants}
+use Rattle.zic_posix.specs.declared.span.TheConstants.{MIN_INSTANT, MAX_INSTANT}
 
 -- one of the instants
 pub record Includes (instants : Instants) (t : ℤ) : Type 0 where

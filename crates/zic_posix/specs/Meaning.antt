@@ -12,7 +12,7 @@ use Rattle.zic_posix.specs.declared.footer.DayRule.{DayRule}
 use Rattle.zic_posix.specs.declared.footer.DayRule.TheVariants.{J, N, M}
 use Rattle.zic_posix.specs.declared.footer.Dst.{Dst}
 use Rattle.zic_posix.specs.declared.footer.Edge.{Edge}
-use Rattle.zic_posix.specs.declared.instants.Instants.{Instants}
+use Rattle.zic_posix.specs.declared.span.Instants.{Instants}
 use Rattle.zic_posix.specs.Footer.{TzString}
 use Rattle.zic_posix.specs.Instants.{Includes}
 

@@ -1,6 +1,6 @@
 -- Texts that a parser of POSIX TZ strings refuses, and those for which it needs memory.
 use Rattle.std.specs.Prelude.{◌<◌, ◌⊎◌, Option, Some, None, List, ℕ, length, IsSomeAnd}
-use Rattle.zic_base.specs.declared.limit.TheConstants.{LONGEST_ABBREVIATION}
+use Rattle.zic_base.specs.declared.constants.TheConstants.{LONGEST_ABBREVIATION}
 use Rattle.zic_posix.specs.declared.parser.ParseStop.{ParseStop}
 use Rattle.zic_posix.specs.declared.parser.ParseStop.TheVariants as stop
 use Rattle.zic_posix.specs.Footer.{TzString}

@@ -7,7 +7,7 @@ use Rattle.zic_posix.specs.declared.footer.DayRule.{DayRule}
 use Rattle.zic_posix.specs.declared.footer.DayRule.TheVariants.{J, N, M}
 use Rattle.zic_posix.specs.declared.footer.Dst.{Dst}
 use Rattle.zic_posix.specs.declared.footer.Edge.{Edge}
-use Rattle.zic_posix.specs.declared.limit.TheConstants.{USUAL_TIME, USUAL_SAVING}
+use Rattle.zic_posix.specs.declared.footer.TheConstants.{USUAL_TIME, USUAL_SAVING}
 use Rattle.zic_posix.specs.Footer.{TzString}
 use Rattle.zic_posix.specs.Grammar.{is_letter}
 

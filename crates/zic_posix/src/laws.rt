@@ -1,6 +1,8 @@
-//! Laws of what footers mean, each the contract of a function. No function here does anything.
+//! Laws of footers, and of the grammar of POSIX TZ strings, each the contract of a function. No
+//! function here does anything.
 
 ghost use Rattle.zic_posix.specs.Laws.{MeansOneState, MeaningRepeats, EdgesRise, EdgesStayNearYear, LastEdgesAreNear};
+ghost use Rattle.zic_posix.specs.Grammar.{SpellsAtMostOne, SomeTextSpells, SpellsWithinLimits};
 
 /// States that a footer means exactly one state at every instant.
 pub fn means_one_state()
@@ -26,4 +28,20 @@ pub fn edges_stay_near_year()
 /// instant's.
 pub fn last_edges_are_near()
     ensures { LastEdgesAreNear }
+{}
+
+/// A text spells at most one string.
+pub fn spells_at_most_one()
+    ensures { SpellsAtMostOne }
+{}
+
+/// Some text spells each string that keeps the limits, in the version that it needs.
+pub fn some_text_spells()
+    ensures { SomeTextSpells }
+{}
+
+/// A string that a text spells keeps the limits, and a text spells in version 3 what it spells in
+/// version 2.
+pub fn spells_within_limits()
+    ensures { SpellsWithinLimits }
 {}

@@ -12,10 +12,7 @@
 #![tactic(auto)]
 
 mod footer;
-mod grammar_laws;
-mod instants;
 pub mod laws;
-mod limit;
 mod parser;
 mod prepared;
 mod printer;
@@ -26,14 +23,12 @@ mod word;
 mod year_table;
 mod years;
 
-pub use footer::{Abbr, DayRule, Dst, Edge, Footer};
-pub use grammar_laws::{some_text_spells, spells_at_most_one, spells_within_limits};
-pub use instants::{Instants, MAX_INSTANT, MIN_INSTANT};
-pub use limit::{
-    LAST_DAY, MAX_HOURS, MAX_MINUTES_OR_SECONDS, MAX_WIDE_HOURS, SHORTEST_NAME, USUAL_SAVING,
-    USUAL_TIME,
+pub use footer::{
+    Abbr, DayRule, Dst, Edge, Footer, LAST_DAY, MAX_HOURS, MAX_MINUTES_OR_SECONDS, MAX_WIDE_HOURS,
+    SHORTEST_NAME, USUAL_SAVING, USUAL_TIME,
 };
+pub use laws::{some_text_spells, spells_at_most_one, spells_within_limits};
 pub use parser::{ParseStop, parse};
 pub use prepared::PreparedFooter;
 pub use printer::print;
-pub use span::StateSpan;
+pub use span::{Instants, MAX_INSTANT, MIN_INSTANT, StateSpan};

@@ -7,8 +7,7 @@ ghost use Rattle.zic_posix.specs.Footer.{version_of};
 ghost use Rattle.zic_posix.specs.Grammar.{Spells, IsDay, IsEdge, IsDaylight, is_letter};
 ghost use Rattle.zic_posix.specs.Printing.{printed_number, printed_name, printed_seconds, printed_signed, printed_offset, printed_day, printed_edge, printed_saving, printed_daylight, printed};
 
-use crate::footer::{DayRule, Dst, Edge, Footer};
-use crate::limit::{USUAL_SAVING, USUAL_TIME};
+use crate::footer::{DayRule, Dst, Edge, Footer, USUAL_SAVING, USUAL_TIME};
 use std::alloc::{AllocError, Global};
 use zic_base::two_digits;
 

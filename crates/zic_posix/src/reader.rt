@@ -5,9 +5,9 @@ ghost use Rattle.std.specs.Prelude.{◌≡◌, ◌+◌, ◌*◌, ◌<◌, ◌≤
 ghost use Rattle.zic_posix.specs.code.Reading.{Reads, sign_at, part_at, clock_at, signed_at, offset_at, plain_time_at, time_at, digit_at, weekday_at, julian_at, numbered_at, day_at, edge_time_at, edge_at, next_edge_at, daylight_offset_at, daylight_at, string_of};
 ghost use Rattle.zic_posix.specs.code.Text.{daylight, string};
 
-use crate::footer::{DayRule, Edge};
-use crate::limit::{
-    LAST_DAY, MAX_HOURS, MAX_MINUTES_OR_SECONDS, MAX_WIDE_HOURS, USUAL_SAVING, USUAL_TIME,
+use crate::footer::{
+    DayRule, Edge, LAST_DAY, MAX_HOURS, MAX_MINUTES_OR_SECONDS, MAX_WIDE_HOURS, USUAL_SAVING,
+    USUAL_TIME,
 };
 use crate::word::{after, name_at, number_at};
 

@@ -1,7 +1,7 @@
 //! A footer's state at an instant, and the instants round it at which it is the same.
 
-ghost use Rattle.std.specs.Prelude.{◌≤◌, unsigned_abs, IfSome};
-ghost use Rattle.zic_base.specs.declared.limit.TheConstants.{FARTHEST_FILE_OFFSET};
+ghost use Rattle.std.specs.Prelude.{◌≤◌, unsigned_abs, IfSome, ◌↔◌, IsTrue};
+ghost use Rattle.zic_base.specs.declared.constants.TheConstants.{FARTHEST_FILE_OFFSET};
 ghost use Rattle.zic_base.specs.State.{shown};
 ghost use Rattle.zic_posix.specs.Grammar.{IsEdge, IsOffset, IsDaylight};
 ghost use Rattle.zic_posix.specs.Instants.{Includes, AreBetween};
@@ -11,7 +11,6 @@ ghost use Rattle.zic_posix.specs.code.Years.{IsYearTable, IsTableOf};
 ghost use Rattle.zic_posix.specs.code.State.{IsInCycle, IsLatestYear, IsYearOfCycle, instant_in};
 
 use crate::footer::{Dst, Edge, Footer};
-use crate::instants::{Instants, MAX_INSTANT, MIN_INSTANT};
 use crate::state::{CYCLE, daylight_state, instant_in, latest_year};
 use crate::year_table::YearTable;
 use zic_base::State;
@@ -148,5 +147,29 @@ fn edges_around(t: i64, year: i64, edge: &Edge, offset: i32) -> Around
     Around {
         last: instant_in(year - 2, edge, offset),
         next: before,
+    }
+}
+
+/// The least instant that an `i64` holds.
+pub const MIN_INSTANT: i64 = i64::MIN;
+
+/// The greatest instant that an `i64` holds.
+pub const MAX_INSTANT: i64 = i64::MAX;
+
+/// All instants from the first to the last, in seconds since 1970-01-01 00:00 UT. Both belong to
+/// them: so the greatest that an `i64` holds can be one, and two comparisons decide whether an
+/// instant is.
+#[derive(Clone, Copy, Debug, PartialEq, Eq)]
+pub struct Instants {
+    pub first: i64,
+    pub last: i64,
+}
+
+impl Instants {
+    /// Returns whether an instant is one of these.
+    pub fn contains(&self, t: i64) -> bool
+        ensures { IsTrue result ↔ Includes self.now t }
+    {
+        self.first <= t && t <= self.last
     }
 }

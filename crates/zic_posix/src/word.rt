@@ -9,7 +9,7 @@ ghost use Rattle.std.specs.Char.{is_ascii_digit};
 ghost use Rattle.zic_posix.specs.Grammar.{is_letter};
 ghost use Rattle.zic_posix.specs.code.Reading.{Reads, after, plain_name_at, quoted_name_at, name_at, number_at};
 
-use crate::limit::SHORTEST_NAME;
+use crate::footer::SHORTEST_NAME;
 use zic_base::is_abbreviation_byte;
 
 /// Returns the text after this byte.

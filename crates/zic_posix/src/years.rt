@@ -3,7 +3,7 @@
 ghost use Rattle.std.specs.Prelude.{◌≡◌, ◌≤◌, ℤ, pos, ◌≤ℤ◌, unsigned_abs, true, IfSome};
 ghost use Rattle.std.specs.Int.{int_max, int_min};
 ghost use Rattle.std.specs.List.{list_all};
-ghost use Rattle.zic_base.specs.declared.limit.TheConstants.{FARTHEST_FILE_OFFSET};
+ghost use Rattle.zic_base.specs.declared.constants.TheConstants.{FARTHEST_FILE_OFFSET};
 ghost use Rattle.zic_posix.specs.Grammar.{IsEdge, IsOffset, IsDaylight};
 ghost use Rattle.zic_posix.specs.Laws.{IsInYear};
 ghost use Rattle.zic_posix.specs.code.State.{IsInCycle, IsYearOfCycle};

@@ -11,12 +11,12 @@ use Rattle.zic_lines.specs.declared.zone_line.ZoneLine.{ZoneLine}
 use Rattle.zic_source.specs.Sound.{IsSoundSource}
 use Rattle.zic_source.specs.Source.{ZoneLines, zone_at, lines_of_zone}
 use Rattle.zic_base.proofs.Elements.{cons_cases, contains_got, got}
-use Rattle.zic_occurrences.specs.declared.occurrence.TimedOccurrence.{TimedOccurrence}
+use Rattle.zic_states.specs.declared.occurrence.TimedOccurrence.{TimedOccurrence}
 use Rattle.zic_states.specs.ByList.{AreRising, before, not_after, rule_at}
 use Rattle.zic_states.specs.Zone.{Zone, line_at, HasInForce}
 use Rattle.zic_states.proofs.Lines.{line_at_is}
 use Rattle.zic_states.proofs.Filters.{int_le-true, not_after_from_test, into_filter}
-use Rattle.zic_rules.specs.declared.period.Period.{Period}
+use Rattle.zic_rules.specs.declared.line.Period.{Period}
 use Rattle.zic_rules.specs.code.Period.{Holds}
 use Rattle.zic_rules.specs.code.Held.{AreHeld, HeldTo, AreSoFar, last_line}
 use Rattle.zic_rules.specs.code.Line.{GivesInForce, IsLineTo, IsEndOfWindow, period_at}

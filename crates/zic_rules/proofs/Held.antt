@@ -6,7 +6,7 @@ use Rattle.std.proofs.lemmas.List.Elements.{All-nil, All-cons, All-weaker, All-h
 use Rattle.std.proofs.lemmas.List.Kept.{AllPairs-cons}
 use Rattle.std.proofs.lemmas.Option.{same_Some}
 use Rattle.zic_states.specs.Zone.{Zone}
-use Rattle.zic_rules.specs.declared.period.Period.{Period}
+use Rattle.zic_rules.specs.declared.line.Period.{Period}
 use Rattle.zic_rules.specs.code.Period.{Holds, ArePeriods}
 use Rattle.zic_rules.specs.code.Held.{IsFrom, ComesAfter, AreHeld, last_line, last_rule}
 

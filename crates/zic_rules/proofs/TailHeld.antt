@@ -5,12 +5,12 @@ use Rattle.std.proofs.lemmas.Bool.{cases_lt}
 use Rattle.std.proofs.lemmas.Int.{ints}
 use Rattle.std.proofs.lemmas.Option.{same_Some}
 use Rattle.zic_base.specs.declared.fault.Kind.{Kind}
-use Rattle.zic_lines.specs.declared.rule.Rule.{Rule}
+use Rattle.zic_lines.specs.declared.rule_line.Rule.{Rule}
 use Rattle.zic_lines.specs.declared.rules.Rules.{Rules}
 use Rattle.zic_lines.specs.declared.rules.Rules.TheVariants.{Set}
 use Rattle.zic_lines.specs.declared.zone_line.ZoneLine.{ZoneLine}
-use Rattle.zic_words.specs.declared.time.TheConstants.{GREATEST_OFFSET}
-use Rattle.zic_occurrences.specs.Occurrence.{IsMember, year_second}
+use Rattle.zic_lines.specs.declared.time.TheConstants.{GREATEST_OFFSET}
+use Rattle.zic_states.specs.Occurrence.{IsMember, year_second}
 use Rattle.zic_states.specs.End.{IsLastLine, IsEndBy, IsEnd}
 use Rattle.zic_states.specs.Fault.{HasOffsetOutOfRange, IsSavingOf}
 use Rattle.zic_states.specs.InForce.{InForce, IsRuleOf, IsInForceBy, in_force_of}

@@ -9,8 +9,8 @@ use Rattle.zic_lines.specs.declared.rules.Rules.TheVariants.{Standard, Amount, S
 use Rattle.zic_lines.specs.declared.zone_line.ZoneLine.{ZoneLine}
 use Rattle.zic_source.specs.Source.{set_rules}
 use Rattle.zic_base.proofs.Elements.{cons_cases, first_contained}
-use Rattle.zic_occurrences.specs.Occurrence.{RuleSet, year_second}
-use Rattle.zic_occurrences.proofs.Members.{IsMemberNumber, members, has_members, members_rise}
+use Rattle.zic_states.specs.Occurrence.{RuleSet, year_second}
+use Rattle.zic_states.proofs.Members.{IsMemberNumber, members, has_members, members_rise}
 use Rattle.zic_states.specs.End.{IsLastLine, IsEnd}
 use Rattle.zic_states.specs.Laws.{IsOrderly}
 use Rattle.zic_states.specs.Tail.{HasNoSet, HasLastSet}

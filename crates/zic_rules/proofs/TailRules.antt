@@ -3,14 +3,14 @@ use Rattle.std.proofs.Common.{append-nil, not, ◌≡◌, ◌<◌, ◌+◌, ◌�
 use Rattle.std.specs.Prelude.{slice_get, is_none, IsSomeAnd}
 use Rattle.std.proofs.lemmas.Option.{same_Some, slice_get_within}
 use Rattle.std.proofs.lemmas.List.Elements.{filter_more}
-use Rattle.zic_lines.specs.declared.rule.Rule.{Rule}
+use Rattle.zic_lines.specs.declared.rule_line.Rule.{Rule}
 use Rattle.zic_lines.specs.declared.rules.Rules.{Rules}
 use Rattle.zic_lines.specs.declared.rules.Rules.TheVariants.{Standard, Amount, Set}
 use Rattle.zic_lines.specs.declared.zone_line.ZoneLine.{ZoneLine}
 use Rattle.zic_base.specs.Option.{◌>>=◌}
 use Rattle.zic_source.specs.Source.{ZoneLines, lines_of_zone}
-use Rattle.zic_occurrences.specs.Occurrence.{IsMember}
-use Rattle.zic_occurrences.proofs.Members.{member_at, member_within}
+use Rattle.zic_states.specs.Occurrence.{IsMember}
+use Rattle.zic_states.proofs.Members.{member_at, member_within}
 use Rattle.zic_states.specs.Tail.{IsContinuing, HasNoSet}
 use Rattle.zic_states.specs.Until.{set_of}
 use Rattle.zic_states.specs.Zone.{Zone, lines_of, line_at}

@@ -7,9 +7,9 @@ use Rattle.std.proofs.lemmas.Option.{same_Some}
 use Rattle.zic_base.specs.State.{Shown}
 use Rattle.zic_lines.specs.declared.rules.Rules.{Rules}
 use Rattle.zic_base.proofs.Elements.{got, get_contained}
-use Rattle.zic_occurrences.specs.Laws.{IsLastOccurrence}
-use Rattle.zic_occurrences.specs.Occurrence.{RuleSet, Occurrence, nominal, year_second}
-use Rattle.zic_occurrences.proofs.Instants.{some_instant, instants_rise}
+use Rattle.zic_states.specs.OccurrenceLaws.{IsLastOccurrence}
+use Rattle.zic_states.specs.Occurrence.{RuleSet, Occurrence, nominal, year_second}
+use Rattle.zic_states.proofs.Instants.{some_instant, instants_rise}
 use Rattle.zic_states.specs.Abbreviation.{abbreviation}
 use Rattle.zic_states.specs.Change.{IsChange, IsAfterChanges}
 use Rattle.zic_states.specs.End.{IsEndBy, IsEnd}

@@ -2,8 +2,8 @@
 use Rattle.std.proofs.Common.{◌≡◌, ℕ, zero, suc, List, Some, arith}
 use Rattle.std.specs.Prelude.{ℤ, pos, ◌+ℤ◌, ◌<ℤ◌, ◌≤ℤ◌}
 use Rattle.std.proofs.lemmas.Int.{ints, clamps, by_lt_z}
-use Rattle.zic_occurrences.specs.Occurrence.{year_second}
-use Rattle.zic_occurrences.proofs.LastNamed.{named_year}
+use Rattle.zic_states.specs.Occurrence.{year_second}
+use Rattle.zic_states.proofs.LastNamed.{named_year}
 use Rattle.zic_source.specs.Sound.{IsSoundSource}
 use Rattle.zic_states.specs.End.{IsYearOf, IsLastYear}
 use Rattle.zic_states.specs.Until.{set_of}

@@ -5,10 +5,10 @@ use Rattle.std.proofs.lemmas.Int.{by_lt_z}
 use Rattle.zic_base.specs.Fault.{fault_at, kind_number}
 use Rattle.zic_base.specs.declared.fault.Kind.{Kind}
 use Rattle.zic_base.specs.declared.fault.Kind.TheVariants as kind
-use Rattle.zic_base.specs.declared.place.Place.{Place}
+use Rattle.zic_base.specs.declared.fault.Place.{Place}
 use Rattle.zic_lines.specs.declared.zone_line.ZoneLine.{ZoneLine}
 use Rattle.zic_states.specs.Abbreviation.{abbreviation}
-use Rattle.zic_words.specs.Limits.{is_abbreviation}
+use Rattle.zic_lines.specs.Limits.{is_abbreviation}
 use Rattle.zic_states.specs.Change.{Change}
 use Rattle.zic_states.specs.End.{IsEnd}
 use Rattle.zic_states.specs.Fault.{HasOffsetOutOfRange, HasRulesOutOfOrder, HasUntilNotRising, HasNoLetter, HasBadAbbreviation, Applies, IsSound, IsFaultOfStates}
@@ -19,7 +19,7 @@ use Rattle.zic_states.specs.Zone.{Zone, lines_of, HasInForce, ZoneHasInForce, Sh
 use Rattle.zic_states.proofs.InForce.{one_in_force}
 use Rattle.zic_states.proofs.Governing.{one_line}
 use Rattle.zic_states.proofs.States.{one_state}
-use Rattle.zic_rules.specs.declared.period.Periods.{Periods}
+use Rattle.zic_rules.specs.declared.line.Periods.{Periods}
 use Rattle.zic_rules.specs.code.Period.{IsFaultOfPeriods}
 use Rattle.zic_rules.specs.code.Faults.{IsFirstFault}
 use Rattle.zic_rules.specs.code.Shown.{HasPeriods, IsUnnamed, ShowsNamed, AreSoFrom, ShowsSomeBefore, IsTimeline}

@@ -2,17 +2,17 @@
 use Rattle.std.proofs.Common.{◌+◌, inl, inr, arith, get_or, ◌≡◌, ◌<◌, ◌≤◌, ℕ, List, length, Some, refl, sym, subst, ◌∙◌}
 use Rattle.std.specs.Prelude.{ℤ, ◌+ℤ◌, Contains, slice_get, unsigned_abs}
 use Rattle.std.proofs.lemmas.Bool.{cases_lt}
-use Rattle.zic_words.specs.declared.time.TheConstants.{GREATEST_OFFSET}
+use Rattle.zic_lines.specs.declared.time.TheConstants.{GREATEST_OFFSET}
 use Rattle.std.proofs.lemmas.Option.{same_Some, get_or_from_slice_get}
 use Rattle.std.proofs.lemmas.List.Elements.{All-contains}
-use Rattle.zic_lines.specs.declared.rule.Rule.{Rule}
+use Rattle.zic_lines.specs.declared.rule_line.Rule.{Rule}
 use Rattle.zic_lines.specs.declared.rules.Rules.{Rules}
 use Rattle.zic_lines.specs.declared.rules.Rules.TheVariants.{Set}
 use Rattle.zic_lines.specs.declared.zone_line.ZoneLine.{ZoneLine}
 use Rattle.zic_source.specs.Source.{set_rules}
 use Rattle.zic_base.proofs.Elements.{get_contained}
-use Rattle.zic_occurrences.specs.Occurrence.{IsMember}
-use Rattle.zic_occurrences.proofs.Members.{IsMemberNumber, members, has_members}
+use Rattle.zic_states.specs.Occurrence.{IsMember}
+use Rattle.zic_states.proofs.Members.{IsMemberNumber, members, has_members}
 use Rattle.zic_states.specs.Fault.{HasOffsetOutOfRange, IsSavingOf}
 use Rattle.zic_states.specs.Until.{set_of}
 use Rattle.zic_states.specs.Zone.{Zone, line_at}

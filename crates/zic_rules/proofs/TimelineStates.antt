@@ -14,15 +14,15 @@ use Rattle.zic_lines.specs.declared.zone_line.ZoneLine.{ZoneLine}
 use Rattle.zic_source.specs.Source.{ZoneLines, lines_of_zone}
 use Rattle.zic_states.proofs.Lines.{line_of}
 use Rattle.zic_states.specs.Abbreviation.{abbreviation}
-use Rattle.zic_words.specs.Limits.{is_abbreviation}
+use Rattle.zic_lines.specs.Limits.{is_abbreviation}
 use Rattle.zic_rules.specs.declared.changes.DatedState.{DatedState}
 use Rattle.zic_rules.specs.declared.zone_state.ZoneState.{ZoneState}
 use Rattle.zic_states.specs.Change.{Change}
 use Rattle.zic_states.specs.InForce.{InForce, IsInForceBy, IsRuleOf}
 use Rattle.zic_base.specs.State.{Shown}
 use Rattle.zic_states.specs.Zone.{Zone, line_at, ZoneHasInForce}
-use Rattle.zic_rules.specs.declared.period.Period.{Period}
-use Rattle.zic_rules.specs.declared.period.Periods.{Periods}
+use Rattle.zic_rules.specs.declared.line.Period.{Period}
+use Rattle.zic_rules.specs.declared.line.Periods.{Periods}
 use Rattle.zic_rules.specs.code.Period.{HasLine, ArePeriods, Holds}
 use Rattle.zic_rules.specs.code.Held.{IsFrom, ComesAfter}
 use Rattle.zic_rules.specs.code.Shown.{IsShownBy, IsRefusedBy, IsHeld, ShowsWhereHeld, IsUnnamed, IsUnnamedAt, AreSoFrom, from_of, IsUpTo, IsSoTo, ShowsSomeTo, ShowsSomeBefore, ShowsNamed, AreChangesSoFar, shown_by, dated}

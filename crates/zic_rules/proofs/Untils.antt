@@ -10,19 +10,19 @@ use Rattle.zic_calendar.specs.Calendar.{day_number}
 use Rattle.zic_calendar.specs.DayForm.{FormFits, form_day, IsNearMonth}
 use Rattle.zic_calendar.proofs.DateLemmas.{first_has}
 use Rattle.zic_calendar.proofs.FormLemmas.{form_bounds}
-use Rattle.zic_words.specs.declared.clock.ClockForm.{ClockForm}
-use Rattle.zic_words.specs.declared.clock.ClockForm.TheVariants.{Wall, Standard as ByStandard, Universal}
-use Rattle.zic_lines.specs.declared.moment.Moment.{Moment}
-use Rattle.zic_lines.specs.declared.rule.Rule.{Rule}
+use Rattle.zic_lines.specs.declared.clock.ClockForm.{ClockForm}
+use Rattle.zic_lines.specs.declared.clock.ClockForm.TheVariants.{Wall, Standard as ByStandard, Universal}
+use Rattle.zic_lines.specs.declared.rule_line.Moment.{Moment}
+use Rattle.zic_lines.specs.declared.rule_line.Rule.{Rule}
 use Rattle.zic_lines.specs.declared.rules.Rules.{Rules}
 use Rattle.zic_lines.specs.declared.rules.Rules.TheVariants.{Standard, Amount, Set}
 use Rattle.zic_lines.specs.declared.until.Until.{Until}
 use Rattle.zic_lines.specs.declared.zone_line.ZoneLine.{ZoneLine}
 use Rattle.zic_source.specs.Sound.{IsSoundRule, IsSoundLine, IsSoundUntil, IsSoundMoment, AreSoundRules, IsWithinDay}
 use Rattle.zic_base.proofs.Elements.{all_got}
-use Rattle.zic_occurrences.specs.Occurrence.{RuleSet, Occurrence, nominal_second, year_second}
-use Rattle.zic_occurrences.specs.Order.{instant_by}
-use Rattle.zic_occurrences.proofs.Bounds.{moment_to}
+use Rattle.zic_states.specs.Occurrence.{RuleSet, Occurrence, nominal_second, year_second}
+use Rattle.zic_states.specs.Order.{instant_by}
+use Rattle.zic_states.proofs.Bounds.{moment_to}
 use Rattle.zic_states.specs.Until.{IsUntil, IsSavedAtUntil, IsStage, saved_after, set_of}
 use Rattle.zic_rules.specs.code.End.{IsInYears}
 use Rattle.zic_rules.proofs.Years.{year_second-is, first_of_year, years_rise, not_later}

@@ -14,17 +14,17 @@ use Rattle.zic_lines.specs.declared.zone_line.ZoneLine.{ZoneLine}
 use Rattle.zic_source.specs.Sound.{IsSoundLine, IsSoundZone, IsSoundSource}
 use Rattle.zic_source.specs.Source.{ZoneLines, lines_of_zone}
 use Rattle.zic_base.proofs.Elements.{all_got}
-use Rattle.zic_occurrences.specs.declared.occurrence.TimedOccurrence.{TimedOccurrence}
-use Rattle.zic_occurrences.specs.Occurrence.{year_second}
+use Rattle.zic_states.specs.declared.occurrence.TimedOccurrence.{TimedOccurrence}
+use Rattle.zic_states.specs.Occurrence.{year_second}
 use Rattle.zic_states.specs.ByList.{before}
 use Rattle.zic_states.specs.End.{IsYearOf}
-use Rattle.zic_occurrences.proofs.Instants.{never_both}
+use Rattle.zic_states.proofs.Instants.{never_both}
 use Rattle.zic_states.specs.Fault.{HasRulesOutOfOrder, HasUntilNotRising}
 use Rattle.zic_states.specs.Until.{IsUntil, set_of}
 use Rattle.zic_states.specs.Zone.{Zone, lines_of, line_at, Ends, HasBegun, IsNotOver, Governs}
 use Rattle.zic_states.proofs.Lines.{line_of, line_at_is}
 use Rattle.zic_states.proofs.Ordered.{one_until}
-use Rattle.zic_rules.specs.declared.period.Period.{Period}
+use Rattle.zic_rules.specs.declared.line.Period.{Period}
 use Rattle.zic_rules.specs.code.Period.{IsFaultOfPeriods}
 use Rattle.zic_rules.specs.code.End.{IsStart, IsInYears, IsEndAfter, IsEndFrom}
 use Rattle.zic_rules.specs.code.Held.{IsFrom, AreSoFar}

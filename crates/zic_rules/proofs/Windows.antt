@@ -4,21 +4,21 @@ use Rattle.std.specs.Prelude.{IfSome, IsSomeAnd, slice_get}
 use Rattle.std.specs.Int.{int_max}
 use Rattle.std.proofs.lemmas.Int.{ints}
 use Rattle.std.proofs.lemmas.Option.{same_Some}
-use Rattle.zic_lines.specs.declared.rule.Rule.{Rule}
+use Rattle.zic_lines.specs.declared.rule_line.Rule.{Rule}
 use Rattle.zic_lines.specs.declared.rules.Rules.{Rules}
 use Rattle.zic_lines.specs.declared.rules.Rules.TheVariants.{Standard, Amount, Set}
 use Rattle.zic_lines.specs.declared.zone_line.ZoneLine.{ZoneLine}
 use Rattle.zic_source.specs.Sound.{IsSoundRule, AreSoundRules, IsWithinDay}
 use Rattle.zic_base.proofs.Elements.{all_got}
-use Rattle.zic_occurrences.specs.declared.occurrence.TimedOccurrence.{TimedOccurrence}
+use Rattle.zic_states.specs.declared.occurrence.TimedOccurrence.{TimedOccurrence}
 use Rattle.zic_states.specs.ByList.{rule_at}
 use Rattle.zic_states.specs.InForce.{InForce, IsInForceBy, IsRuleOf}
 use Rattle.zic_states.specs.Zone.{Zone, line_at, Ends, HasOffset, IsWindowEnd, HasInForce}
-use Rattle.zic_rules.specs.declared.period.Period.{Period}
+use Rattle.zic_rules.specs.declared.line.Period.{Period}
 use Rattle.zic_rules.specs.code.Period.{Holds}
 use Rattle.zic_rules.specs.code.Held.{HeldTo, AreSoFar, last_rule}
 use Rattle.zic_rules.specs.code.Line.{GivesInForce, IsEndOfWindow, IsTotalOffset}
-use Rattle.zic_words.specs.Time.{IsWithin}
+use Rattle.zic_lines.specs.Time.{IsWithin}
 use Rattle.zic_rules.specs.code.End.{IsInYears}
 use Rattle.zic_rules.proofs.Years.{small}
 use Rattle.zic_rules.proofs.Held.{holds_last, last_rule_is}

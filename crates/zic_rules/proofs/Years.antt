@@ -6,8 +6,8 @@ use Rattle.std.proofs.lemmas.Int.{ints, by_lt_z}
 use Rattle.zic_calendar.specs.Calendar.{day_number, IsDate, IsEarlier, year_start}
 use Rattle.zic_calendar.proofs.YearLemmas.{year_start-next, year_start-1970}
 use Rattle.zic_calendar.proofs.DateLemmas.{day_number-rises, first_has, cases_date, days_of_months-zero, supported_day}
-use Rattle.zic_occurrences.specs.Occurrence.{year_second}
-use Rattle.zic_occurrences.proofs.Bounds.{years_apart}
+use Rattle.zic_states.specs.Occurrence.{year_second}
+use Rattle.zic_states.proofs.Bounds.{years_apart}
 use Rattle.zic_states.specs.End.{IsYearOf}
 use Rattle.zic_rules.specs.code.End.{IsInYears}
 

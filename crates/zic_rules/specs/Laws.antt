@@ -2,9 +2,9 @@
 use Rattle.std.specs.Prelude.{◌≡◌, ℤ, pos, ◌-ℤ◌, List}
 use Rattle.zic_base.specs.State.{Shown}
 use Rattle.zic_source.specs.Sound.{IsSoundSource}
-use Rattle.zic_words.specs.Limits.{IsWithinLimits}
-use Rattle.zic_occurrences.specs.Laws.{IsLastOccurrence}
-use Rattle.zic_occurrences.specs.Occurrence.{Occurrence}
+use Rattle.zic_lines.specs.Limits.{IsWithinLimits}
+use Rattle.zic_states.specs.OccurrenceLaws.{IsLastOccurrence}
+use Rattle.zic_states.specs.Occurrence.{Occurrence}
 use Rattle.zic_states.specs.Change.{Change, IsChange, AreChanges, IsFirstState}
 use Rattle.zic_states.specs.End.{IsEnd}
 use Rattle.zic_states.specs.Fault.{IsSound}

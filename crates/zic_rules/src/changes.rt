@@ -3,14 +3,14 @@
 ghost use Rattle.std.specs.Prelude.{◌≡◌, ◌<◌, None, true, false, map, IfOk, IfErr, []};
 ghost use Rattle.zic_base.specs.Fault.{kind_of};
 ghost use Rattle.zic_base.specs.Memory.{IfRefusal, OnOutOfMemory};
-ghost use Rattle.zic_words.specs.Limits.{is_abbreviation};
+ghost use Rattle.zic_lines.specs.Limits.{is_abbreviation};
 ghost use Rattle.zic_states.specs.Fault.{HasOffsetOutOfRange, HasNoLetter};
 ghost use Rattle.zic_base.specs.State.{Shown};
 ghost use Rattle.zic_rules.specs.code.Period.{the_zone};
 ghost use Rattle.zic_rules.specs.code.Faults.{IsFirstFault};
 ghost use Rattle.zic_rules.specs.code.Shown.{HasPeriods, IsHeld, ShowsWhereHeld, IsUnnamed, IsUnnamedAt, ShowsNamed, AreSoFrom, shown_by, dated};
 
-use crate::period::Periods;
+use crate::line::Periods;
 use crate::zone::Zone;
 use crate::zone_state::{ZoneState, state_by};
 use std::alloc::Global;

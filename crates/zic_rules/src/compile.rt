@@ -4,24 +4,24 @@ ghost use Rattle.std.specs.Prelude.{◌≡◌, ◌<◌, None, true, IfOk, IfErr,
 ghost use Rattle.zic_base.specs.Fault.{fault_of, kind_of};
 ghost use Rattle.zic_base.specs.Memory.{IfRefusal, OnOutOfMemory};
 ghost use Rattle.zic_states.specs.Fault.{HasOffsetOutOfRange, IsSound, IsFaultOfStates};
-ghost use Rattle.zic_words.specs.Limits.{is_abbreviation};
+ghost use Rattle.zic_lines.specs.Limits.{is_abbreviation};
 ghost use Rattle.zic_rules.specs.Timeline.{zone_of, IsFixed};
 ghost use Rattle.zic_rules.specs.code.Period.{the_zone};
 ghost use Rattle.zic_rules.specs.code.Faults.{IsFirstFault};
 ghost use Rattle.zic_rules.specs.code.Shown.{HasPeriods, ShowsWhereHeld, shown_by};
 
 use crate::changes::{changes_of, refusal, state_at};
+use crate::line::Periods;
 use crate::offsets::are_offsets_in_range;
-use crate::period::Periods;
-use crate::tail_rules::tail_rules;
+use crate::tail::tail_rules;
 use crate::timelines::Timeline;
 use crate::walk::periods;
 use crate::zone::Zone;
 use crate::zone_state::ZoneState;
 use std::alloc::Global;
 use zic_base::{Kind, Stop, ZoneStop};
-use zic_occurrences::ListedSource;
 use zic_source::MAX_RULES;
+use zic_states::ListedSource;
 
 /// Returns all that a zone shows before its explicit end, and the rules that go on for ever after
 /// it; the zone by its number from 0.

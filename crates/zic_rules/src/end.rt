@@ -1,16 +1,17 @@
-//! The explicit end of a zone.
+//! The explicit end of a zone, and the years of instants.
 
-ghost use Rattle.std.specs.Prelude.{◌≡◌, ◌≤◌, true, IfSome};
+ghost use Rattle.std.specs.Prelude.{◌≡◌, ◌≤◌, true, IfSome, pos};
 ghost use Rattle.zic_source.specs.Source.{is_set};
 ghost use Rattle.zic_source.specs.Sound.{IsSoundSource, IsSoundLine};
 ghost use Rattle.zic_states.specs.Until.{set_of};
 ghost use Rattle.zic_rules.specs.code.Period.{the_zone};
 ghost use Rattle.zic_rules.specs.code.End.{IsStart, IsInYears, IsLastYearFrom, IsEndFrom};
+ghost use Rattle.zic_states.specs.End.{IsYearOf};
 
-use crate::year::year_of;
 use crate::zone::Zone;
-use zic_occurrences::{last_named_year, year_second};
+use zic_calendar::{SECONDS_OF_DAY, civil};
 use zic_source::{Rules, SetName, Source, ZoneLine};
+use zic_states::{last_named_year, year_second};
 
 /// Returns the last year that a set names, or in which its line starts.
 fn last_year(source: &Source, set: &SetName, start: Option<i64>) -> u16
@@ -44,4 +45,19 @@ pub(crate) fn end_of(zone: Zone<'_>, number: usize, line: &ZoneLine, start: Opti
         (_, Some(start)) => start + 1,
         (_, None) => 0,
     }
+}
+
+/// The day number of 1 January of the year 1.
+const FIRST_DAY: i64 = -719_162;
+
+/// Returns the UT year of an instant of the years 0 to 9998.
+pub(crate) fn year_of(instant: i64) -> u16
+    requires { IsInYears 9999 instant }
+    ensures { IsYearOf instant (pos result) }
+{
+    let day = instant.div_euclid(SECONDS_OF_DAY);
+    if day < FIRST_DAY {
+        return 0;
+    }
+    civil(day, 0).year as u16
 }

@@ -16,15 +16,11 @@ mod compile;
 mod end;
 pub mod laws;
 mod line;
-mod occurrences;
 mod offsets;
-mod period;
 mod tail;
-mod tail_rules;
 mod timelines;
 mod walk;
 mod window;
-mod year;
 mod zone;
 mod zone_state;
 

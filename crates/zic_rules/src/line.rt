@@ -1,19 +1,23 @@
-//! The periods of one line.
+//! The periods of a line, from the occurrences of its set.
 
-ghost use Rattle.std.specs.Prelude.{◌≡◌, ◌<◌, ◌<ℤ◌, ◌++◌, map, IfOk, IfErr, IfSome, None, length, []};
-ghost use Rattle.zic_source.specs.Sound.{IsSoundSource};
+ghost use Rattle.std.specs.Prelude.{◌≡◌, ◌<◌, ◌<ℤ◌, ◌++◌, map, IfOk, IfErr, IfSome, None, length, [], ◌≤◌};
+ghost use Rattle.zic_source.specs.Sound.{IsSoundSource, IsSoundLine};
 ghost use Rattle.zic_states.specs.ByList.{AreRising, before, not_after};
 ghost use Rattle.zic_rules.specs.code.Period.{the_zone, HasLine};
 ghost use Rattle.zic_rules.specs.code.End.{IsInYears};
 ghost use Rattle.zic_rules.specs.code.Held.{AreSoFar, HeldTo};
-ghost use Rattle.zic_rules.specs.code.Line.{IsLineTo, period_at};
+ghost use Rattle.zic_rules.specs.code.Line.{IsLineTo, period_at, IsOrderedOn, IsDisorderedOn, AreOccurrencesOn};
+ghost use Rattle.zic_base.specs.Fault.{kind_of};
+ghost use Rattle.zic_base.specs.Memory.{IfRefusal, OnOutOfMemory};
+ghost use Rattle.zic_states.specs.LineItems.{items_of};
+ghost use Rattle.zic_states.specs.Tail.{HasNoSet};
 
-use crate::period::Period;
 use crate::window::window_end;
 use crate::zone::Zone;
-use std::alloc::AllocError;
-use zic_occurrences::TimedOccurrence;
-use zic_states::{before, rule_at};
+use std::alloc::{AllocError, Global};
+use zic_base::{Kind, ZoneStop};
+use zic_source::{Rules, ZoneLine};
+use zic_states::{LineOccurrences, TimedOccurrence, before, occurrences, rule_at};
 
 /// Adds the periods of a line from its start to its end, by those of its occurrences that come
 /// before the end. The Zone line has no start.
@@ -78,4 +82,52 @@ fn after(occurrences: &[TimedOccurrence], t: i64) -> &[TimedOccurrence]
 {
     let begin = occurrences.partition_point(|occurrence| occurrence.instant <= t);
     &occurrences[begin..]
+}
+
+/// Returns the occurrences of the line's set of nominal seconds before this year, and perhaps some
+/// more; none where RULES name no set.
+pub(crate) fn line_occurrences<'a>(
+    alloc: Global,
+    zone: Zone<'a>,
+    line: &ZoneLine,
+    before: u16,
+) -> Result<LineOccurrences<'a>, ZoneStop>
+    requires line { IsSoundLine zone.source.now.rules line.now }
+    requires before { before ≤ 9999 }
+    ensures order { IfOk result
+        (λ _. IsOrderedOn zone.entry.source.now.rules line.now.offset line.now.rules) }
+    ensures all { IfOk result
+        (λ xs. AreOccurrencesOn zone.entry.source.now.rules line.now.offset before line.now.rules (items_of xs)) }
+    ensures err { IfRefusal kind_of result
+        (λ kind. (kind ≡ Kind.RulesOutOfOrder)
+        × IsDisorderedOn zone.entry.source.now.rules line.now.offset line.now.rules) }
+    ensures memory { OnOutOfMemory kind_of result (HasNoSet line.now.rules → ⊥) }
+{
+    match &line.rules {
+        Rules::Set(name) => occurrences(alloc, zone.listed, name, line.offset, before),
+        Rules::Standard | Rules::Amount(_) => Ok(LineOccurrences::Shared(&[])),
+    }
+}
+
+/// From an instant on, up to the next period, a line of the zone governs, with what is in force
+/// by one rule.
+#[derive(Clone, Copy)]
+pub(crate) struct Period {
+    /// Seconds from 1970-01-01T00:00:00 UT, without leap seconds.
+    pub(crate) from: i64,
+    /// The line's number in the zone, from 0.
+    pub(crate) line: u16,
+    /// The number of the rule in the source; `None` before all occurrences of the line's set, and
+    /// where it has no set.
+    pub(crate) rule: Option<u16>,
+}
+
+/// All periods of a zone before its explicit end.
+#[derive(Drop)]
+pub(crate) struct Periods {
+    /// In the order of time. Before the first the Zone line governs, before all occurrences of its
+    /// set.
+    pub(crate) list: Vec<Period>,
+    /// The explicit end, in seconds from 1970-01-01T00:00:00 UT.
+    pub(crate) end: i64,
 }

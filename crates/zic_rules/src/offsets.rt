@@ -8,8 +8,8 @@ ghost use Rattle.zic_rules.specs.code.Period.{the_zone};
 ghost use Rattle.zic_rules.specs.code.Shown.{IsInRangeOn, IsOutOfRangeOn, AreAllInRange, IsOneOutOfRange};
 
 use crate::zone::Zone;
+use zic_lines::GREATEST_OFFSET;
 use zic_source::{Rules, Source, ZoneLine};
-use zic_words::GREATEST_OFFSET;
 
 /// Returns whether the standard offset of each line of a zone, together with each saving of its
 /// RULES, is within 24 hours.

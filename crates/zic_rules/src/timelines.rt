@@ -14,9 +14,8 @@ ghost use Rattle.zic_rules.specs.Tail.{IsTail};
 ghost use Rattle.zic_rules.specs.Timeline.{change_of, IsChangeAt, IsWholeZone};
 
 use crate::changes::DatedState;
-use crate::tail::{Tail, TailRule};
-use crate::tail_rules::last_line;
-use crate::year::year_of;
+use crate::end::year_of;
+use crate::tail::{Tail, TailRule, last_line};
 use crate::zone::Zone;
 use crate::zone_state::{ZoneState, state_of};
 use std::marker::Model;

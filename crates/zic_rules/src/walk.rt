@@ -15,11 +15,8 @@ ghost use Rattle.zic_rules.specs.code.End.{IsInYears};
 ghost use Rattle.zic_rules.specs.code.Held.{AreSoFar, HeldTo};
 ghost use Rattle.zic_rules.specs.code.Walk.{AreOrderedTo, IsWalkedTo};
 
-use crate::end::end_of;
-use crate::line::add_periods;
-use crate::occurrences::line_occurrences;
-use crate::period::{Period, Periods};
-use crate::year::year_of;
+use crate::end::{end_of, year_of};
+use crate::line::{Period, Periods, add_periods, line_occurrences};
 use crate::zone::Zone;
 use std::alloc::Global;
 use zic_base::{Kind, ZoneStop};

@@ -10,11 +10,10 @@ ghost use Rattle.zic_rules.specs.code.End.{IsInYears};
 ghost use Rattle.zic_rules.specs.code.Held.{AreSoFar, last_rule};
 ghost use Rattle.zic_rules.specs.code.Line.{GivesInForce, IsEndOfWindow, IsTotalOffset};
 
-use crate::period::Period;
+use crate::line::Period;
 use crate::zone::Zone;
-use zic_occurrences::TimedOccurrence;
 use zic_source::{Source, ZoneLine};
-use zic_states::{observance_by, rule_at};
+use zic_states::{TimedOccurrence, observance_by, rule_at};
 
 /// Returns the end of the window of the line of this number, which follows another and starts at
 /// `start`.

@@ -3,8 +3,8 @@
 ghost use Rattle.std.specs.Prelude.{◌≡◌, ◌<◌, length};
 
 use zic_base::Place;
-use zic_occurrences::ListedSource;
 use zic_source::{Source, ZoneLine};
+use zic_states::ListedSource;
 
 /// A zone of a source, by its number from 0 in the order of the texts and their lines.
 #[derive(Clone, Copy)]

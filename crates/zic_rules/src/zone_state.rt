@@ -2,7 +2,7 @@
 
 ghost use Rattle.std.specs.Prelude.{◌≡◌, true, IfOk, IfErr};
 ghost use Rattle.zic_source.specs.Sound.{IsSoundLine};
-ghost use Rattle.zic_words.specs.Limits.{is_abbreviation};
+ghost use Rattle.zic_lines.specs.Limits.{is_abbreviation};
 ghost use Rattle.zic_states.specs.InForce.{IsRuleOf};
 ghost use Rattle.zic_base.specs.State.{shown};
 ghost use Rattle.zic_rules.specs.code.Shown.{shown_by, IsShownBy, IsInRangeOn, IsRefusedBy};

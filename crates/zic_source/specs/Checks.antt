@@ -6,7 +6,7 @@ use Rattle.zic_base.specs.declared.fault.Kind.TheVariants.{DuplicateName, TooMan
 use Rattle.zic_base.specs.Check.{Check, check}
 use Rattle.zic_lines.specs.declared.entry.Entry.{Entry}
 use Rattle.zic_lines.specs.declared.entry.Entry.TheVariants as entries
-use Rattle.zic_source.specs.declared.limit.TheConstants.{MAX_RULES, MAX_RULES_OF_SET, MAX_ZONE_LINES, MAX_NAMES}
+use Rattle.zic_source.specs.declared.source.TheConstants.{MAX_RULES, MAX_RULES_OF_SET, MAX_ZONE_LINES, MAX_NAMES}
 use Rattle.zic_source.specs.Source.{SourceLines, set_size, zone_lines_of}
 use Rattle.zic_source.specs.Links.{is_named}
 

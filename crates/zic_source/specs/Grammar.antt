@@ -7,7 +7,7 @@ use Rattle.zic_lines.specs.declared.zone_line.ZoneLine.{ZoneLine}
 use Rattle.zic_lines.specs.Entry as said_by
 use Rattle.zic_lines.specs.Entry.{has_until, rules_in, zone_entries_in, links_in, names_in}
 use Rattle.zic_lines.specs.Grammar.{Says}
-use Rattle.zic_source.specs.declared.limit.TheConstants.{MAX_RULES, MAX_RULES_OF_SET, MAX_ZONE_LINES, MAX_NAMES}
+use Rattle.zic_source.specs.declared.source.TheConstants.{MAX_RULES, MAX_RULES_OF_SET, MAX_ZONE_LINES, MAX_NAMES}
 use Rattle.zic_source.specs.Event.{Event, Line, End, events_of}
 use Rattle.zic_source.specs.Source.{SourceLines, set_size, zone_lines_of, entries_of_zone}
 use Rattle.zic_source.specs.Whole.{IsWholeSource}

@@ -3,24 +3,24 @@ use Rattle.std.specs.Prelude.{◌≡◌, ◌≢◌, ◌≤◌, ◌+◌, ℕ, ℤ
 use Rattle.std.specs.Int.{IsInRange}
 use Rattle.zic_base.specs.Place.{IsBefore}
 use Rattle.zic_calendar.specs.DayForm.{FormFits}
-use Rattle.zic_words.specs.declared.clock.TheConstants.{LATEST_TIME}
-use Rattle.zic_words.specs.declared.time.TheConstants.{GREATEST_OFFSET}
-use Rattle.zic_words.specs.declared.year.TheConstants.{LAST_YEAR}
-use Rattle.zic_words.specs.Letter.{is_letter}
-use Rattle.zic_words.specs.Month.{IsMonth}
-use Rattle.zic_words.specs.Time.{IsWithin}
-use Rattle.zic_words.specs.Year.{IsYear}
-use Rattle.zic_words.specs.Name.{is_name}
-use Rattle.zic_words.specs.SetName.{is_set_name}
-use Rattle.zic_lines.specs.declared.moment.Moment.{Moment}
-use Rattle.zic_lines.specs.declared.rule.Rule.{Rule}
+use Rattle.zic_lines.specs.declared.clock.TheConstants.{LATEST_TIME}
+use Rattle.zic_lines.specs.declared.time.TheConstants.{GREATEST_OFFSET}
+use Rattle.zic_lines.specs.declared.year.TheConstants.{LAST_YEAR}
+use Rattle.zic_lines.specs.Letter.{is_letter}
+use Rattle.zic_lines.specs.Month.{IsMonth}
+use Rattle.zic_lines.specs.Time.{IsWithin}
+use Rattle.zic_lines.specs.Year.{IsYear}
+use Rattle.zic_lines.specs.Name.{is_name}
+use Rattle.zic_lines.specs.SetName.{is_set_name}
+use Rattle.zic_lines.specs.declared.rule_line.Moment.{Moment}
+use Rattle.zic_lines.specs.declared.rule_line.Rule.{Rule}
 use Rattle.zic_lines.specs.declared.rules.Rules.{Rules}
 use Rattle.zic_lines.specs.declared.rules.Rules.TheVariants.{Standard, Amount, Set}
 use Rattle.zic_lines.specs.declared.until.Until.{Until}
 use Rattle.zic_lines.specs.declared.zone_line.ZoneLine.{ZoneLine}
 use Rattle.zic_lines.specs.declared.link.Link.{Link}
 use Rattle.zic_lines.specs.Entry.{has_until}
-use Rattle.zic_source.specs.declared.limit.TheConstants.{MAX_RULES, MAX_RULES_OF_SET, MAX_ZONE_LINES, MAX_NAMES}
+use Rattle.zic_source.specs.declared.source.TheConstants.{MAX_RULES, MAX_RULES_OF_SET, MAX_ZONE_LINES, MAX_NAMES}
 use Rattle.zic_source.specs.Source.{SourceLines, ZoneLines, set_size, is_set, lines_of_zone, zone_lines_of}
 use Rattle.zic_source.specs.Links.{EndsAtZone}
 

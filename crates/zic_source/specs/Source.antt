@@ -1,7 +1,7 @@
 -- The content of a source, in the order of its lines: zic(8), FILES.
 use Rattle.std.specs.Prelude.{ℕ, Bool, List, ◌∷◌, Option, map, filter, slice_get, count_by, flat_map, bytes_eq}
 use Rattle.std.specs.List.{list_any, enumerate_from}
-use Rattle.zic_lines.specs.declared.rule.Rule.{Rule}
+use Rattle.zic_lines.specs.declared.rule_line.Rule.{Rule}
 use Rattle.zic_lines.specs.declared.zone_line.ZoneLine.{ZoneLine}
 use Rattle.zic_lines.specs.declared.link.Link.{Link}
 use Rattle.zic_lines.specs.declared.entry.Entry.{Entry}

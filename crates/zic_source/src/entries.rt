@@ -9,8 +9,7 @@ ghost use Rattle.zic_source.specs.code.Lines.{source_lines, no_lines};
 
 use std::alloc::{AllocError, Global};
 use std::marker::Model;
-use zic_lines::{Link, Place, Rule, ZoneLine};
-use zic_words::Name;
+use zic_lines::{Link, Name, Place, Rule, ZoneLine};
 
 /// A zone's name, its Zone line and its continuation lines.
 #[derive(Debug, Drop)]

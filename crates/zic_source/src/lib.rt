@@ -17,17 +17,15 @@
 mod chains;
 mod entries;
 pub mod laws;
-mod limit;
 mod owners;
 mod reader;
 mod sets;
 mod source;
 mod whole;
 
-pub use limit::{MAX_NAMES, MAX_RULES, MAX_RULES_OF_SET, MAX_ZONE_LINES};
 pub use reader::read_source;
-pub use source::Source;
+pub use source::{MAX_NAMES, MAX_RULES, MAX_RULES_OF_SET, MAX_ZONE_LINES, Source};
 pub use zic_lines::{
-    Fault, Format, FormatPart, Kind, Link, Moment, Place, Rule, Rules, Stop, Until, ZoneLine,
+    ClockForm, ClockTime, Fault, Format, FormatPart, Kind, Letter, Link, Moment, Name, Place, Rule,
+    Rules, Saving, SetName, Stop, Until, ZoneLine,
 };
-pub use zic_words::{ClockForm, ClockTime, Letter, Name, Saving, SetName};

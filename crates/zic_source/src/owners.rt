@@ -9,8 +9,7 @@ ghost use Rattle.zic_source.specs.code.Owners.{who, Gives, IndexesNames};
 
 use std::alloc::{AllocError, Global};
 use std::collections::HashMap;
-use zic_lines::{Kind, Place, Stop};
-use zic_words::Name;
+use zic_lines::{Kind, Name, Place, Stop};
 
 /// The owner of a name: the zone or link of this number, from 0.
 #[derive(Clone, Copy)]

@@ -24,15 +24,13 @@ ghost use Rattle.zic_source.specs.code.Reader.{Tracks};
 ghost use Rattle.zic_source.specs.code.Events.{Adds, Leads, FailsIn, WantsIn};
 
 use crate::entries::Entries;
-use crate::limit::{MAX_NAMES, MAX_RULES, MAX_ZONE_LINES};
 use crate::owners::{Owner, Owners};
 use crate::sets::Sets;
-use crate::source::Source;
+use crate::source::{MAX_NAMES, MAX_RULES, MAX_ZONE_LINES, Source};
 use crate::whole::check_whole;
 use memchr::memchr;
 use std::alloc::Global;
-use zic_lines::{Entry, Fields, Kind, Link, Place, Rule, Stop, ZoneLine, line_entry};
-use zic_words::Name;
+use zic_lines::{Entry, Fields, Kind, Link, Name, Place, Rule, Stop, ZoneLine, line_entry};
 
 /// Returns the first line of a text, and the rest after it.
 fn first_line(text: &[u8]) -> (&[u8], &[u8])

@@ -6,12 +6,11 @@ ghost use Rattle.zic_base.specs.Memory.{IfRefusal, OnOutOfMemory};
 ghost use Rattle.zic_base.specs.declared.fault.Kind.TheVariants.{TooMany};
 ghost use Rattle.zic_source.specs.code.Sets.{numbers_of};
 
-use crate::limit::MAX_RULES_OF_SET;
+use crate::source::MAX_RULES_OF_SET;
 use smallvec::SmallVec;
 use std::alloc::{AllocError, Global};
 use std::collections::HashMap;
-use zic_lines::{Kind, Place, Stop};
-use zic_words::SetName;
+use zic_lines::{Kind, Place, SetName, Stop};
 
 /// The numbers of each set's rules, from 0 in the order of the texts and their lines.
 #[derive(Debug, Drop)]

@@ -1,4 +1,4 @@
-//! A checked source, line by line.
+//! Sources, and their limits.
 
 ghost use Rattle.std.specs.Prelude.{◌≡◌, ◌<◌, length, slice_get, Some, IfSome};
 ghost use Rattle.std.specs.Option.{ForSome};
@@ -9,8 +9,7 @@ ghost use Rattle.zic_source.specs.Sound.{IsSoundSource, IsSoundRule, IsSoundLine
 use crate::entries::Entries;
 use crate::sets::Sets;
 use std::marker::Model;
-use zic_lines::{Link, Rule, ZoneLine};
-use zic_words::{Name, SetName};
+use zic_lines::{Link, Name, Rule, SetName, ZoneLine};
 
 /// The lines of checked source texts, in the order of the texts and of their lines, with the rules
 /// of each set and the zone at the end of each link's chain.
@@ -121,3 +120,15 @@ impl Source {
         self.link_zones[link]
     }
 }
+
+/// The greatest number of Rule lines of a set.
+pub const MAX_RULES_OF_SET: usize = 1000;
+
+/// The greatest number of Rule lines.
+pub const MAX_RULES: usize = 10_000;
+
+/// The greatest number of Zone and continuation lines together.
+pub const MAX_ZONE_LINES: usize = 10_000;
+
+/// The greatest number of names of zones and links together.
+pub const MAX_NAMES: usize = 10_000;

@@ -11,7 +11,7 @@ ghost use Rattle.zic_source.specs.code.Owners.{IndexesNames};
 ghost use Rattle.zic_source.specs.code.Sets.{IndexesSets};
 ghost use Rattle.zic_source.specs.code.Chains.{EndsAs, AreLinkZones};
 ghost use Rattle.zic_source.specs.code.Faults.{IsEarlier, IsFirst, LineIsRight, LineHas, LinkHas, IsFirstOfZone, IsFirstOfZones, IsFirstOfLinks};
-ghost use Rattle.zic_lines.specs.declared.rule.Rule.{Rule};
+ghost use Rattle.zic_lines.specs.declared.rule_line.Rule.{Rule};
 
 use crate::chains::{End, chain_ends};
 use crate::entries::{Entries, ZoneEntry};

@@ -3,17 +3,17 @@ use Rattle.std.proofs.Common.{◌≡◌, ℕ, ◌*◌, All, inl, inr, refl, sym,
 use Rattle.std.specs.Prelude.{Contains, int_lt, int_le}
 use Rattle.std.proofs.lemmas.Int.{ints}
 use Rattle.std.proofs.lemmas.List.Kept.{AllPairs-filter}
-use Rattle.zic_lines.specs.declared.rule.Rule.{Rule}
+use Rattle.zic_lines.specs.declared.rule_line.Rule.{Rule}
 use Rattle.zic_lines.specs.declared.rules.Rules.{Rules}
 use Rattle.zic_lines.specs.declared.rules.Rules.TheVariants.{Standard, Amount, Set}
 use Rattle.zic_lines.specs.declared.zone_line.ZoneLine.{ZoneLine}
 use Rattle.zic_source.specs.Sound.{IsSoundRule, IsWithinDay}
-use Rattle.zic_occurrences.specs.declared.occurrence.TimedOccurrence.{TimedOccurrence}
-use Rattle.zic_occurrences.specs.Occurrence.{RuleSet, IsMember, Occurrence, IsOccurrence, year_second}
-use Rattle.zic_occurrences.specs.Order.{IsInOrder, IsInstant}
-use Rattle.zic_occurrences.specs.Listing.{IsTimedOf, IsListed, AreOccurrencesBefore, AreOccurrencesTo}
-use Rattle.zic_occurrences.proofs.Bounds.{instant_near_nominal}
-use Rattle.zic_occurrences.proofs.Same.{one_place, same_occurrence, one_instant}
+use Rattle.zic_states.specs.declared.occurrence.TimedOccurrence.{TimedOccurrence}
+use Rattle.zic_states.specs.Occurrence.{RuleSet, IsMember, Occurrence, IsOccurrence, year_second}
+use Rattle.zic_states.specs.Order.{IsInOrder, IsInstant}
+use Rattle.zic_states.specs.Listing.{IsTimedOf, IsListed, AreOccurrencesBefore, AreOccurrencesTo}
+use Rattle.zic_states.proofs.Bounds.{instant_near_nominal}
+use Rattle.zic_states.proofs.Same.{one_place, same_occurrence, one_instant}
 use Rattle.zic_states.specs.ByList.{AreRising, before, not_after, last_of, rule_at}
 use Rattle.zic_states.specs.code.Listed.{IsLimit, AreListedFor}
 use Rattle.zic_states.specs.InForce.{InForce, IsLastOf, NoneIs, in_force_of, SetHasInForce, RulesHaveInForce, IsInForceBy, IsRuleOf}

@@ -9,8 +9,8 @@ use Rattle.zic_calendar.proofs.DateLemmas.{day_number-rises, first_has}
 use Rattle.zic_lines.specs.declared.rules.Rules.{Rules}
 use Rattle.zic_lines.specs.declared.rules.Rules.TheVariants.{Standard, Amount, Set}
 use Rattle.zic_lines.specs.declared.zone_line.ZoneLine.{ZoneLine}
-use Rattle.zic_occurrences.specs.Listing.{IsLastNamed}
-use Rattle.zic_occurrences.specs.Occurrence.{RuleSet, year_second}
+use Rattle.zic_states.specs.Listing.{IsLastNamed}
+use Rattle.zic_states.specs.Occurrence.{RuleSet, year_second}
 use Rattle.zic_states.specs.End.{IsYearOf, IsLastYear, IsEndOfFixed, IsEndBy, IsEnd}
 use Rattle.zic_states.specs.Laws.{HasSetsInOrder}
 use Rattle.zic_states.specs.Zone.{Zone, line_at}

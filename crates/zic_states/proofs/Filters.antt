@@ -7,8 +7,8 @@ use Rattle.std.proofs.lemmas.List.Elements.{Contains-append_right, All-filter, f
 use Rattle.std.proofs.lemmas.Option.{slice_get-get_or, get_or_from_slice_get}
 use borrow.Author.Differences.{lt-true, le-true}
 use Rattle.zic_base.proofs.Elements.{get_contained, contains_got, first_contained, cons_cases}
-use Rattle.zic_occurrences.specs.declared.occurrence.TimedOccurrence.{TimedOccurrence}
-use Rattle.zic_occurrences.proofs.Same.{one_place}
+use Rattle.zic_states.specs.declared.occurrence.TimedOccurrence.{TimedOccurrence}
+use Rattle.zic_states.proofs.Same.{one_place}
 use Rattle.zic_states.specs.ByList.{AreRising, last_of}
 
 -- ---- tests of order

@@ -3,12 +3,12 @@ use Rattle.std.proofs.Common.{◌≡◌, ℕ, zero, suc, ◌+◌, ◌≤◌, All
 use Rattle.std.specs.Prelude.{slice_get}
 use Rattle.std.proofs.lemmas.Bool.{cases_Bool}
 use Rattle.std.proofs.lemmas.Int.{ints, by_lt_z}
-use Rattle.zic_lines.specs.declared.rule.Rule.{Rule}
+use Rattle.zic_lines.specs.declared.rule_line.Rule.{Rule}
 use Rattle.zic_source.specs.Source.{set_rules}
 use Rattle.zic_source.specs.Sound.{IsSoundRule}
-use Rattle.zic_occurrences.specs.Occurrence.{RuleSet}
-use Rattle.zic_occurrences.proofs.Members.{members}
-use Rattle.zic_occurrences.proofs.Same.{one_place}
+use Rattle.zic_states.specs.Occurrence.{RuleSet}
+use Rattle.zic_states.proofs.Members.{members}
+use Rattle.zic_states.proofs.Same.{one_place}
 use Rattle.zic_states.specs.InForce.{IsLetterBefore}
 use Rattle.zic_states.specs.code.Letters.{first_second, ComesFirst, IsFirstOfStandard}
 use Rattle.zic_states.proofs.Letters.{first_more, found_more, no_letter, letter_of_first}

@@ -2,11 +2,11 @@
 use Rattle.std.proofs.Common.{◌≡◌, ℤ, pos, ◌+ℤ◌, ◌-ℤ◌, ◌<ℤ◌, ◌≤ℤ◌, All, refl, arith}
 use Rattle.std.proofs.lemmas.Int.{ints}
 use Rattle.zic_source.specs.Sound.{IsSoundRule, IsWithinDay}
-use Rattle.zic_occurrences.specs.Occurrence.{RuleSet, Occurrence, IsOccurrence, nominal}
-use Rattle.zic_occurrences.specs.Order.{IsInstant, IsInOrder}
-use Rattle.zic_occurrences.proofs.Bounds as bounds
-use Rattle.zic_occurrences.proofs.Instants as instants
-use Rattle.zic_occurrences.proofs.Same as same
+use Rattle.zic_states.specs.Occurrence.{RuleSet, Occurrence, IsOccurrence, nominal}
+use Rattle.zic_states.specs.Order.{IsInstant, IsInOrder}
+use Rattle.zic_states.proofs.Bounds as bounds
+use Rattle.zic_states.proofs.Instants as instants
+use Rattle.zic_states.proofs.Same as same
 
 -- An occurrence has at most one instant.
 pub one_instant : (set : RuleSet) (offset : ℤ) → All IsSoundRule set.rules → IsWithinDay offset → IsInOrder set offset

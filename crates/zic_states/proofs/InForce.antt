@@ -4,18 +4,18 @@ use Rattle.std.specs.Prelude.{ℤ, pos, ◌+ℤ◌, ◌-ℤ◌, ◌<ℤ◌}
 use Rattle.std.specs.Int.{int_max}
 use Rattle.std.proofs.lemmas.Int.{ints}
 use Rattle.std.proofs.lemmas.Option.{same_Some}
-use Rattle.zic_lines.specs.declared.rule.Rule.{Rule}
+use Rattle.zic_lines.specs.declared.rule_line.Rule.{Rule}
 use Rattle.zic_lines.specs.declared.rules.Rules.{Rules}
 use Rattle.zic_lines.specs.declared.rules.Rules.TheVariants.{Standard, Amount, Set}
 use Rattle.zic_lines.specs.declared.zone_line.ZoneLine.{ZoneLine}
 use Rattle.zic_source.specs.Sound.{IsSoundRule}
-use Rattle.zic_occurrences.specs.Occurrence.{RuleSet, Occurrence, IsOccurrence, nominal}
-use Rattle.zic_occurrences.specs.Order.{IsInOrder}
+use Rattle.zic_states.specs.Occurrence.{RuleSet, Occurrence, IsOccurrence, nominal}
+use Rattle.zic_states.specs.Order.{IsInOrder}
 use Rattle.zic_states.specs.InForce.{InForce, IsLastOf, NoneIs, IsFirstStandard, IsLetterBefore, SetHasInForce, RulesHaveInForce, in_force_from}
 use Rattle.zic_states.specs.Laws.{HasSetsInOrder}
 use Rattle.zic_states.specs.Until.{set_of}
 use Rattle.zic_states.specs.Zone.{Zone, line_at, HasInForceBy, HasOffset, IsWindowEnd, HasInForce}
-use Rattle.zic_occurrences.proofs.Instants.{instants_rise}
+use Rattle.zic_states.proofs.Instants.{instants_rise}
 use Rattle.zic_states.proofs.Orders.{same_int, same_rule}
 use Rattle.zic_states.proofs.Lines.{set_in_order, one_end_of, some_and_has}
 

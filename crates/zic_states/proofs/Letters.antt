@@ -6,15 +6,15 @@ use Rattle.std.proofs.lemmas.Int.{ints, by_lt_z}
 use Rattle.std.proofs.lemmas.Bool.{cases_lt}
 use Rattle.std.proofs.lemmas.List.Elements.{All-weaker}
 use Rattle.std.proofs.lemmas.Option.{slice_get-get_or, slice_get_within, get_or_from_slice_get}
-use Rattle.zic_words.specs.declared.year.TheConstants.{LAST_YEAR}
-use Rattle.zic_lines.specs.declared.rule.Rule.{Rule}
+use Rattle.zic_lines.specs.declared.year.TheConstants.{LAST_YEAR}
+use Rattle.zic_lines.specs.declared.rule_line.Rule.{Rule}
 use Rattle.zic_source.specs.Source.{set_rules}
 use Rattle.zic_source.specs.Sound.{IsSoundRule, OccursIn}
 use Rattle.zic_base.proofs.Elements.{get_contained, contains_got, all_got}
-use Rattle.zic_occurrences.specs.Occurrence.{RuleSet, IsMember, Occurrence, IsOccurrence, nominal, nominal_second}
-use Rattle.zic_occurrences.proofs.Bounds.{sound_rule, rises_with_year}
-use Rattle.zic_occurrences.proofs.Members.{IsMemberNumber, members, has_members}
-use Rattle.zic_occurrences.proofs.Same.{one_place}
+use Rattle.zic_states.specs.Occurrence.{RuleSet, IsMember, Occurrence, IsOccurrence, nominal, nominal_second}
+use Rattle.zic_states.proofs.Bounds.{sound_rule, rises_with_year}
+use Rattle.zic_states.proofs.Members.{IsMemberNumber, members, has_members}
+use Rattle.zic_states.proofs.Same.{one_place}
 use Rattle.zic_states.specs.InForce.{IsLetterBefore}
 use Rattle.zic_states.specs.code.Letters.{first_second, IsStandard, ComesFirst, OccursFirst, IsFirstOfStandard}
 

@@ -4,15 +4,15 @@ use lib.Signed.{le_z}
 use Rattle.std.specs.Prelude.{slice_get}
 use Rattle.std.proofs.lemmas.Int.{ints}
 use Rattle.std.proofs.lemmas.Option.{same_Some, slice_get_within}
-use Rattle.zic_words.specs.declared.clock.ClockForm.{ClockForm}
-use Rattle.zic_occurrences.specs.Occurrence.{IsNear}
-use Rattle.zic_lines.specs.declared.rule.Rule.{Rule}
+use Rattle.zic_lines.specs.declared.clock.ClockForm.{ClockForm}
+use Rattle.zic_states.specs.Occurrence.{IsNear}
+use Rattle.zic_lines.specs.declared.rule_line.Rule.{Rule}
 use Rattle.zic_lines.specs.declared.rules.Rules.{Rules}
 use Rattle.zic_lines.specs.declared.until.Until.{Until}
 use Rattle.zic_lines.specs.declared.zone_line.ZoneLine.{ZoneLine}
 use Rattle.zic_source.specs.Sound.{IsSoundRule, IsSoundLine, IsSoundUntil, IsWithinDay}
-use Rattle.zic_occurrences.specs.declared.occurrence.TimedOccurrence.{TimedOccurrence}
-use Rattle.zic_occurrences.specs.Order.{instant_by}
+use Rattle.zic_states.specs.declared.occurrence.TimedOccurrence.{TimedOccurrence}
+use Rattle.zic_states.specs.Order.{instant_by}
 use Rattle.zic_states.specs.Until.{IsReadAfter, IsSavedAtUntil, set_of, until_by}
 use Rattle.zic_states.specs.code.Walk.{AreOccurrencesOfSet}
 use Rattle.zic_states.proofs.Ordered.{IsOrdered}

@@ -10,7 +10,7 @@ use Rattle.zic_lines.specs.declared.zone_line.ZoneLine.{ZoneLine}
 use Rattle.zic_source.specs.Sound.{IsSoundLine, IsSoundZone, IsSoundSource}
 use Rattle.zic_source.specs.Source.{ZoneLines, lines_of_zone}
 use Rattle.zic_base.proofs.Elements.{all_got, got}
-use Rattle.zic_occurrences.specs.Order.{IsInOrder}
+use Rattle.zic_states.specs.Order.{IsInOrder}
 use Rattle.zic_states.specs.Fault.{IsSound}
 use Rattle.zic_states.specs.Laws.{HasSetsInOrder, IsOrderly}
 use Rattle.zic_states.specs.Until.{IsUntil, set_of}

@@ -4,10 +4,10 @@ use Rattle.std.specs.Prelude.{slice_get}
 use Rattle.std.proofs.lemmas.Bool.{cases_order}
 use Rattle.std.proofs.lemmas.Int.{ints, by_lt_z}
 use Rattle.std.proofs.lemmas.Option.{same_Some, slice_get_within, slice_get_read, get_or_from_slice_get}
-use Rattle.zic_occurrences.specs.declared.occurrence.TimedOccurrence.{TimedOccurrence}
-use Rattle.zic_occurrences.specs.Occurrence.{RuleSet, Occurrence, IsOccurrence, nominal}
-use Rattle.zic_occurrences.specs.Order.{IsFirst, IsPredecessor, IsInstant}
-use Rattle.zic_occurrences.specs.Listing.{IsTimedOf, IsListed, AreOccurrencesBefore}
+use Rattle.zic_states.specs.declared.occurrence.TimedOccurrence.{TimedOccurrence}
+use Rattle.zic_states.specs.Occurrence.{RuleSet, Occurrence, IsOccurrence, nominal}
+use Rattle.zic_states.specs.Order.{IsFirst, IsPredecessor, IsInstant}
+use Rattle.zic_states.specs.Listing.{IsTimedOf, IsListed, AreOccurrencesBefore}
 use Rattle.zic_states.specs.Until.{IsNext}
 use Rattle.zic_states.proofs.Given.{one_instant, instants_rise}
 use Rattle.zic_states.proofs.Ordered.{IsOrdered, same_occurrence, compare_occurrences}

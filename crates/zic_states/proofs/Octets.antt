@@ -1,8 +1,8 @@
 -- How an abbreviation is kept in 16 octets.
 use Rattle.std.proofs.Common.{◌≡◌, ℕ, true, ◌++◌, List, length, replicate, drop, refl}
 use Rattle.std.proofs.lemmas.List.{take_at, drop-replicate}
-use Rattle.zic_base.specs.declared.limit.TheConstants.{LONGEST_ABBREVIATION}
-use Rattle.zic_words.specs.Limits.{is_abbreviation}
+use Rattle.zic_base.specs.declared.constants.TheConstants.{LONGEST_ABBREVIATION}
+use Rattle.zic_lines.specs.Limits.{is_abbreviation}
 use Rattle.zic_states.specs.code.Octets.{HoldAbbreviation}
 
 -- an abbreviation written over the front of 16 zeros

@@ -4,8 +4,8 @@ use Rattle.std.specs.Prelude.{ℤ, ◌<ℤ◌, slice_get}
 use Rattle.std.proofs.lemmas.Bool.{cases_lt}
 use Rattle.std.proofs.lemmas.Int.{ints, by_lt_z}
 use Rattle.std.proofs.lemmas.Option.{same_Some}
-use Rattle.zic_occurrences.specs.Occurrence.{RuleSet, Occurrence, IsOccurrence, AreSame}
-use Rattle.zic_occurrences.specs.Order.{IsInOrder, IsOutOfOrder}
+use Rattle.zic_states.specs.Occurrence.{RuleSet, Occurrence, IsOccurrence, AreSame}
+use Rattle.zic_states.specs.Order.{IsInOrder, IsOutOfOrder}
 
 pub same_number : (m n : ℕ) → (m < n → ⊥) → (n < m → ⊥) → m ≡ n
 same_number m n below above =

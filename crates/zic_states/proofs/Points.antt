@@ -8,7 +8,7 @@ use Rattle.std.proofs.lemmas.List.Sorted.{IsPartitionPoint-from_clause}
 use denote.Param.Members.{Mut}
 use denote.Ref.{Bor}
 use Rattle.std.proofs.lemmas.Bool.{cases_lt}
-use Rattle.zic_occurrences.specs.declared.occurrence.TimedOccurrence.{TimedOccurrence}
+use Rattle.zic_states.specs.declared.occurrence.TimedOccurrence.{TimedOccurrence}
 use Rattle.zic_states.specs.ByList.{AreRising}
 use Rattle.zic_states.proofs.Filters.{int_lt-true, int_le-true, less_from_test, not_after_from_test}
 

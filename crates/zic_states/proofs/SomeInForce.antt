@@ -3,14 +3,14 @@ use Rattle.std.proofs.Common.{◌≡◌, ℕ, zero, suc, All, inl, inr, List, Op
 use Rattle.std.specs.Prelude.{IsSomeAnd}
 use Rattle.std.specs.Int.{int_max, int_min}
 use Rattle.std.proofs.lemmas.Int.{ints, clamps}
-use Rattle.zic_lines.specs.declared.rule.Rule.{Rule}
+use Rattle.zic_lines.specs.declared.rule_line.Rule.{Rule}
 use Rattle.zic_lines.specs.declared.rules.Rules.{Rules}
 use Rattle.zic_lines.specs.declared.rules.Rules.TheVariants.{Standard, Amount, Set}
 use Rattle.zic_lines.specs.declared.zone_line.ZoneLine.{ZoneLine}
 use Rattle.zic_source.specs.Sound.{IsSoundRule, IsWithinDay}
-use Rattle.zic_occurrences.specs.Occurrence.{RuleSet}
-use Rattle.zic_occurrences.specs.Order.{IsInOrder}
-use Rattle.zic_occurrences.proofs.Instants.{last_not_after}
+use Rattle.zic_states.specs.Occurrence.{RuleSet}
+use Rattle.zic_states.specs.Order.{IsInOrder}
+use Rattle.zic_states.proofs.Instants.{last_not_after}
 use Rattle.zic_states.specs.code.Listed.{IsLimit}
 use Rattle.zic_states.specs.InForce.{InForce, SetHasInForce, RulesHaveInForce, in_force_from}
 use Rattle.zic_states.specs.Laws.{HasSetsInOrder}

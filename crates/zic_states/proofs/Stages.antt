@@ -4,10 +4,10 @@ use Rattle.std.proofs.lemmas.Int.{ints, by_lt_z}
 use borrow.Author.Differences.{up, down}
 use Rattle.zic_lines.specs.declared.until.Until.{Until}
 use Rattle.zic_source.specs.Sound.{IsSoundRule}
-use Rattle.zic_occurrences.specs.Occurrence.{RuleSet, Occurrence, IsOccurrence, nominal, nominal_second, year_second}
-use Rattle.zic_occurrences.specs.Order.{IsFirst, IsPredecessor, IsInstant}
-use Rattle.zic_occurrences.proofs.Bounds.{nominal_from, years_apart}
-use Rattle.zic_occurrences.proofs.Instants.{some_instant, saved_before, last_not_after}
+use Rattle.zic_states.specs.Occurrence.{RuleSet, Occurrence, IsOccurrence, nominal, nominal_second, year_second}
+use Rattle.zic_states.specs.Order.{IsFirst, IsPredecessor, IsInstant}
+use Rattle.zic_states.proofs.Bounds.{nominal_from, years_apart}
+use Rattle.zic_states.proofs.Instants.{some_instant, saved_before, last_not_after}
 use Rattle.zic_states.specs.Until.{IsNext, IsStage, ComesBefore, Stops, IsReadAfter, saved_after, until_by}
 use Rattle.zic_states.proofs.Given.{one_instant, instants_rise}
 use Rattle.zic_states.proofs.Ordered.{IsOrdered, compare_occurrences, next_is, one_next}

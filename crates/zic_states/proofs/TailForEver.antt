@@ -5,9 +5,9 @@ use Rattle.std.proofs.lemmas.Int.{ints, by_lt_z}
 use Rattle.zic_lines.specs.declared.rules.Rules.{Rules}
 use Rattle.zic_lines.specs.declared.rules.Rules.TheVariants.{Standard, Amount, Set}
 use Rattle.zic_lines.specs.declared.zone_line.ZoneLine.{ZoneLine}
-use Rattle.zic_occurrences.specs.Laws.{IsLastOccurrence}
-use Rattle.zic_occurrences.specs.Occurrence.{RuleSet, Occurrence, year_second}
-use Rattle.zic_occurrences.proofs.Instants.{last_not_after}
+use Rattle.zic_states.specs.OccurrenceLaws.{IsLastOccurrence}
+use Rattle.zic_states.specs.Occurrence.{RuleSet, Occurrence, year_second}
+use Rattle.zic_states.proofs.Instants.{last_not_after}
 use Rattle.zic_states.specs.End.{IsLastLine, IsEndBy, IsEnd}
 use Rattle.zic_states.specs.InForce.{InForce, in_force_of, in_force_from}
 use Rattle.zic_states.specs.Laws.{IsOrderly}

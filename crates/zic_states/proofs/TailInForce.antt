@@ -3,14 +3,14 @@ use Rattle.std.proofs.Common.{◌≡◌, ℕ, zero, suc, inl, inr, List, refl, s
 use Rattle.std.specs.Prelude.{ℤ, pos, ◌+ℤ◌, ◌-ℤ◌, ◌≤ℤ◌, slice_get}
 use Rattle.std.proofs.lemmas.Int.{ints, clamps, by_lt_z}
 use Rattle.std.proofs.lemmas.Option.{same_Some}
-use Rattle.zic_lines.specs.declared.rule.Rule.{Rule}
+use Rattle.zic_lines.specs.declared.rule_line.Rule.{Rule}
 use Rattle.zic_lines.specs.declared.rules.Rules.{Rules}
 use Rattle.zic_lines.specs.declared.zone_line.ZoneLine.{ZoneLine}
-use Rattle.zic_occurrences.specs.Laws.{IsLastOccurrence}
-use Rattle.zic_occurrences.specs.Listing.{IsLastNamed}
-use Rattle.zic_occurrences.specs.Occurrence.{RuleSet, Occurrence, IsOccurrence, year_second}
-use Rattle.zic_occurrences.specs.Order.{IsInstant}
-use Rattle.zic_occurrences.proofs.Bounds.{years_apart}
+use Rattle.zic_states.specs.OccurrenceLaws.{IsLastOccurrence}
+use Rattle.zic_states.specs.Listing.{IsLastNamed}
+use Rattle.zic_states.specs.Occurrence.{RuleSet, Occurrence, IsOccurrence, year_second}
+use Rattle.zic_states.specs.Order.{IsInstant}
+use Rattle.zic_states.proofs.Bounds.{years_apart}
 use Rattle.zic_states.specs.End.{IsLastYear}
 use Rattle.zic_states.specs.InForce.{InForce, IsLastOf, SetHasInForce, RulesHaveInForce, in_force_of, in_force_from}
 use Rattle.zic_states.specs.Laws.{IsOrderly}

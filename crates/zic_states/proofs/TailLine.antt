@@ -2,11 +2,11 @@
 use Rattle.std.proofs.Common.{◌≡◌, ℕ, zero, suc, false, List, None, sym, subst, arith}
 use Rattle.std.specs.Prelude.{ℤ, pos, ◌+ℤ◌, ◌-ℤ◌, ◌≤ℤ◌}
 use Rattle.std.proofs.lemmas.Int.{ints, clamps}
-use Rattle.zic_lines.specs.declared.rule.Rule.{Rule}
+use Rattle.zic_lines.specs.declared.rule_line.Rule.{Rule}
 use Rattle.zic_lines.specs.declared.rules.Rules.{Rules}
 use Rattle.zic_lines.specs.declared.rules.Rules.TheVariants.{Standard, Amount, Set}
 use Rattle.zic_lines.specs.declared.zone_line.ZoneLine.{ZoneLine}
-use Rattle.zic_occurrences.proofs.Bounds.{years_apart}
+use Rattle.zic_states.proofs.Bounds.{years_apart}
 use Rattle.zic_states.specs.End.{IsLastLine, IsEndBy, IsEnd}
 use Rattle.zic_states.specs.InForce.{InForce, RulesHaveInForce}
 use Rattle.zic_states.specs.Laws.{HasSetsInOrder, IsOrderly}

@@ -2,16 +2,16 @@
 use Rattle.std.proofs.Common.{◌≡◌, ℕ, ◌*◌, All, ◌⊎◌, inl, inr, refl, sym, arith}
 use Rattle.std.specs.Prelude.{ℤ, pos, ◌+ℤ◌, ◌-ℤ◌, ◌<ℤ◌, ◌≤ℤ◌}
 use Rattle.std.proofs.lemmas.Int.{ints, by_lt_z}
-use Rattle.zic_lines.specs.declared.rule.Rule.{Rule}
-use Rattle.zic_words.specs.declared.clock.ClockForm.{ClockForm}
-use Rattle.zic_words.specs.declared.clock.ClockForm.TheVariants.{Wall, Standard, Universal}
+use Rattle.zic_lines.specs.declared.rule_line.Rule.{Rule}
+use Rattle.zic_lines.specs.declared.clock.ClockForm.{ClockForm}
+use Rattle.zic_lines.specs.declared.clock.ClockForm.TheVariants.{Wall, Standard, Universal}
 use Rattle.zic_source.specs.Sound.{IsSoundRule}
-use Rattle.zic_occurrences.specs.Laws.{IsLastOccurrence}
-use Rattle.zic_occurrences.specs.Occurrence.{RuleSet, IsMember, Occurrence, IsOccurrence, nominal, year_second}
-use Rattle.zic_occurrences.specs.Order.{IsPredecessor, IsSavedBefore, IsInstant, IsInOrder, instant_by}
-use Rattle.zic_occurrences.proofs.Bounds.{years_apart, nominal_from, nominal_to, two_years, nominal_second-period, instant_near_nominal}
-use Rattle.zic_occurrences.proofs.Instants.{saved_before, some_instant, instants_rise, tied_instants}
-use Rattle.zic_occurrences.proofs.Same.{one_instant}
+use Rattle.zic_states.specs.OccurrenceLaws.{IsLastOccurrence}
+use Rattle.zic_states.specs.Occurrence.{RuleSet, IsMember, Occurrence, IsOccurrence, nominal, year_second}
+use Rattle.zic_states.specs.Order.{IsPredecessor, IsSavedBefore, IsInstant, IsInOrder, instant_by}
+use Rattle.zic_states.proofs.Bounds.{years_apart, nominal_from, nominal_to, two_years, nominal_second-period, instant_near_nominal}
+use Rattle.zic_states.proofs.Instants.{saved_before, some_instant, instants_rise, tied_instants}
+use Rattle.zic_states.proofs.Same.{one_instant}
 use Rattle.zic_states.specs.Tail.{IsContinuing, IsOnlyContinuing, Alternate, FollowsAnother}
 use Rattle.zic_states.proofs.Ends.{not_later}
 use Rattle.zic_states.proofs.TailSet.{rule_in, IsNamedTo, continues_after, occurs_after, own_instant}

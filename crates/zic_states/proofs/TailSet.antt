@@ -2,14 +2,14 @@
 use Rattle.std.proofs.Common.{◌≡◌, ℕ, ◌*◌, ◌≤◌, All, inl, inr, Option, Some, None, refl, arith, unwrap_or, IfSome}
 use Rattle.std.specs.Prelude.{ℤ, pos, ◌+ℤ◌, ◌-ℤ◌, ◌<ℤ◌, ◌≤ℤ◌}
 use Rattle.std.proofs.lemmas.Int.{ints, by_lt_z}
-use Rattle.zic_lines.specs.declared.rule.Rule.{Rule}
+use Rattle.zic_lines.specs.declared.rule_line.Rule.{Rule}
 use Rattle.zic_source.specs.Sound.{IsSoundRule, IsWithinDay}
-use Rattle.zic_occurrences.specs.Laws.{IsLastOccurrence}
-use Rattle.zic_occurrences.specs.Listing.{IsLastNamed}
-use Rattle.zic_occurrences.specs.Occurrence.{RuleSet, IsMember, Occurrence, IsOccurrence, year_second}
-use Rattle.zic_occurrences.specs.Order.{IsInstant}
-use Rattle.zic_occurrences.proofs.Bounds.{years_apart, sound_rule, two_years, instant_near_nominal, instant_from, instant_to}
-use Rattle.zic_occurrences.proofs.Instants.{some_instant, instants_rise, last_not_after}
+use Rattle.zic_states.specs.OccurrenceLaws.{IsLastOccurrence}
+use Rattle.zic_states.specs.Listing.{IsLastNamed}
+use Rattle.zic_states.specs.Occurrence.{RuleSet, IsMember, Occurrence, IsOccurrence, year_second}
+use Rattle.zic_states.specs.Order.{IsInstant}
+use Rattle.zic_states.proofs.Bounds.{years_apart, sound_rule, two_years, instant_near_nominal, instant_from, instant_to}
+use Rattle.zic_states.proofs.Instants.{some_instant, instants_rise, last_not_after}
 use Rattle.zic_states.specs.Tail.{IsContinuing}
 use Rattle.zic_states.proofs.Ordered.{IsOrdered}
 use Rattle.zic_states.proofs.TailYears.{next_near}

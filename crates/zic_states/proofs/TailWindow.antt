@@ -3,13 +3,13 @@ use Rattle.std.proofs.Common.{◌≡◌, ℕ, zero, suc, ◌*◌, All, inl, inr,
 use Rattle.std.specs.Prelude.{ℤ, pos, ◌+ℤ◌, ◌-ℤ◌, ◌<ℤ◌, ◌≤ℤ◌}
 use Rattle.std.specs.Int.{int_max}
 use Rattle.std.proofs.lemmas.Int.{ints, clamps}
-use Rattle.zic_lines.specs.declared.rule.Rule.{Rule}
+use Rattle.zic_lines.specs.declared.rule_line.Rule.{Rule}
 use Rattle.zic_lines.specs.declared.rules.Rules.{Rules}
 use Rattle.zic_lines.specs.declared.rules.Rules.TheVariants.{Standard, Amount, Set}
 use Rattle.zic_lines.specs.declared.zone_line.ZoneLine.{ZoneLine}
 use Rattle.zic_source.specs.Sound.{IsSoundRule, IsWithinDay, AreSoundRules}
-use Rattle.zic_occurrences.specs.Occurrence.{year_second}
-use Rattle.zic_occurrences.proofs.Bounds.{sound_rule}
+use Rattle.zic_states.specs.Occurrence.{year_second}
+use Rattle.zic_states.proofs.Bounds.{sound_rule}
 use Rattle.zic_states.specs.End.{IsLastYear}
 use Rattle.zic_states.specs.InForce.{InForce, RulesHaveInForce}
 use Rattle.zic_states.specs.Laws.{HasSetsInOrder}

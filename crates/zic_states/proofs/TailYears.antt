@@ -7,10 +7,10 @@ use Rattle.zic_calendar.specs.Calendar.{days_in_month, days_in_year, days_of_mon
 use Rattle.zic_calendar.specs.DayForm.{form_day, IsNearMonth}
 use Rattle.zic_calendar.proofs.YearLemmas.{year_start-next}
 use Rattle.zic_calendar.proofs.FormLemmas.{form_bounds, month_length_bounds}
-use Rattle.zic_words.specs.Month.{IsMonth}
+use Rattle.zic_lines.specs.Month.{IsMonth}
 use Rattle.zic_source.specs.Sound.{IsSoundRule, OccursIn}
-use Rattle.zic_lines.specs.declared.rule.Rule.{Rule}
-use Rattle.zic_occurrences.specs.Occurrence.{nominal_second}
+use Rattle.zic_lines.specs.declared.rule_line.Rule.{Rule}
+use Rattle.zic_states.specs.Occurrence.{nominal_second}
 
 -- a month has 28 to 31 days
 months_bounds : (y : ℤ) (n : ℕ) → (28 * n ≤ days_of_months y n) × (days_of_months y n ≤ 31 * n)

@@ -2,16 +2,16 @@
 use Rattle.std.proofs.Common.{◌≡◌, ℕ, ◌+◌, ◌<◌, List, length, Option, Some, None, All, ◌⊎◌, inl, inr, refl, ap, subst, arith, ℤ, pos, ◌+ℤ◌, ◌-ℤ◌, ◌<ℤ◌, ◌≤ℤ◌, lit≤}
 use Rattle.std.proofs.lemmas.Int.{ints, by_lt_z}
 use Rattle.std.proofs.lemmas.Option.{slice_get_within}
-use Rattle.zic_words.specs.declared.clock.ClockForm.{ClockForm}
-use Rattle.zic_words.specs.declared.clock.ClockForm.TheVariants.{Wall, Standard, Universal}
+use Rattle.zic_lines.specs.declared.clock.ClockForm.{ClockForm}
+use Rattle.zic_lines.specs.declared.clock.ClockForm.TheVariants.{Wall, Standard, Universal}
 use Rattle.zic_lines.specs.declared.until.Until.{Until}
 use Rattle.zic_source.specs.Sound.{IsSoundRule, IsSoundUntil, IsWithinDay}
 use Rattle.zic_base.proofs.Elements.{all_got}
-use Rattle.zic_occurrences.specs.declared.occurrence.TimedOccurrence.{TimedOccurrence}
-use Rattle.zic_occurrences.specs.Occurrence.{RuleSet, Occurrence, IsOccurrence, nominal, nominal_second, year_second}
-use Rattle.zic_occurrences.specs.Order.{IsInstant, instant_by}
+use Rattle.zic_states.specs.declared.occurrence.TimedOccurrence.{TimedOccurrence}
+use Rattle.zic_states.specs.Occurrence.{RuleSet, Occurrence, IsOccurrence, nominal, nominal_second, year_second}
+use Rattle.zic_states.specs.Order.{IsInstant, instant_by}
 use Rattle.zic_states.specs.Until.{IsNext, IsStage, ComesBefore, Stops, IsReadAfter, saved_after, until_by}
-use Rattle.zic_occurrences.proofs.Bounds.{moment_to, years_apart}
+use Rattle.zic_states.proofs.Bounds.{moment_to, years_apart}
 use Rattle.zic_states.proofs.Given.{one_instant, near}
 use Rattle.zic_states.proofs.Ordered.{IsOrdered, compare_occurrences, next_is, one_next}
 use Rattle.zic_states.proofs.Listed.{IsListing, IsAt, find, stands_before, first_is_next, later_is_next}

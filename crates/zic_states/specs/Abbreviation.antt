@@ -3,7 +3,7 @@ use Rattle.std.specs.Prelude.{ℕ, ◌/◌, ◌%◌, ◌==◌, ℤ, pos, Bool, i
 use Rattle.zic_base.specs.Digits.{two_digits}
 use Rattle.zic_lines.specs.declared.format.Format.{Format}
 use Rattle.zic_lines.specs.declared.format.Format.TheVariants.{Plain, Letter, Offset, Pair}
-use Rattle.zic_words.specs.Limits.{is_abbreviation}
+use Rattle.zic_lines.specs.Limits.{is_abbreviation}
 
 -- minutes and seconds of an hour, without what is 0 at the end
 abbrev pub minutes_text : ℕ → List ℕ

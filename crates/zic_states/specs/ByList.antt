@@ -1,6 +1,6 @@
 -- Occurrences of a list up to an instant, and the rule of the last.
 use Rattle.std.specs.Prelude.{ℕ, ◌-◌, ℤ, ◌<ℤ◌, List, length, Option, option_map, filter, slice_get, int_lt, int_le, AllPairs}
-use Rattle.zic_occurrences.specs.declared.occurrence.TimedOccurrence.{TimedOccurrence}
+use Rattle.zic_states.specs.declared.occurrence.TimedOccurrence.{TimedOccurrence}
 
 -- the instant of each comes after that of the one before it
 abbrev pub AreRising : List TimedOccurrence → Type 0

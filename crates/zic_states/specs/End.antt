@@ -4,8 +4,8 @@ use Rattle.std.specs.Int.{int_max}
 use Rattle.zic_lines.specs.declared.rules.Rules.{Rules}
 use Rattle.zic_lines.specs.declared.rules.Rules.TheVariants.{Standard, Amount, Set}
 use Rattle.zic_lines.specs.declared.zone_line.ZoneLine.{ZoneLine}
-use Rattle.zic_occurrences.specs.Occurrence.{year_second}
-use Rattle.zic_occurrences.specs.Listing.{IsLastNamed}
+use Rattle.zic_states.specs.Occurrence.{year_second}
+use Rattle.zic_states.specs.Listing.{IsLastNamed}
 use Rattle.zic_states.specs.Until.{set_of}
 use Rattle.zic_states.specs.Zone.{Zone, line_at, Ends}
 

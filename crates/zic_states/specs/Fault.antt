@@ -4,15 +4,15 @@ use Rattle.zic_base.specs.Fault.{kind_number}
 use Rattle.zic_base.specs.declared.fault.Fault.{Fault}
 use Rattle.zic_base.specs.declared.fault.Kind.{Kind}
 use Rattle.zic_base.specs.declared.fault.Kind.TheVariants as kind
-use Rattle.zic_lines.specs.declared.rule.Rule.{Rule}
+use Rattle.zic_lines.specs.declared.rule_line.Rule.{Rule}
 use Rattle.zic_lines.specs.declared.rules.Rules.{Rules}
 use Rattle.zic_lines.specs.declared.rules.Rules.TheVariants.{Standard, Amount, Set}
 use Rattle.zic_lines.specs.declared.zone_line.ZoneLine.{ZoneLine}
-use Rattle.zic_words.specs.declared.time.TheConstants.{GREATEST_OFFSET}
-use Rattle.zic_occurrences.specs.Occurrence.{IsMember}
-use Rattle.zic_occurrences.specs.Order.{IsOutOfOrder}
+use Rattle.zic_lines.specs.declared.time.TheConstants.{GREATEST_OFFSET}
+use Rattle.zic_states.specs.Occurrence.{IsMember}
+use Rattle.zic_states.specs.Order.{IsOutOfOrder}
 use Rattle.zic_states.specs.Abbreviation.{abbreviation}
-use Rattle.zic_words.specs.Limits.{is_abbreviation}
+use Rattle.zic_lines.specs.Limits.{is_abbreviation}
 use Rattle.zic_states.specs.InForce.{InForce}
 use Rattle.zic_base.specs.State.{Shown}
 use Rattle.zic_states.specs.Until.{set_of}

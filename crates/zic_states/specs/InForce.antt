@@ -1,12 +1,12 @@
 -- The saving, flag and letter that are in force by the RULES of a line: zic(8), FILES. Own choice: nothing is saved before the first occurrence,
 -- even if the first rule of standard time has a saving.
 use Rattle.std.specs.Prelude.{◌≡◌, ℤ, pos, ◌≤ℤ◌, Bool, false, List, ℕ, Option, Some, None, IfSome, ◌⊎◌}
-use Rattle.zic_lines.specs.declared.rule.Rule.{Rule}
+use Rattle.zic_lines.specs.declared.rule_line.Rule.{Rule}
 use Rattle.zic_lines.specs.declared.rules.Rules.{Rules}
 use Rattle.zic_lines.specs.declared.rules.Rules.TheVariants.{Standard, Amount, Set}
 use Rattle.zic_lines.specs.declared.zone_line.ZoneLine.{ZoneLine}
-use Rattle.zic_occurrences.specs.Occurrence.{RuleSet, IsMember, Occurrence, IsOccurrence, nominal}
-use Rattle.zic_occurrences.specs.Order.{IsInstant}
+use Rattle.zic_states.specs.Occurrence.{RuleSet, IsMember, Occurrence, IsOccurrence, nominal}
+use Rattle.zic_states.specs.Order.{IsInstant}
 use Rattle.zic_states.specs.Until.{set_of}
 
 -- the saving that is added to standard time, whether that is daylight saving time, and the letter for `%s`, if there is one

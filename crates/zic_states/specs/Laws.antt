@@ -1,11 +1,11 @@
 -- Laws of what zones show: each is the contract of a function of the module `laws`.
 use Rattle.std.specs.Prelude.{◌≡◌, ◌<◌, ℕ, ℤ, ◌<ℤ◌, List, length, Some}
-use Rattle.zic_lines.specs.declared.rule.Rule.{Rule}
+use Rattle.zic_lines.specs.declared.rule_line.Rule.{Rule}
 use Rattle.zic_lines.specs.declared.rules.Rules.TheVariants.{Set}
 use Rattle.zic_lines.specs.declared.until.Until.{Until}
 use Rattle.zic_lines.specs.declared.zone_line.ZoneLine.{ZoneLine}
 use Rattle.zic_source.specs.Sound.{IsSoundSource}
-use Rattle.zic_occurrences.specs.Order.{IsInOrder}
+use Rattle.zic_states.specs.Order.{IsInOrder}
 use Rattle.zic_states.specs.Change.{Change, AreChanges, IsBeforeChanges, IsFirstState}
 use Rattle.zic_states.specs.End.{IsEnd}
 use Rattle.zic_states.specs.Fault.{HasRulesOutOfOrder, HasUntilNotRising, HasNoLetter, IsSound}

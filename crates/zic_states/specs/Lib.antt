@@ -1,3 +1,8 @@
+pub mod OccurrenceLaws
+pub mod LineItems
+pub mod Listing
+pub mod Occurrence
+pub mod Order
 pub mod Abbreviation
 pub mod ByList
 pub mod Change
@@ -13,5 +18,4 @@ pub mod Tail
 pub mod TailLaws
 pub mod Until
 pub mod Zone
-pub use Rattle.zic_occurrences.specs.Occurrence
-pub use Rattle.zic_occurrences.specs.Order
+pub use Rattle.zic_source.specs.Sound

@@ -2,7 +2,7 @@
 use Rattle.std.specs.Prelude.{◌≡◌, ℕ, false, List, Option, Some, None, ◌⊎◌}
 use Rattle.zic_base.specs.declared.fault.Kind.{Kind}
 use Rattle.zic_base.specs.declared.fault.Kind.TheVariants.{NoLetter, BadAbbreviation}
-use Rattle.zic_words.specs.Limits.{is_abbreviation}
+use Rattle.zic_lines.specs.Limits.{is_abbreviation}
 
 -- It gives a text that is no abbreviation.
 pub record BreaksLimit (filled : Option (List ℕ)) : Type 0 where

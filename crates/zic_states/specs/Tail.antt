@@ -1,12 +1,12 @@
 -- The rules that decide what a zone shows from its explicit end on: those of the last line's set that have no last year.
 use Rattle.std.specs.Prelude.{◌≡◌, ◌≢◌, ℕ, ◌*◌, ℤ, pos, ◌+ℤ◌, ◌<ℤ◌, ◌≤ℤ◌, List, None}
-use Rattle.zic_lines.specs.declared.rule.Rule.{Rule}
+use Rattle.zic_lines.specs.declared.rule_line.Rule.{Rule}
 use Rattle.zic_lines.specs.declared.rules.Rules.{Rules}
 use Rattle.zic_lines.specs.declared.rules.Rules.TheVariants.{Standard, Amount, Set}
 use Rattle.zic_lines.specs.declared.zone_line.ZoneLine.{ZoneLine}
-use Rattle.zic_occurrences.specs.Laws.{IsLastOccurrence}
-use Rattle.zic_occurrences.specs.Occurrence.{RuleSet, IsMember, Occurrence, IsOccurrence}
-use Rattle.zic_occurrences.specs.Order.{IsPredecessor}
+use Rattle.zic_states.specs.OccurrenceLaws.{IsLastOccurrence}
+use Rattle.zic_states.specs.Occurrence.{RuleSet, IsMember, Occurrence, IsOccurrence}
+use Rattle.zic_states.specs.Order.{IsPredecessor}
 use Rattle.zic_states.specs.End.{IsLastLine, IsLastYear}
 use Rattle.zic_states.specs.InForce.{InForce, in_force_from}
 use Rattle.zic_base.specs.State.{Shown}

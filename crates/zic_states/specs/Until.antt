@@ -1,13 +1,13 @@
 -- The instant of an UNTIL: zic(8), FILES. That it is always read by its own line, never by the line that follows, and with the
 -- saving after the least number of occurrences that will do, is an own choice.
 use Rattle.std.specs.Prelude.{◌≡◌, ℤ, pos, ◌<ℤ◌, ◌≤ℤ◌, List, ℕ, Option, Some, None}
-use Rattle.zic_lines.specs.declared.rule.Rule.{Rule}
+use Rattle.zic_lines.specs.declared.rule_line.Rule.{Rule}
 use Rattle.zic_lines.specs.declared.rules.Rules.{Rules}
 use Rattle.zic_lines.specs.declared.rules.Rules.TheVariants.{Standard, Amount, Set}
 use Rattle.zic_lines.specs.declared.until.Until.{Until}
 use Rattle.zic_lines.specs.declared.zone_line.ZoneLine.{ZoneLine}
-use Rattle.zic_occurrences.specs.Occurrence.{RuleSet, Occurrence, IsOccurrence, nominal, nominal_second}
-use Rattle.zic_occurrences.specs.Order.{IsFirst, IsPredecessor, IsInstant, instant_by}
+use Rattle.zic_states.specs.Occurrence.{RuleSet, Occurrence, IsOccurrence, nominal, nominal_second}
+use Rattle.zic_states.specs.Order.{IsFirst, IsPredecessor, IsInstant, instant_by}
 
 -- the occurrence after this one; after none, the first of all
 abbrev pub IsNext : RuleSet → Option Occurrence → Occurrence → Type 0

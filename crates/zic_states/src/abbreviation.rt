@@ -3,7 +3,7 @@
 ghost use Rattle.std.specs.Prelude.{◌≡◌, true, bytes_eq};
 ghost use Rattle.std.specs.Cmp.{partial_equiv_from_equiv};
 ghost use Rattle.std.specs.Cmp.Lexicographic.{nat_list_eq_equiv};
-ghost use Rattle.zic_words.specs.Limits.{is_abbreviation};
+ghost use Rattle.zic_lines.specs.Limits.{is_abbreviation};
 ghost use Rattle.zic_states.specs.Abbreviation.{abbreviation_of};
 
 use std::marker::Model;

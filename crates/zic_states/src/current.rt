@@ -3,7 +3,7 @@
 ghost use Rattle.std.specs.Prelude.{◌≡◌};
 ghost use Rattle.zic_states.specs.ByList.{AreRising, before, rule_at};
 
-use zic_occurrences::TimedOccurrence;
+use crate::occurrence::TimedOccurrence;
 
 /// Returns the occurrences whose instants are before the limit.
 pub fn before(occurrences: &[TimedOccurrence], limit: i64) -> &[TimedOccurrence]

@@ -3,16 +3,15 @@
 ghost use Rattle.std.specs.Prelude.{◌≡◌, ◌<◌, ◌↔◌, pos, false, All, IsTrue, length};
 ghost use Rattle.std.specs.Option.{ForSome, option_copied};
 ghost use Rattle.zic_source.specs.Sound.{IsSoundRule};
-ghost use Rattle.zic_occurrences.specs.Occurrence.{nominal_second};
+ghost use Rattle.zic_states.specs.Occurrence.{nominal_second};
 ghost use Rattle.zic_states.specs.Observance.{in_force};
 ghost use Rattle.zic_states.specs.InForce.{IsLetterBefore, IsInForceBy, IsRuleOf};
 ghost use Rattle.zic_states.specs.Until.{set_of};
 ghost use Rattle.zic_states.specs.code.Letters.{ComesFirst, IsFirstOfStandard};
 
-use zic_lines::{Rule, Rules, ZoneLine};
-use zic_occurrences::nominal_second;
+use crate::nominal::nominal_second;
+use zic_lines::{Letter, Rule, Rules, SetName, ZoneLine};
 use zic_source::{MAX_RULES, Source};
-use zic_words::{Letter, SetName};
 
 /// The observance of a line at an instant: its saving, and what goes with it (RFC 5545, 3.6.5).
 #[derive(Clone, Copy, Debug)]

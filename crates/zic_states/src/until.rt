@@ -6,8 +6,10 @@ ghost use Rattle.zic_states.specs.Until.{IsUntil, IsSavedAtUntil};
 ghost use Rattle.zic_states.specs.Occurrences.{AreOccurrencesFor};
 ghost use Rattle.zic_states.specs.code.Walk.{AreOccurrencesOfSet};
 
+use crate::nominal::nominal_second;
+use crate::occurrence::TimedOccurrence;
+use crate::walk::instant_by;
 use zic_lines::{Rules, Until, ZoneLine};
-use zic_occurrences::{TimedOccurrence, instant_by, nominal_second};
 use zic_source::Source;
 
 /// Returns the instant of a line's UNTIL, in seconds from 1970-01-01T00:00:00 UT without leap

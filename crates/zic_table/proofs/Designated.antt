@@ -16,7 +16,7 @@ use Rattle.zic_table.specs.ContentOf.{firsts, before, names_of, ended, local_typ
 use Rattle.zic_table.specs.code.Firsts.{with_new}
 use Rattle.zic_table.specs.code.LocalTypes.{AreLocalTypes, HasManyCharacters, HasNoName, IsPlaceOf}
 use Rattle.zic_tzif.specs.declared.content.LocalType.{LocalType}
-use Rattle.zic_tzif.specs.declared.limit.TheConstants.{MAX_CHARACTERS}
+use Rattle.zic_tzif.specs.declared.content.TheConstants.{MAX_CHARACTERS}
 use Rattle.zic_table.proofs.Firsts.{before_append, before_new, any_firsts, firsts_push, firsts_grow, with_new_grows}
 use Rattle.zic_base.proofs.Lists.{map_same, any_map, take_next, get_taken, get_mapped}
 

@@ -11,7 +11,7 @@ use Rattle.std.proofs.lemmas.List.Concat.{flat_map-append}
 use Rattle.std.proofs.lemmas.Slice.Eq.{bytes_eq-Decides}
 use Rattle.zic_base.specs.Byte.{is_abbreviation_byte}
 use Rattle.zic_base.specs.State.{Shown}
-use Rattle.zic_words.specs.Limits.{is_abbreviation}
+use Rattle.zic_lines.specs.Limits.{is_abbreviation}
 use Rattle.zic_tzif.specs.Designation.{designation, is_designated}
 use Rattle.zic_table.specs.ContentOf.{before, names_of, ended, local_type}
 use Rattle.zic_table.proofs.Designated.{known_name}

@@ -7,9 +7,9 @@ use Rattle.zic_base.specs.declared.fault.Kind.TheVariants as kind
 use Rattle.zic_lines.specs.declared.rules.Rules.{Rules}
 use Rattle.zic_lines.specs.declared.zone_line.ZoneLine.{ZoneLine}
 use Rattle.zic_base.proofs.Elements.{only_one}
-use Rattle.zic_occurrences.specs.Laws.{IsLastOccurrence}
-use Rattle.zic_occurrences.specs.Occurrence.{RuleSet, year_second}
-use Rattle.zic_words.specs.Limits.{is_abbreviation}
+use Rattle.zic_states.specs.OccurrenceLaws.{IsLastOccurrence}
+use Rattle.zic_states.specs.Occurrence.{RuleSet, year_second}
+use Rattle.zic_lines.specs.Limits.{is_abbreviation}
 use Rattle.zic_states.specs.End.{IsEnd, IsEndBy}
 use Rattle.zic_states.specs.InForce.{InForce, in_force_of}
 use Rattle.zic_states.specs.Tail.{HasLastSet, HasInForceFrom, Alternate}

@@ -16,7 +16,7 @@ use Rattle.zic_table.specs.ContentOf.{firsts, same_state, states_of, transition}
 use Rattle.zic_table.specs.code.Firsts.{with_new, IsNumbered}
 use Rattle.zic_table.specs.code.Transitions.{AreTransitionsTo, AreTransitions, HasManyTypes}
 use Rattle.zic_tzif.specs.declared.content.Change.{Change}
-use Rattle.zic_tzif.specs.declared.limit.TheConstants.{MAX_TYPES}
+use Rattle.zic_tzif.specs.declared.content.TheConstants.{MAX_TYPES}
 use Rattle.zic_table.proofs.Firsts.{before_append, any_firsts, firsts_push, firsts_grow, with_new_grows}
 use Rattle.zic_base.proofs.Lists.{map_same, take_next}
 use Rattle.zic_table.proofs.States.{state_decides}

@@ -11,7 +11,7 @@ use Rattle.zic_base.specs.declared.state.State.{State}
 use Rattle.zic_table.specs.ContentOf.{before, same_state}
 use Rattle.zic_table.specs.code.Firsts.{with_new, IsNumbered}
 use Rattle.zic_table.specs.code.Numbering.{same_key, number_of, AreNumbers}
-use Rattle.zic_tzif.specs.declared.limit.TheConstants.{MAX_TYPES}
+use Rattle.zic_tzif.specs.declared.content.TheConstants.{MAX_TYPES}
 use Rattle.zic_table.proofs.Firsts.{before_append, before_new}
 use Rattle.zic_table.proofs.States.{state_decides, same_key-is}
 

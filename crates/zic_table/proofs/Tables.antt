@@ -23,7 +23,7 @@ use Rattle.zic_states.specs.Change as of_zone
 use Rattle.zic_states.specs.Zone.{Zone, Shows}
 use Rattle.zic_states.proofs.Changes.{has_beginning, one_list_of_changes}
 use Rattle.zic_states.proofs.States.{one_state}
-use Rattle.zic_words.specs.Limits.{IsWithinLimits}
+use Rattle.zic_lines.specs.Limits.{IsWithinLimits}
 use Rattle.zic_rules.specs.Timeline.{IsWholeZone}
 use Rattle.zic_rules.proofs.Limits.{shows_within_limits}
 use Rattle.zic_footer.specs.Making.{IsMade, GoesOn}
@@ -34,7 +34,7 @@ use Rattle.zic_table.specs.code.LocalTypes.{AreLocalTypes, HasManyCharacters}
 use Rattle.zic_table.specs.code.Transitions.{AreTransitions, HasManyTypes}
 use Rattle.zic_tzif.specs.declared.content.Change.{Change}
 use Rattle.zic_tzif.specs.declared.content.LocalType.{LocalType}
-use Rattle.zic_tzif.specs.declared.limit.TheConstants.{MAX_TRANSITIONS, MAX_TYPES, MAX_CHARACTERS}
+use Rattle.zic_tzif.specs.declared.content.TheConstants.{MAX_TRANSITIONS, MAX_TYPES, MAX_CHARACTERS}
 use Rattle.zic_table.proofs.Designations.{designation_is, designated}
 use Rattle.zic_table.proofs.Firsts.{at_place, place_within}
 use Rattle.zic_base.proofs.Lists.{get_mapped}

@@ -8,7 +8,7 @@ use Rattle.std.proofs.lemmas.Bool.{leb-true, and_parts}
 use Rattle.std.proofs.lemmas.List.{length-append}
 use Rattle.zic_base.specs.Byte.{is_abbreviation_byte}
 use Rattle.zic_base.specs.State.{Shown}
-use Rattle.zic_base.specs.declared.limit.TheConstants.{SHORTEST_ABBREVIATION, LONGEST_ABBREVIATION}
+use Rattle.zic_base.specs.declared.constants.TheConstants.{SHORTEST_ABBREVIATION, LONGEST_ABBREVIATION}
 use Rattle.zic_lines.specs.declared.rules.Rules.{Rules}
 use Rattle.zic_posix.specs.Footer.{TzString}
 use Rattle.zic_posix.specs.Grammar.{is_letter}
@@ -18,8 +18,8 @@ use Rattle.zic_posix.specs.declared.footer.DayRule.{DayRule}
 use Rattle.zic_posix.specs.declared.footer.DayRule.TheVariants.{J, N, M}
 use Rattle.zic_posix.specs.declared.footer.Dst.{Dst}
 use Rattle.zic_posix.specs.declared.footer.Edge.{Edge}
-use Rattle.zic_posix.specs.declared.limit.TheConstants.{USUAL_TIME, USUAL_SAVING}
-use Rattle.zic_words.specs.Limits.{is_abbreviation}
+use Rattle.zic_posix.specs.declared.footer.TheConstants.{USUAL_TIME, USUAL_SAVING}
+use Rattle.zic_lines.specs.Limits.{is_abbreviation}
 use Rattle.zic_states.specs.InForce.{IsInForceBy, in_force_of}
 use Rattle.zic_states.specs.Zone.{Zone}
 use Rattle.zic_rules.specs.Tail.{IsTailBy}

@@ -4,8 +4,8 @@ use Rattle.std.proofs.lemmas.Bool.{cases_lt}
 use Rattle.std.proofs.lemmas.Int.{ints}
 use Rattle.std.proofs.lemmas.List.{get_or_default}
 use Rattle.std.proofs.lemmas.List.Elements.{Contains-get_or}
-use Rattle.zic_posix.specs.declared.instants.Instants.{Instants}
-use Rattle.zic_posix.specs.declared.instants.TheConstants.{MIN_INSTANT, MAX_INSTANT}
+use Rattle.zic_posix.specs.declared.span.Instants.{Instants}
+use Rattle.zic_posix.specs.declared.span.TheConstants.{MIN_INSTANT, MAX_INSTANT}
 use Rattle.zic_posix.specs.Instants.{Includes, AreBetween}
 use Rattle.zic_tzif.specs.code.Window.{IsSplit}
 

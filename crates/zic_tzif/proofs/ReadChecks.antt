@@ -9,7 +9,7 @@ use Rattle.std.specs.Str.{bytes_eq}
 use Rattle.zic_base.specs.Check.{first_failed}
 use Rattle.zic_tzif.specs.declared.reason.Reason.{Reason}
 use Rattle.zic_tzif.specs.declared.reason.Reason.TheVariants as reason
-use Rattle.zic_base.specs.declared.limit.TheConstants.{LONGEST_FILE}
+use Rattle.zic_base.specs.declared.constants.TheConstants.{LONGEST_FILE}
 use Rattle.zic_tzif.specs.Header.{Counts, counts_at, block_length, second_header, second_block, second_counts, footer_place}
 use Rattle.zic_tzif.specs.Block.{after_newline}
 use Rattle.zic_tzif.specs.Reading.{are_counts, first_checks, second_checks, footer_checks}

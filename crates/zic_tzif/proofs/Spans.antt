@@ -3,8 +3,8 @@ use Rattle.std.proofs.Common.{◌≡◌, ℕ, ◌<◌, ◌≤◌, ℤ, pos, ◌+
 use Rattle.std.specs.Int.{int_max}
 use Rattle.std.proofs.lemmas.Int.{ints, clamps, by_lt_z}
 use Rattle.zic_base.specs.State.{Shown}
-use Rattle.zic_posix.specs.declared.instants.Instants.{Instants}
-use Rattle.zic_posix.specs.declared.instants.TheConstants.{MIN_INSTANT, MAX_INSTANT}
+use Rattle.zic_posix.specs.declared.span.Instants.{Instants}
+use Rattle.zic_posix.specs.declared.span.TheConstants.{MIN_INSTANT, MAX_INSTANT}
 use Rattle.zic_posix.specs.Footer.{TzString}
 use Rattle.zic_posix.specs.Instants.{Includes, AreBetween}
 use Rattle.zic_posix.specs.Meaning.{HasEdgeAt, MeansThroughout}

@@ -7,7 +7,7 @@ use Rattle.zic_posix.specs.declared.footer.DayRule.{DayRule}
 use Rattle.zic_posix.specs.declared.footer.DayRule.TheVariants.{J, N, M}
 use Rattle.zic_posix.specs.declared.footer.Dst.{Dst}
 use Rattle.zic_posix.specs.declared.footer.Edge.{Edge}
-use Rattle.zic_posix.specs.declared.limit.TheConstants.{MAX_HOURS, MAX_WIDE_HOURS, MAX_MINUTES_OR_SECONDS, LAST_DAY}
+use Rattle.zic_posix.specs.declared.footer.TheConstants.{MAX_HOURS, MAX_WIDE_HOURS, MAX_MINUTES_OR_SECONDS, LAST_DAY}
 use Rattle.zic_posix.specs.Footer.{TzString}
 use Rattle.zic_posix.proofs.NumberLemmas.{number_has}
 use Rattle.std.specs.Char.{is_ascii_digit}

@@ -5,7 +5,7 @@ use Rattle.zic_posix.specs.Footer.{TzString}
 use Rattle.zic_posix.specs.Grammar.{Spells}
 use Rattle.zic_posix.specs.Instants.{Includes}
 use Rattle.zic_posix.specs.Meaning.{Means, HasEdgeAt}
-use Rattle.zic_posix.specs.declared.instants.Instants.{Instants}
+use Rattle.zic_posix.specs.declared.span.Instants.{Instants}
 use Rattle.zic_tzif.specs.declared.content.Change.{Change}
 use Rattle.zic_tzif.specs.Content.{Content, IsStateOfType}
 use Rattle.zic_tzif.specs.declared.zone.Answer.{Answer}

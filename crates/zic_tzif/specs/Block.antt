@@ -2,7 +2,7 @@
 use Rattle.std.specs.Prelude.{ℕ, zero, suc, ◌+◌, Bool, true, ◌&&◌, nat_le, ◌==◌, ℤ, int_lt, List, [], ◌∷◌, map, take, drop, slice_index, unsigned_abs}
 use Rattle.std.specs.List.{before_first}
 use Rattle.byteorder.specs.Endian.{big_number, twos_complement}
-use Rattle.zic_base.specs.declared.limit.TheConstants.{FARTHEST_FILE_OFFSET}
+use Rattle.zic_base.specs.declared.constants.TheConstants.{FARTHEST_FILE_OFFSET}
 use Rattle.zic_tzif.specs.declared.content.Change.{Change}
 use Rattle.zic_tzif.specs.declared.content.LocalType.{LocalType}
 use Rattle.zic_tzif.specs.Header.{second_counts, second_block, numbers_place, types_place, names_place, indicators_place, footer_place}

@@ -2,13 +2,13 @@
 use Rattle.std.specs.Prelude.{◌≡◌, ℕ, ◌<◌, ◌≤◌, ◌<ℤ◌, true, List, [], ◌∷◌, ◌++◌, length, unsigned_abs, slice_get, ◌⊎◌, All, AllPairs, IsSomeAnd, FitsSigned}
 use Rattle.std.specs.Int.{w64}
 use Rattle.zic_base.specs.State.{Shown}
-use Rattle.zic_base.specs.declared.limit.TheConstants.{FARTHEST_FILE_OFFSET}
+use Rattle.zic_base.specs.declared.constants.TheConstants.{FARTHEST_FILE_OFFSET}
 use Rattle.zic_posix.specs.Footer.{TzString}
 use Rattle.zic_posix.specs.Grammar.{Spells}
 use Rattle.zic_posix.specs.Meaning.{Means}
 use Rattle.zic_tzif.specs.declared.content.Change.{Change}
 use Rattle.zic_tzif.specs.declared.content.LocalType.{LocalType}
-use Rattle.zic_tzif.specs.declared.limit.TheConstants.{MAX_TRANSITIONS, MAX_TYPES, MAX_CHARACTERS, LONGEST_FOOTER}
+use Rattle.zic_tzif.specs.declared.content.TheConstants.{MAX_TRANSITIONS, MAX_TYPES, MAX_CHARACTERS, LONGEST_FOOTER}
 use Rattle.zic_tzif.specs.Designation.{designation, is_designated}
 
 -- version; transitions; local time types; bytes of designations; text of the footer

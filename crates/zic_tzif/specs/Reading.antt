@@ -4,7 +4,7 @@ use Rattle.std.specs.Prelude.{◌≡◌, ℕ, ◌+◌, ◌-◌, Bool, ◌&&◌, 
 use Rattle.std.specs.List.{list_all, list_any}
 use Rattle.std.specs.Str.{bytes_eq}
 use Rattle.zic_base.specs.Check.{Check, check, first_failed}
-use Rattle.zic_base.specs.declared.limit.TheConstants.{LONGEST_FILE}
+use Rattle.zic_base.specs.declared.constants.TheConstants.{LONGEST_FILE}
 use Rattle.zic_posix.specs.Footer.{TzString}
 use Rattle.zic_posix.specs.Parsing.{NeedsMemory}
 use Rattle.zic_tzif.specs.Content.{Content, IsFooter}

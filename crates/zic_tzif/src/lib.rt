@@ -17,11 +17,9 @@
 mod content;
 mod data_block;
 mod designation;
-mod gap;
 mod header;
 mod hints;
 pub mod laws;
-mod limit;
 mod reader;
 mod reason;
 mod stored;
@@ -31,8 +29,9 @@ mod type_record;
 mod writer;
 mod zone;
 
-pub use content::{Change, LocalType, Table};
-pub use limit::{LONGEST_FOOTER, MAX_CHARACTERS, MAX_TRANSITIONS, MAX_TYPES};
+pub use content::{
+    Change, LONGEST_FOOTER, LocalType, MAX_CHARACTERS, MAX_TRANSITIONS, MAX_TYPES, Table,
+};
 pub use reader::read;
 pub use reason::{ReadStop, Reason, name_of_reason};
 pub use writer::{write, written_is_file};

@@ -1,10 +1,12 @@
-//! A search among times that rise.
+//! A search among times that rise, and the gap between two of them in which an instant lies.
 
-ghost use Rattle.std.specs.Prelude.{◌≡◌, ◌+◌, ◌*◌, ◌<◌, ◌≤◌, ◌^◌, ◌<ℤ◌, length, AllPairs, IfOk, IsTrue};
+ghost use Rattle.std.specs.Prelude.{◌≡◌, ◌+◌, ◌*◌, ◌<◌, ◌≤◌, ◌^◌, ◌<ℤ◌, length, AllPairs, IfOk, IsTrue, Contains};
 ghost use Rattle.zic_tzif.specs.code.Window.{IsWindow, IsSplit, AreLevels};
+ghost use Rattle.zic_posix.specs.Instants.{Includes, AreBetween};
 
 use crate::hints::Hints;
 use std::alloc::{AllocError, Global};
+use zic_posix::{Instants, MAX_INSTANT, MIN_INSTANT};
 
 /// The most halvings, at the end of a search, that the compiler may write out one by one: those of
 /// the zones in use.
@@ -129,4 +131,38 @@ fn narrow(times: &[i64], base: usize, level: u32, t: i64) -> usize
         }
     }
     base
+}
+
+/// The number of times before a gap or at its first instant, and the gap's instants.
+#[derive(Clone, Copy)]
+pub struct Gap {
+    pub count: usize,
+    pub instants: Instants,
+}
+
+impl Times {
+    /// Returns the gap in which an instant lies. The times rise.
+    pub fn gap_at(&self, t: i64) -> Gap
+        requires { AllPairs (λ a b. a <ℤ b) self.now.times.items }
+        ensures count { IsSplit self.now.times.items t result.count }
+        ensures requested { Includes result.instants t }
+        ensures between { AreBetween (Contains self.now.times.items) result.instants }
+    {
+        let times = self.times.as_slice();
+        let count = self.count_not_after(t);
+        let first = if count == 0 {
+            MIN_INSTANT
+        } else {
+            times[count - 1]
+        };
+        let last = if count == times.len() {
+            MAX_INSTANT
+        } else {
+            times[count] - 1
+        };
+        Gap {
+            count,
+            instants: Instants { first, last },
+        }
+    }
 }

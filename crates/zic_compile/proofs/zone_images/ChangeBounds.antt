@@ -9,10 +9,10 @@ use Rattle.zic_lines.specs.declared.until.Until.{Until}
 use Rattle.zic_lines.specs.declared.zone_line.ZoneLine.{ZoneLine}
 use Rattle.zic_source.specs.Sound.{IsSoundRule}
 use Rattle.zic_base.proofs.Elements.{all_got}
-use Rattle.zic_occurrences.specs.Occurrence.{Occurrence, IsOccurrence, year_second}
-use Rattle.zic_occurrences.specs.Order.{IsInstant}
-use Rattle.zic_occurrences.proofs.Bounds.{instant_from}
-use Rattle.zic_occurrences.proofs.LastNamed.{named_year}
+use Rattle.zic_states.specs.Occurrence.{Occurrence, IsOccurrence, year_second}
+use Rattle.zic_states.specs.Order.{IsInstant}
+use Rattle.zic_states.proofs.Bounds.{instant_from}
+use Rattle.zic_states.proofs.LastNamed.{named_year}
 use Rattle.zic_states.specs.Change.{IsChange}
 use Rattle.zic_states.specs.End.{IsEndBy, IsEndOfFixed, IsLastYear}
 use Rattle.zic_states.specs.InForce.{InForce, RulesHaveInForce}

@@ -13,7 +13,7 @@ use Rattle.zic_posix.specs.Printing.{printed}
 use Rattle.zic_posix.proofs.PrintLemmas.{printed_spells}
 use Rattle.zic_footer.specs.Making.{IsMade, GoesOn}
 use Rattle.zic_tzif.specs.declared.content.Change.{Change}
-use Rattle.zic_tzif.specs.declared.limit.TheConstants.{MAX_TRANSITIONS, MAX_TYPES, MAX_CHARACTERS}
+use Rattle.zic_tzif.specs.declared.content.TheConstants.{MAX_TRANSITIONS, MAX_TYPES, MAX_CHARACTERS}
 use Rattle.zic_tzif.specs.Content.{Content, IsFooter, IsWritable}
 use Rattle.zic_table.specs.ContentOf.{states_of, names_of, ended, local_type, transition, limits, IsContentOf}
 use Rattle.zic_table.specs.code.LocalTypes.{AreLocalTypes}

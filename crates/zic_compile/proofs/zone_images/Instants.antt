@@ -8,7 +8,7 @@ use Rattle.zic_base.specs.State.{Shown}
 use Rattle.zic_base.specs.declared.fault.Kind.TheVariants as kind
 use Rattle.zic_source.specs.Sound.{IsSoundSource}
 use Rattle.zic_base.proofs.Elements.{first_contained, cons_cases, contains_got, into_map}
-use Rattle.zic_words.specs.Limits.{is_abbreviation}
+use Rattle.zic_lines.specs.Limits.{is_abbreviation}
 use Rattle.zic_states.specs.Change as of_zone
 use Rattle.zic_states.specs.Change.{IsChange, AreChanges, IsBeforeChanges, IsAfterChanges, IsFirstState}
 use Rattle.zic_states.specs.End.{IsEnd}

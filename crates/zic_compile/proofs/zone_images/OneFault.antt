@@ -8,12 +8,12 @@ use Rattle.zic_base.specs.Fault.{kind_number}
 use Rattle.zic_base.specs.declared.fault.Fault.{Fault}
 use Rattle.zic_base.specs.declared.fault.Kind.{Kind}
 use Rattle.zic_base.specs.declared.fault.Kind.TheVariants.{OffsetRange, RulesOutOfOrder, UntilNotRising, NoLetter, BadAbbreviation}
-use Rattle.zic_base.specs.declared.place.Place.{Place}
+use Rattle.zic_base.specs.declared.fault.Place.{Place}
 use Rattle.zic_lines.specs.declared.rules.Rules.{Rules}
 use Rattle.zic_source.specs.Sound.{IsSoundSource}
 use Rattle.zic_source.specs.Source.{ZoneLines}
 use Rattle.zic_source.proofs.reading.Stops.{same_fault}
-use Rattle.zic_occurrences.specs.Occurrence.{year_second}
+use Rattle.zic_states.specs.Occurrence.{year_second}
 use Rattle.zic_states.specs.End.{IsEnd, IsEndBy}
 use Rattle.zic_states.specs.Fault.{Applies, IsFaultOfStates, IsSound}
 use Rattle.zic_states.specs.Zone.{Zone, lines_of}

@@ -6,12 +6,12 @@ use Rattle.std.proofs.lemmas.Option.{none-some, same_Some}
 use Rattle.zic_base.specs.Check.{first_failed}
 use Rattle.zic_base.specs.State.{Shown}
 use Rattle.zic_base.specs.declared.fault.Fault.{Fault}
-use Rattle.zic_base.specs.declared.place.Place.{Place}
+use Rattle.zic_base.specs.declared.fault.Place.{Place}
 use Rattle.zic_lines.specs.declared.rules.Rules.{Rules}
 use Rattle.zic_lines.specs.declared.rules.Rules.TheVariants.{Set}
 use Rattle.zic_lines.specs.declared.zone_line.ZoneLine.{ZoneLine}
 use Rattle.zic_base.proofs.Elements.{only_one}
-use Rattle.zic_occurrences.specs.Occurrence.{IsMember}
+use Rattle.zic_states.specs.Occurrence.{IsMember}
 use Rattle.zic_states.specs.Change as of_zone
 use Rattle.zic_states.specs.End.{IsLastLine}
 use Rattle.zic_states.specs.Tail.{HasNoSet}

@@ -3,7 +3,7 @@ use Rattle.std.proofs.Common.{◌≡◌, true, List, length, map, Some}
 use Rattle.std.specs.Prelude.{ℕ, Contains, slice_get}
 use Rattle.zic_base.specs.State.{Shown}
 use Rattle.zic_base.proofs.Elements.{contains_got}
-use Rattle.zic_words.specs.Limits.{is_abbreviation}
+use Rattle.zic_lines.specs.Limits.{is_abbreviation}
 use Rattle.zic_states.specs.Change as of_zone
 use Rattle.zic_tzif.specs.Content.{type_state}
 use Rattle.zic_table.specs.ContentOf.{before, same_state, states_of, names_of, ended, local_type}

@@ -2,11 +2,11 @@
 use Rattle.std.specs.Prelude.{◌≡◌, ◌⊎◌, ℕ, List, slice_get, All, AllPairs, Contains, IfSome, IsSomeAnd}
 use Rattle.std.specs.List.{AllZip}
 use Rattle.zic_base.specs.Place.{IsBefore}
-use Rattle.zic_base.specs.declared.place.Place.{Place}
+use Rattle.zic_base.specs.declared.fault.Place.{Place}
 use Rattle.zic_lines.specs.declared.link.Link.{Link}
 use Rattle.zic_source.specs.Links.{EndsAt}
 use Rattle.zic_source.specs.Source.{SourceLines, zone_at}
-use Rattle.zic_files.specs.declared.entry.Entry.{Entry}
+use Rattle.zic_files.specs.declared.names.Entry.{Entry}
 
 -- the entry of the zone of this number
 pub record IsEntryOfZone (source : SourceLines) (number : ℕ) (entry : Entry) : Type 0 where

@@ -3,9 +3,9 @@ use Rattle.std.specs.Prelude.{ℕ, ◌+◌, ◌*◌, ◌≤◌, ◌<◌, List, l
 use Rattle.std.specs.Int.{div_ceil}
 use Rattle.zic_base.specs.declared.fault.Fault.{Fault}
 use Rattle.zic_source.specs.Source.{SourceLines}
-use Rattle.zic_source.specs.declared.limit.TheConstants.{MAX_NAMES}
+use Rattle.zic_source.specs.declared.source.TheConstants.{MAX_NAMES}
 use Rattle.zic_files.specs.File.{FileImage}
-use Rattle.zic_plan.specs.declared.plan.TheConstants.{MAX_OF_PIECE}
+use Rattle.zic_layouts.specs.declared.plan.TheConstants.{MAX_OF_PIECE}
 use Rattle.zic_compile.specs.code.Zones.{AreImagesWithin, IsFaultWithin}
 
 -- a source, and how many zones a piece has; the last may have fewer

@@ -4,8 +4,8 @@ use Rattle.zic_pieces.specs.declared.task.TaskStop.{TaskStop}
 use Rattle.zic_pieces.specs.declared.task.TaskStop.TheVariants as task
 use Rattle.zic_source.specs.Source.{SourceLines}
 use Rattle.zic_compile.specs.Files.{IsFaultOfFiles}
-use Rattle.zic_base.specs.declared.run_stop.RunStop.{RunStop}
-use Rattle.zic_base.specs.declared.run_stop.RunStop.TheVariants.{Source, Memory, NoThread}
+use Rattle.zic_base.specs.declared.stops.RunStop.{RunStop}
+use Rattle.zic_base.specs.declared.stops.RunStop.TheVariants.{Source, Memory, NoThread}
 
 -- the end of a run for that of the task of its zones
 abbrev pub end_of : TaskStop Fault → RunStop

@@ -1,7 +1,7 @@
 -- The UT offsets of a file.
 use Rattle.std.specs.Prelude.{◌≤◌, ℤ, unsigned_abs, Option}
 use Rattle.zic_base.specs.State.{Shown}
-use Rattle.zic_base.specs.declared.limit.TheConstants.{FARTHEST_FILE_OFFSET}
+use Rattle.zic_base.specs.declared.constants.TheConstants.{FARTHEST_FILE_OFFSET}
 use Rattle.zic_tzif.specs.Content.{Content}
 use Rattle.zic_tzif.specs.Answer.{Answers}
 use Rattle.zic_dump.specs.Changes.{shown_for}

@@ -2,7 +2,7 @@
 use Rattle.std.specs.Prelude.{◌<◌, List, length, map, All}
 use Rattle.zic_files.specs.File.{FileImage, file_of}
 use Rattle.zic_files.specs.Sound.{AreSoundFiles}
-use Rattle.zic_files.specs.declared.entry.Entry.{Entry}
+use Rattle.zic_files.specs.declared.names.Entry.{Entry}
 use Rattle.zic_files.specs.declared.name_index.NameIndex.{NameIndex}
 use Rattle.zic_files.specs.code.NameIndex.{AreNumbersOf}
 

@@ -1,7 +1,7 @@
 -- How the code finds the file of a name.
 use Rattle.std.specs.Prelude.{◌≡◌, ◌≢◌, ℕ, ◌+◌, ◌-◌, ◌*◌, ◌/◌, ◌%◌, ◌^◌, ◌<◌, ◌≤◌, List, Some, bit_and, length, slice_get, slice_index}
 use Rattle.std.specs.Simd.Lanes.{fold_l}
-use Rattle.zic_files.specs.declared.entry.Entry.{Entry}
+use Rattle.zic_files.specs.declared.names.Entry.{Entry}
 use Rattle.zic_files.specs.declared.name_index.NameIndex.{NameIndex}
 
 -- One step of a name's hash: the polynomial with its bytes as coefficients, at the key, modulo the prime 2 ^ 31 - 1 (a number below

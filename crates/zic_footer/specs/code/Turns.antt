@@ -4,10 +4,10 @@ use Rattle.std.specs.Int.{IsInRange, abs_diff}
 use Rattle.std.specs.Option.{MatchOption}
 use Rattle.zic_posix.specs.Footer.{TzString}
 use Rattle.zic_calendar.specs.DayForm.{FormFits}
-use Rattle.zic_lines.specs.declared.moment.Moment.{Moment}
-use Rattle.zic_occurrences.specs.Occurrence.{nominal_second}
+use Rattle.zic_lines.specs.declared.rule_line.Moment.{Moment}
+use Rattle.zic_states.specs.Occurrence.{nominal_second}
 use Rattle.zic_source.specs.Sound.{IsSoundMoment, IsWithinDay}
-use Rattle.zic_words.specs.declared.time.TheConstants.{GREATEST_OFFSET}
+use Rattle.zic_lines.specs.declared.time.TheConstants.{GREATEST_OFFSET}
 use Rattle.zic_rules.specs.declared.tail.TailRule.{TailRule}
 use Rattle.zic_footer.specs.Making.{IsPair, IsWide}
 use Rattle.zic_footer.specs.code.Edges.{edge_of, by_rules}

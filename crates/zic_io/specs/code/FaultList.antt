@@ -2,7 +2,7 @@
 use Rattle.std.specs.Prelude.{◌≡◌, ◌++◌, ◌-◌, ◌^◌, ℕ, true, false, List, Option, None, Some, length, min, option_map, slice_get}
 use Rattle.std.specs.Global.{Vec}
 use Rattle.zic_base.specs.declared.row_fault.RowFault.{RowFault}
-use Rattle.zic_plan.specs.Noted.{RowNote}
+use Rattle.zic_layouts.specs.Noted.{RowNote}
 use Rattle.zic_io.specs.Faults.{AreLines, FaultNotes, HasFailed, HasText, IsHead, IsRecordLine, ListNotes, fault_of, header_line}
 use Rattle.zic_io.specs.declared.fault_line.FaultFields.{FaultFields}
 use Rattle.zic_io.specs.declared.list_output.ListOutput.{ListOutput}

@@ -1,6 +1,6 @@
 -- The text that one word names.
 use Rattle.std.specs.Prelude.{◌≡◌, ◌⊎◌, ℕ, List}
-use Rattle.zic_base.specs.declared.word.TheConstants.{STANDARD_INPUT}
+use Rattle.zic_base.specs.declared.constants.TheConstants.{STANDARD_INPUT}
 use Rattle.zic_counted.specs.Counts.{Counts, HasFailedSince, HasTakenAbove}
 use Rattle.zic_io.specs.declared.failure.Failure.{Failure}
 use Rattle.zic_io.specs.declared.input.TheConstants.{MAX_SOURCE}

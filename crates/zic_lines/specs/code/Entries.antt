@@ -1,6 +1,6 @@
 -- The entries that functions of their own read.
 use Rattle.std.specs.Prelude.{◌≡◌, ℕ, List, Result, Ok, Some, false}
-use Rattle.zic_base.specs.declared.place.Place.{Place}
+use Rattle.zic_base.specs.declared.fault.Place.{Place}
 use Rattle.zic_lines.specs.declared.zone_line.ZoneLine.{ZoneLine}
 use Rattle.zic_lines.specs.declared.entry.Entry.{Entry}
 use Rattle.zic_lines.specs.declared.entry.Entry.TheVariants as entries

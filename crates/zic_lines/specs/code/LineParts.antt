@@ -2,24 +2,24 @@
 use Rattle.std.specs.Prelude.{◌≡◌, ◌+◌, ℕ, not, List, [], ◌∷◌, is_some, Option, Some, IsTrue}
 use Rattle.zic_base.specs.Check.{Check, check}
 use Rattle.zic_base.specs.Option.{◌>>=◌, some_and}
-use Rattle.zic_base.specs.declared.place.Place.{Place}
+use Rattle.zic_base.specs.declared.fault.Place.{Place}
 use Rattle.zic_base.specs.declared.fault.Kind.TheVariants.{Year, YearOrder, Reserved, Month, Day, Time, Save, Letter, Format}
 use Rattle.zic_calendar.specs.declared.day_form.On.{On}
-use Rattle.zic_words.specs.Year.{year_of, last_year_of, ends_before, is_one_leap_year}
-use Rattle.zic_words.specs.Month.{month_of}
-use Rattle.zic_words.specs.DayForm.{day_form_of}
-use Rattle.zic_words.specs.Clock.{clock_time_of}
-use Rattle.zic_words.specs.Dash.{is_dash}
-use Rattle.zic_words.specs.Saving.{saving_of}
-use Rattle.zic_words.specs.Letter.{letter_of}
-use Rattle.zic_lines.specs.declared.moment.Moment.{Moment}
+use Rattle.zic_lines.specs.Year.{year_of, last_year_of, ends_before, is_one_leap_year}
+use Rattle.zic_lines.specs.Month.{month_of}
+use Rattle.zic_lines.specs.DayForm.{day_form_of}
+use Rattle.zic_lines.specs.Clock.{clock_time_of}
+use Rattle.zic_lines.specs.Dash.{is_dash}
+use Rattle.zic_lines.specs.Saving.{saving_of}
+use Rattle.zic_lines.specs.Letter.{letter_of}
+use Rattle.zic_lines.specs.declared.rule_line.Moment.{Moment}
 use Rattle.zic_lines.specs.declared.rule_line.Years.{Years}
 use Rattle.zic_lines.specs.declared.rule_line.Times.{Times}
 use Rattle.zic_lines.specs.declared.rule_line.Effect.{Effect}
-use Rattle.zic_lines.specs.declared.rule.Rule.{Rule}
+use Rattle.zic_lines.specs.declared.rule_line.Rule.{Rule}
 use Rattle.zic_lines.specs.Format.{format_of}
-use Rattle.zic_lines.specs.declared.field_fault.FieldFault.{FieldFault}
-use Rattle.zic_lines.specs.declared.field_fault.FieldFault.TheVariants.{At}
+use Rattle.zic_lines.specs.declared.entry.FieldFault.{FieldFault}
+use Rattle.zic_lines.specs.declared.entry.FieldFault.TheVariants.{At}
 use Rattle.zic_lines.specs.Checks.{years_of, rule_day_of, until_checks}
 
 -- the checks of FROM and TO

@@ -2,8 +2,8 @@
 use Rattle.std.specs.Prelude.{◌≡◌, ℕ, List, [], map, slice_index_or, Some}
 use Rattle.std.specs.Cow.{cow_slice_items}
 use Rattle.std.specs.declared.borrow.CowSlice.{CowSlice}
-use Rattle.zic_words.specs.declared.keyword.Keyword.{Keyword}
-use Rattle.zic_words.specs.Keyword.{keyword_of}
+use Rattle.zic_lines.specs.declared.keyword.Keyword.{Keyword}
+use Rattle.zic_lines.specs.Keyword.{keyword_of}
 
 -- the texts of fields that are borrowed or owned
 abbrev pub texts_of : {Z : Type 0} → List (CowSlice ℕ Z) → List (List ℕ)

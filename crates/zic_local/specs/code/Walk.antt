@@ -3,15 +3,15 @@ use Rattle.std.specs.Prelude.{◌≡◌, ℕ, ◌+◌, ◌≤◌, ℤ, pos, ◌+
 use Rattle.std.specs.Prelude.{FitsSigned}
 use Rattle.std.specs.Int.{w64}
 use Rattle.zic_posix.specs.Instants.{Includes, AreBetween}
-use Rattle.zic_posix.specs.declared.instants.Instants.{Instants}
+use Rattle.zic_posix.specs.declared.span.Instants.{Instants}
 use Rattle.zic_base.specs.State.{Shown}
-use Rattle.zic_base.specs.declared.limit.TheConstants.{FARTHEST_FILE_OFFSET}
+use Rattle.zic_base.specs.declared.constants.TheConstants.{FARTHEST_FILE_OFFSET}
 use Rattle.zic_tzif.specs.Content.{Content}
 use Rattle.zic_tzif.specs.Answer.{AnswersThroughout, MayChangeAt}
-use Rattle.zic_local.specs.declared.local_instants.Gap.{Gap}
-use Rattle.zic_local.specs.declared.local_instants.Fold.{Fold}
-use Rattle.zic_local.specs.declared.local_instants.LocalInstants.{LocalInstants}
-use Rattle.zic_local.specs.declared.local_instants.LocalInstants.TheVariants as instants
+use Rattle.zic_local.specs.declared.local_time.Gap.{Gap}
+use Rattle.zic_local.specs.declared.local_time.Fold.{Fold}
+use Rattle.zic_local.specs.declared.local_time.LocalInstants.{LocalInstants}
+use Rattle.zic_local.specs.declared.local_time.LocalInstants.TheVariants as instants
 use Rattle.zic_local.specs.LocalTime.{IsInstantOf, AreJust, PassesOver, IsGapOf}
 
 -- an instant of the local time that isn't after another

@@ -2,9 +2,9 @@
 use Rattle.std.specs.Prelude.{◌≡◌, ℕ, zero, suc, ◌+◌, ◌<◌, ◌≤◌, ◌⊎◌, Bool, true, false, List, [], ◌∷◌}
 use mathlib.Core.Option.{some}
 use lib.ListN.{get_elem?}
-use Rattle.zic_pieces.specs.declared.event.Event.{Event}
-use Rattle.zic_pieces.specs.declared.event.Event.TheVariants.{Drew, Reported, Glanced}
-use Rattle.zic_pieces.specs.declared.event.Known.{Known}
+use Rattle.zic_pieces.specs.declared.pass.Event.{Event}
+use Rattle.zic_pieces.specs.declared.pass.Event.TheVariants.{Drew, Reported, Glanced}
+use Rattle.zic_pieces.specs.declared.pass.Known.{Known}
 use Rattle.zic_pieces.specs.Events.{Has, draws, past, weigh}
 
 -- f of each pass, added up

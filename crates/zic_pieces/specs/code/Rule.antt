@@ -1,7 +1,7 @@
 -- The rule of the two shared words, and what the pass that takes an atomic step learns by it.
 use Rattle.std.specs.Prelude.{◌≡◌, ℕ, ◌+◌, ◌≤◌, Bool, true, [], ◌∷◌, length}
 use Rattle.atomic_table.specs.Table.{State, Me, Step}
-use Rattle.zic_pieces.specs.declared.event.Known.{Known}
+use Rattle.zic_pieces.specs.declared.pass.Known.{Known}
 use Rattle.zic_pieces.specs.Events.{past}
 use Rattle.zic_pieces.specs.Given.{given}
 use Rattle.zic_pieces.specs.code.Whole.{is_whole}

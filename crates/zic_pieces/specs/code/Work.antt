@@ -2,8 +2,8 @@
 use Rattle.std.specs.Prelude.{◌≡◌, ℕ, ◌<◌, ◌≤◌, ◌⊎◌, true, nat_lt, List, [], ◌∷◌, ◌++◌, Option, Some, None, Result, Ok, if◌then◌else◌}
 use mathlib.Core.Option.{some}
 use lib.ListN.{get_elem?}
-use Rattle.zic_pieces.specs.declared.event.Event.{Event}
-use Rattle.zic_pieces.specs.declared.event.Event.TheVariants.{Reported}
+use Rattle.zic_pieces.specs.declared.pass.Event.{Event}
+use Rattle.zic_pieces.specs.declared.pass.Event.TheVariants.{Reported}
 use Rattle.zic_pieces.specs.declared.task.PieceStop.{PieceStop}
 use Rattle.zic_pieces.specs.Events.{Has, times}
 use Rattle.zic_pieces.specs.Given.{given}

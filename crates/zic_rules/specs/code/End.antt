@@ -3,8 +3,8 @@ use Rattle.std.specs.Prelude.{◌≡◌, ℕ, zero, suc, max, ◌*◌, ℤ, pos,
 use Rattle.zic_lines.specs.declared.rules.Rules.{Rules}
 use Rattle.zic_lines.specs.declared.rules.Rules.TheVariants.{Standard, Amount, Set}
 use Rattle.zic_lines.specs.declared.zone_line.ZoneLine.{ZoneLine}
-use Rattle.zic_occurrences.specs.Occurrence.{RuleSet, year_second}
-use Rattle.zic_occurrences.specs.Listing.{IsLastNamed}
+use Rattle.zic_states.specs.Occurrence.{RuleSet, year_second}
+use Rattle.zic_states.specs.Listing.{IsLastNamed}
 use Rattle.zic_states.specs.End.{IsYearOf, IsEndBy}
 use Rattle.zic_states.specs.Zone.{Zone, Ends}
 

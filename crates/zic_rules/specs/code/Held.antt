@@ -1,7 +1,7 @@
 -- Lines and rules that hold from one period to the next.
 use Rattle.std.specs.Prelude.{◌≡◌, ℕ, zero, suc, ℤ, ◌<ℤ◌, ◌≤ℤ◌, List, [], ◌∷◌, Option, Some, None}
 use Rattle.zic_states.specs.Zone.{Zone, Ends}
-use Rattle.zic_rules.specs.declared.period.Period.{Period}
+use Rattle.zic_rules.specs.declared.line.Period.{Period}
 use Rattle.zic_rules.specs.code.Period.{Holds}
 
 -- at this instant or later; with none, at every instant

@@ -1,19 +1,19 @@
 -- The occurrences of one line.
 use Rattle.std.specs.Prelude.{◌≡◌, ℕ, zero, suc, ℤ, pos, ◌+ℤ◌, ◌*◌, ◌<ℤ◌, List, [], Option, Some, None, All}
 use Rattle.std.specs.Int.{int_max}
-use Rattle.zic_lines.specs.declared.rule.Rule.{Rule}
+use Rattle.zic_lines.specs.declared.rule_line.Rule.{Rule}
 use Rattle.zic_lines.specs.declared.rules.Rules.{Rules}
 use Rattle.zic_lines.specs.declared.rules.Rules.TheVariants.{Standard, Amount, Set}
 use Rattle.zic_lines.specs.declared.zone_line.ZoneLine.{ZoneLine}
-use Rattle.zic_occurrences.specs.declared.occurrence.TimedOccurrence.{TimedOccurrence}
-use Rattle.zic_occurrences.specs.Order.{IsInOrder, IsOutOfOrder}
-use Rattle.zic_occurrences.specs.Listing.{AreOccurrencesTo}
+use Rattle.zic_states.specs.declared.occurrence.TimedOccurrence.{TimedOccurrence}
+use Rattle.zic_states.specs.Order.{IsInOrder, IsOutOfOrder}
+use Rattle.zic_states.specs.Listing.{AreOccurrencesTo}
 use Rattle.zic_states.specs.ByList.{AreRising, rule_at}
 use Rattle.zic_states.specs.InForce.{InForce, IsInForceBy, IsRuleOf}
 use Rattle.zic_states.specs.Until.{set_of}
 use Rattle.zic_states.specs.Zone.{Zone, line_at, Governs, HasInForceBy, HasInForce, IsWindowEnd}
-use Rattle.zic_words.specs.Time.{IsWithin}
-use Rattle.zic_rules.specs.declared.period.Period.{Period}
+use Rattle.zic_lines.specs.Time.{IsWithin}
+use Rattle.zic_rules.specs.declared.line.Period.{Period}
 use Rattle.zic_rules.specs.code.Held.{IsFrom}
 
 -- where RULES name a set, it is in order on a line of this standard offset

@@ -8,7 +8,7 @@ use Rattle.zic_source.specs.Source.{lines_of_zone}
 use Rattle.zic_states.specs.Fault.{HasRulesOutOfOrder, HasUntilNotRising}
 use Rattle.zic_states.specs.InForce.{InForce, IsInForceBy, IsRuleOf}
 use Rattle.zic_states.specs.Zone.{Zone, lines_of, Governs, HasInForce}
-use Rattle.zic_rules.specs.declared.period.Period.{Period}
+use Rattle.zic_rules.specs.declared.line.Period.{Period}
 use Rattle.zic_rules.specs.declared.zone.Zone as zones
 use Rattle.zic_rules.specs.Timeline.{zone_of}
 

@@ -2,11 +2,11 @@
 use Rattle.std.specs.Prelude.{◌≡◌, ◌≢◌, ◌≤◌, ◌<◌, ℕ, zero, suc, ℤ, ◌+ℤ◌, ◌<ℤ◌, List, [], ◌∷◌, ◌++◌, true, false, Option, Some, None, option_map, IfSome, Contains, slice_get, slice_index, length, unsigned_abs}
 use Rattle.zic_base.specs.declared.fault.Kind.{Kind}
 use Rattle.zic_base.specs.declared.fault.Kind.TheVariants as kind
-use Rattle.zic_lines.specs.declared.rule.Rule.{Rule}
+use Rattle.zic_lines.specs.declared.rule_line.Rule.{Rule}
 use Rattle.zic_lines.specs.declared.zone_line.ZoneLine.{ZoneLine}
-use Rattle.zic_words.specs.declared.time.TheConstants.{GREATEST_OFFSET}
+use Rattle.zic_lines.specs.declared.time.TheConstants.{GREATEST_OFFSET}
 use Rattle.zic_states.specs.Abbreviation.{abbreviation}
-use Rattle.zic_words.specs.Limits.{is_abbreviation}
+use Rattle.zic_lines.specs.Limits.{is_abbreviation}
 use Rattle.zic_states.specs.Change.{Change}
 use Rattle.zic_states.specs.End.{IsEnd}
 use Rattle.zic_states.specs.Fault.{HasOffsetOutOfRange, HasNoLetter, HasBadAbbreviation, IsSavingOf, IsSound}
@@ -16,8 +16,8 @@ use Rattle.zic_states.specs.Refusal.{IsRefusal}
 use Rattle.zic_base.specs.State.{Shown}
 use Rattle.zic_states.specs.Zone.{Zone, Shows}
 use Rattle.zic_rules.specs.declared.changes.DatedState.{DatedState}
-use Rattle.zic_rules.specs.declared.period.Period.{Period}
-use Rattle.zic_rules.specs.declared.period.Periods.{Periods}
+use Rattle.zic_rules.specs.declared.line.Period.{Period}
+use Rattle.zic_rules.specs.declared.line.Periods.{Periods}
 use Rattle.zic_rules.specs.declared.zone_state.ZoneState.{ZoneState}
 use Rattle.zic_rules.specs.code.Period.{ArePeriods, Holds}
 use Rattle.zic_rules.specs.code.Held.{IsFrom, ComesAfter}

@@ -5,7 +5,7 @@ use Rattle.std.proofs.lemmas.Bool.{le-leb, lt-ltb, le-ltb}
 use Rattle.std.proofs.lemmas.Grind.{flat_map-append}
 use Rattle.std.proofs.lemmas.List.{length-append}
 use Rattle.zic_base.specs.Check.{Check, check, first_failed}
-use Rattle.zic_base.specs.declared.place.Place.{Place}
+use Rattle.zic_base.specs.declared.fault.Place.{Place}
 use Rattle.zic_base.specs.declared.fault.Fault.{Fault}
 use Rattle.zic_base.specs.Fault.{fault_at, IsFirstFailed}
 use Rattle.zic_base.specs.declared.fault.Kind.{Kind}
@@ -15,9 +15,9 @@ use Rattle.zic_lines.specs.Grammar.{IsLine}
 use Rattle.zic_lines.specs.Field.{fields}
 use Rattle.zic_lines.specs.Checks.{byte_checks, field_checks, line_checks}
 use Rattle.zic_lines.specs.declared.zone_line.ZoneLine.{ZoneLine}
-use Rattle.zic_lines.specs.declared.rule.Rule.{Rule}
+use Rattle.zic_lines.specs.declared.rule_line.Rule.{Rule}
 use Rattle.zic_lines.specs.declared.entry.Entry.TheVariants as entries
-use Rattle.zic_source.specs.declared.limit.TheConstants.{MAX_RULES, MAX_RULES_OF_SET}
+use Rattle.zic_source.specs.declared.source.TheConstants.{MAX_RULES, MAX_RULES_OF_SET}
 use Rattle.zic_source.specs.Source.{SourceLines, ZoneLines, set_size, set_rules, lines_of_zone}
 use Rattle.zic_source.specs.Checks.{entry_checks}
 use Rattle.zic_source.proofs.lookups.Numbers.{set_rules_size}

@@ -4,7 +4,7 @@ use Rattle.std.specs.Prelude.{slice_get}
 use Rattle.std.proofs.lemmas.List.{take_more}
 use Rattle.std.proofs.lemmas.List.Elements.{Contains-append_left, Contains-push, Contains-push_cases}
 use Rattle.std.proofs.lemmas.Option.{slice_get_within, get_or_from_slice_get}
-use Rattle.zic_base.specs.declared.place.Place.{Place}
+use Rattle.zic_base.specs.declared.fault.Place.{Place}
 use Rattle.zic_base.specs.declared.fault.Fault.{Fault}
 use Rattle.zic_base.specs.Place.{IsBefore}
 use Rattle.zic_source.specs.code.Faults.{IsEarlier, IsFirst, IsFirstOf}

@@ -6,11 +6,11 @@ use Rattle.zic_source.specs.code.Sets.{numbers_of, IndexesSets}
 use Rattle.zic_lines.specs.declared.rules.Rules.{Rules}
 use Rattle.zic_lines.specs.declared.rules.Rules.TheVariants.{Set}
 use Rattle.zic_source.proofs.lookups.Numbers.{set_rules_none}
-use Rattle.zic_base.specs.declared.place.Place.{Place}
+use Rattle.zic_base.specs.declared.fault.Place.{Place}
 use Rattle.zic_base.specs.declared.fault.Fault.{Fault}
 use Rattle.zic_base.specs.declared.fault.Kind.{Kind}
 use Rattle.zic_base.specs.declared.fault.Kind.TheVariants.{UnknownRules, UnknownTarget, LinkCycle}
-use Rattle.zic_lines.specs.declared.rule.Rule.{Rule}
+use Rattle.zic_lines.specs.declared.rule_line.Rule.{Rule}
 use Rattle.zic_lines.specs.declared.zone_line.ZoneLine.{ZoneLine}
 use Rattle.zic_lines.specs.declared.link.Link.{Link}
 use Rattle.zic_source.specs.declared.owners.Owners.{Owners}

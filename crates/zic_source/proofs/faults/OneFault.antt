@@ -1,6 +1,6 @@
 -- A source that is read has one first fault as a whole.
 use Rattle.std.proofs.Common.{◌≡◌, ℕ, ⊎_elim, List, refl, sym, subst, ◌∙◌}
-use Rattle.zic_base.specs.declared.place.Place.{Place}
+use Rattle.zic_base.specs.declared.fault.Place.{Place}
 use Rattle.zic_base.specs.declared.fault.Fault.{Fault}
 use Rattle.zic_base.specs.declared.fault.Kind.{Kind}
 use Rattle.zic_base.specs.declared.fault.Kind.TheVariants.{UnknownRules, UnknownTarget, LinkCycle}

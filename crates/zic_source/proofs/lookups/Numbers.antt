@@ -5,7 +5,7 @@ use Rattle.std.specs.List.{list_any, enumerate_from}
 use Rattle.std.specs.Cmp.Lexicographic.{nat_list_eq_equiv}
 use Rattle.std.proofs.lemmas.Bool.{ne_eqb}
 use Rattle.std.proofs.lemmas.List.Sums.{sum_by-cons}
-use Rattle.zic_lines.specs.declared.rule.Rule.{Rule}
+use Rattle.zic_lines.specs.declared.rule_line.Rule.{Rule}
 use Rattle.zic_source.specs.declared.sets.Sets.{Sets}
 use Rattle.zic_source.specs.Source.{is_of_set, set_size, is_set, set_rules}
 use Rattle.zic_source.specs.code.Sets.{numbers_of, IndexesSets}

@@ -6,13 +6,13 @@ use Rattle.std.proofs.lemmas.List.Concat.{length-flat_map}
 use Rattle.std.proofs.lemmas.List.Sums.{sum_by-cons}
 use Rattle.zic_base.specs.declared.fault.Kind.{Kind}
 use Rattle.zic_base.specs.Check.{first_failed}
-use Rattle.zic_lines.specs.declared.rule.Rule.{Rule}
+use Rattle.zic_lines.specs.declared.rule_line.Rule.{Rule}
 use Rattle.zic_lines.specs.declared.link.Link.{Link}
 use Rattle.zic_lines.specs.declared.zone_line.ZoneLine.{ZoneLine}
 use Rattle.zic_lines.specs.declared.entry.Entry.{Entry}
 use Rattle.zic_lines.specs.declared.entry.Entry.TheVariants as entries
 use Rattle.zic_lines.specs.Entry.{rules_in, links_in, zone_entries_in, names_in}
-use Rattle.zic_source.specs.declared.limit.TheConstants.{MAX_RULES, MAX_RULES_OF_SET, MAX_ZONE_LINES, MAX_NAMES}
+use Rattle.zic_source.specs.declared.source.TheConstants.{MAX_RULES, MAX_RULES_OF_SET, MAX_ZONE_LINES, MAX_NAMES}
 use Rattle.zic_source.specs.Source.{ZoneLines, SourceLines, set_size, zone_lines_of, entries_of_zone}
 use Rattle.zic_source.specs.Links.{is_link_name, is_named}
 use Rattle.zic_source.specs.Checks.{entry_checks}

@@ -1,7 +1,7 @@
 -- The lines of a source stand in the order of the texts.
 use Rattle.std.proofs.Common.{◌≢◌, ℕ, List, [], ◌∷◌, map, sym, subst}
 use Rattle.std.specs.Prelude.{Contains, All, flat_map}
-use Rattle.zic_base.specs.declared.place.Place.{Place}
+use Rattle.zic_base.specs.declared.fault.Place.{Place}
 use Rattle.zic_lines.specs.declared.link.Link.{Link}
 use Rattle.zic_lines.specs.declared.entry.Entry.{Entry}
 use Rattle.zic_lines.specs.declared.entry.Entry.TheVariants as entries

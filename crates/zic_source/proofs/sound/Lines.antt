@@ -4,22 +4,22 @@ use Rattle.std.specs.Prelude.{ℤ, pos, ◌≤ℤ◌, ◌==◌, IfSome, option_m
 use Rattle.std.specs.Int.{IsInRange}
 use Rattle.std.proofs.lemmas.Bool.{ltb-false, and_parts, eqb-true, not-true, not-false}
 use Rattle.std.proofs.lemmas.Int.{ints}
-use Rattle.zic_base.specs.declared.place.Place.{Place}
+use Rattle.zic_base.specs.declared.fault.Place.{Place}
 use Rattle.zic_calendar.specs.Calendar.{is_leap_year}
 use Rattle.zic_calendar.specs.DayForm.{FormFits}
-use Rattle.zic_words.specs.declared.saving.Saving.{Saving}
-use Rattle.zic_words.specs.declared.clock.TheConstants.{LATEST_TIME}
-use Rattle.zic_words.specs.declared.year.TheConstants.{LAST_YEAR}
-use Rattle.zic_words.specs.Dash.{is_dash}
-use Rattle.zic_words.specs.Letter.{is_letter, without_dash, letter_of}
-use Rattle.zic_words.specs.SetName.{is_set_name}
-use Rattle.zic_words.specs.Time.{IsWithin}
-use Rattle.zic_words.specs.Clock.{clock_time_of}
-use Rattle.zic_words.specs.Saving.{saving_of}
-use Rattle.zic_words.specs.Year.{IsYear, year_of, ends_before, is_one_leap_year}
-use Rattle.zic_words.specs.Month.{IsMonth, month_of}
-use Rattle.zic_words.specs.DayForm.{day_form_of}
-use Rattle.zic_lines.specs.declared.rule.Rule.{Rule}
+use Rattle.zic_lines.specs.declared.time.Saving.{Saving}
+use Rattle.zic_lines.specs.declared.clock.TheConstants.{LATEST_TIME}
+use Rattle.zic_lines.specs.declared.year.TheConstants.{LAST_YEAR}
+use Rattle.zic_lines.specs.Dash.{is_dash}
+use Rattle.zic_lines.specs.Letter.{is_letter, without_dash, letter_of}
+use Rattle.zic_lines.specs.SetName.{is_set_name}
+use Rattle.zic_lines.specs.Time.{IsWithin}
+use Rattle.zic_lines.specs.Clock.{clock_time_of}
+use Rattle.zic_lines.specs.Saving.{saving_of}
+use Rattle.zic_lines.specs.Year.{IsYear, year_of, ends_before, is_one_leap_year}
+use Rattle.zic_lines.specs.Month.{IsMonth, month_of}
+use Rattle.zic_lines.specs.DayForm.{day_form_of}
+use Rattle.zic_lines.specs.declared.rule_line.Rule.{Rule}
 use Rattle.zic_lines.specs.declared.rules.Rules.{Rules}
 use Rattle.zic_lines.specs.declared.rules.Rules.TheVariants.{Standard, Amount, Set}
 use Rattle.zic_lines.specs.declared.until.Until.{Until}
@@ -31,7 +31,7 @@ use Rattle.zic_lines.specs.Until.{until_at, until_of}
 use Rattle.zic_lines.proofs.Options.{bound}
 use Rattle.zic_source.specs.Sound.{IsWithinDay, IsSoundRule, IsSoundUntil, AreSoundRules, IsSoundLine}
 use Rattle.zic_source.specs.Whole.{is_unknown}
-use Rattle.zic_words.proofs.Ranges.{offset_within, clock_time_within, saving_within, year_within, last_year_within, month_within, day_form_fits}
+use Rattle.zic_lines.proofs.WordRanges.{offset_within, clock_time_within, saving_within, year_within, last_year_within, month_within, day_form_fits}
 
 -- what holds of a value, where there is one
 holds : {X : Type 0} (P : X → Type 0) (o : Option X) (x : X) → IfSome o P → o ≡ Some x → P x

@@ -1,7 +1,7 @@
 -- The first of some rules whose flag is standard.
 use Rattle.std.specs.Prelude.{◌≡◌, ℕ, ◌<◌, ℤ, pos, ◌<ℤ◌, ◌≤ℤ◌, false, List, Contains, slice_get, slice_index, Option, Some, None}
-use Rattle.zic_lines.specs.declared.rule.Rule.{Rule}
-use Rattle.zic_occurrences.specs.Occurrence.{nominal_second}
+use Rattle.zic_lines.specs.declared.rule_line.Rule.{Rule}
+use Rattle.zic_states.specs.Occurrence.{nominal_second}
 
 -- the nominal second of a rule's first occurrence
 abbrev pub first_second : Rule → ℤ

@@ -1,12 +1,12 @@
 -- The occurrences of a line, and the time in which the line isn't over.
 use Rattle.std.specs.Prelude.{◌*◌, ℤ, pos, ◌+ℤ◌, ◌<ℤ◌, ◌≤ℤ◌, ◌↔◌, List}
-use Rattle.zic_lines.specs.declared.rule.Rule.{Rule}
+use Rattle.zic_lines.specs.declared.rule_line.Rule.{Rule}
 use Rattle.zic_lines.specs.declared.rules.Rules.{Rules}
 use Rattle.zic_lines.specs.declared.rules.Rules.TheVariants.{Standard, Amount, Set}
 use Rattle.zic_lines.specs.declared.zone_line.ZoneLine.{ZoneLine}
-use Rattle.zic_occurrences.specs.declared.occurrence.TimedOccurrence.{TimedOccurrence}
-use Rattle.zic_occurrences.specs.Order.{IsInOrder}
-use Rattle.zic_occurrences.specs.Listing.{AreOccurrencesBefore}
+use Rattle.zic_states.specs.declared.occurrence.TimedOccurrence.{TimedOccurrence}
+use Rattle.zic_states.specs.Order.{IsInOrder}
+use Rattle.zic_states.specs.Listing.{AreOccurrencesBefore}
 use Rattle.zic_states.specs.Until.{set_of}
 use Rattle.zic_states.specs.Zone.{Zone, IsNotOver}
 

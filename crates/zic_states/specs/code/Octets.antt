@@ -1,7 +1,7 @@
 -- Abbreviations in 16 bytes.
 use Rattle.std.specs.Prelude.{◌≡◌, ℕ, ◌-◌, true, List, ◌++◌, length, replicate, take}
-use Rattle.zic_base.specs.declared.limit.TheConstants.{LONGEST_ABBREVIATION}
-use Rattle.zic_words.specs.Limits.{is_abbreviation}
+use Rattle.zic_base.specs.declared.constants.TheConstants.{LONGEST_ABBREVIATION}
+use Rattle.zic_lines.specs.Limits.{is_abbreviation}
 
 -- a name, and zeros after it
 abbrev pub padded : List ℕ → List ℕ

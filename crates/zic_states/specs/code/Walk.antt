@@ -1,12 +1,12 @@
 -- The walk through the occurrences of a line's set up to its UNTIL.
 use Rattle.std.specs.Prelude.{◌≡◌, ◌+◌, List, ℕ}
-use Rattle.zic_lines.specs.declared.rule.Rule.{Rule}
+use Rattle.zic_lines.specs.declared.rule_line.Rule.{Rule}
 use Rattle.zic_lines.specs.declared.rules.Rules.TheVariants.{Set}
 use Rattle.zic_lines.specs.declared.until.Until.{Until}
 use Rattle.zic_lines.specs.declared.zone_line.ZoneLine.{ZoneLine}
-use Rattle.zic_occurrences.specs.declared.occurrence.TimedOccurrence.{TimedOccurrence}
-use Rattle.zic_occurrences.specs.Order.{IsInOrder}
-use Rattle.zic_occurrences.specs.Listing.{AreOccurrencesTo}
+use Rattle.zic_states.specs.declared.occurrence.TimedOccurrence.{TimedOccurrence}
+use Rattle.zic_states.specs.Order.{IsInOrder}
+use Rattle.zic_states.specs.Listing.{AreOccurrencesTo}
 use Rattle.zic_states.specs.Until.{set_of}
 
 -- The line names a set, which is in order on it, and the list has the set's occurrences to a year after that of the UNTIL.

@@ -5,7 +5,7 @@ use Rattle.std.specs.Str.{bytes_eq}
 use Rattle.zic_base.specs.State.{Shown}
 use Rattle.zic_table.specs.ContentOf.{names_of, ended, local_type}
 use Rattle.zic_tzif.specs.declared.content.LocalType.{LocalType}
-use Rattle.zic_tzif.specs.declared.limit.TheConstants.{MAX_CHARACTERS}
+use Rattle.zic_tzif.specs.declared.content.TheConstants.{MAX_CHARACTERS}
 
 -- the local time types of these states, and the bytes of their designations
 pub record AreLocalTypes (states : List Shown) (types : List LocalType) (names : List ℕ) : Type 0 where

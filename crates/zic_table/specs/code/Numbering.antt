@@ -8,7 +8,7 @@ use Rattle.std.specs.HashMap.{HashMap, get}
 use Rattle.zic_base.specs.State.{Shown, shown}
 use Rattle.zic_base.specs.declared.state.State.{State}
 use Rattle.zic_table.specs.ContentOf.{before, same_state}
-use Rattle.zic_tzif.specs.declared.limit.TheConstants.{MAX_TYPES}
+use Rattle.zic_tzif.specs.declared.content.TheConstants.{MAX_TYPES}
 
 -- the two states are one, as keys are compared
 abbrev pub same_key : State → State → Bool

@@ -6,7 +6,7 @@ use Rattle.zic_states.specs.Change as of_zone
 use Rattle.zic_states.specs.Zone.{Zone}
 use Rattle.zic_table.specs.ContentOf.{states_of, transition}
 use Rattle.zic_tzif.specs.declared.content.Change.{Change}
-use Rattle.zic_tzif.specs.declared.limit.TheConstants.{MAX_TYPES}
+use Rattle.zic_tzif.specs.declared.content.TheConstants.{MAX_TYPES}
 
 -- the states up to this number of changes, and the transitions of these changes
 pub record AreTransitionsTo (zone : Zone) (count : ℕ) (states : List Shown) (transitions : List Change) : Type 0 where

@@ -2,7 +2,7 @@ use Rattle.std.proofs.Common.{List, subst, sym, flat_map}
 use Rattle.zic_source.specs.Source.{SourceLines}
 use Rattle.zic_files.specs.File.{FileImage}
 use Rattle.zic_compile.specs.Files.{AreImagesOf}
-use Rattle.zic_base.specs.declared.run_stop.RunStop.{RunStop}
+use Rattle.zic_base.specs.declared.stops.RunStop.{RunStop}
 use Rattle.zic_compile.specs.code.Stop.{IsStopOfImages, end_of}
 use Rattle.zic_compile.proofs.Joining.{joined_all, task_stop}
 use Rattle.zic_compile.proofs.builder.images_by.Goals as goal

@@ -4,7 +4,7 @@ use Rattle.zic_base.specs.Fault.{fault_of}
 use Rattle.zic_lines.specs.declared.zone_line.ZoneLine.{ZoneLine}
 use Rattle.zic_source.specs.Source.{SourceLines, zone_at, lines_of_zone}
 use Rattle.zic_states.specs.Zone.{Zone}
-use Rattle.zic_occurrences.proofs.Outcomes.{refusal_from}
+use Rattle.zic_states.proofs.Outcomes.{refusal_from}
 use Rattle.zic_rules.specs.Timeline.{zone_of}
 use Rattle.zic_compile.specs.Image.{IsImageOf, ReadsAs}
 use Rattle.zic_compile.proofs.zone_images.Faults.{fault_of_image}

@@ -3,7 +3,7 @@ use Rattle.std.proofs.lemmas.Option.{IfSome_then}
 use Rattle.zic_base.specs.Fault.{fault_of}
 use Rattle.zic_base.proofs.MemoryLemmas.{on_want}
 use Rattle.zic_footer.specs.Making.{IsMade}
-use Rattle.zic_occurrences.proofs.Outcomes.{refusal_from}
+use Rattle.zic_states.proofs.Outcomes.{refusal_from}
 use Rattle.zic_posix.specs.Footer.{TzString}
 use Rattle.zic_compile.specs.Image.{IsFaultOfImage}
 use Rattle.zic_compile.proofs.zone_images.Wants.{never}

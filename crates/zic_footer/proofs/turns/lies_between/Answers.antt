@@ -1,7 +1,7 @@
 use Rattle.std.proofs.Common.{◌≡◌, ℕ, ◌+◌, ⊎_elim, ap, subst, arith, ℤ, pos, negsuc, ◌+ℤ◌, ◌<ℤ◌, ◌≤ℤ◌}
 use Rattle.std.proofs.lemmas.Bool.{cases_lt}
 use Rattle.std.proofs.lemmas.Int.{ints}
-use Rattle.zic_occurrences.specs.Occurrence.{nominal_second}
+use Rattle.zic_states.specs.Occurrence.{nominal_second}
 use Rattle.zic_footer.proofs.Moments.{between_near}
 use Rattle.zic_footer.proofs.turns.lies_between.Goals as goal
 use Rattle.zic_footer.proofs.turns.lies_between.Goals.{else-from-second-via-then-from-second+else-second-to, else-from-second-via-else-from-second}

@@ -1,5 +1,5 @@
 use Rattle.std.proofs.Common.{ℕ, ◌+◌, ◌-◌, ◌<◌, ◌≤◌, pos, ◌<ℤ◌}
-use Rattle.zic_occurrences.specs.Occurrence.{nominal_second}
+use Rattle.zic_states.specs.Occurrence.{nominal_second}
 use Rattle.zic_footer.proofs.turns.lies_between.Given as goal
 
 abbrev pub invariant-loop-other : goal.invariant-loop-other

@@ -1,5 +1,5 @@
 use Rattle.std.proofs.Common.{ap}
-use Rattle.zic_plan.specs.Noted.{RowNote}
+use Rattle.zic_layouts.specs.Noted.{RowNote}
 use Rattle.zic_io.specs.Faults.{fault_line}
 use Rattle.zic_io.proofs.fault_line.push_fault.Goals as goal
 

@@ -1,7 +1,7 @@
 use Rattle.std.proofs.Common.{◌∙◌, ◌∷◌, [], List, Option, ℕ, ap, subst, sym}
 use Rattle.std.proofs.lemmas.Bool.{not-false, not-true}
 use Rattle.csv.specs.Writing.{default_writer, field_text}
-use Rattle.zic_plan.specs.declared.row_log.FaultDetail.{FaultDetail}
+use Rattle.zic_layouts.specs.declared.row_log.FaultDetail.{FaultDetail}
 use Rattle.zic_io.specs.Faults.{value_field}
 use Rattle.zic_io.specs.code.FaultList.{Gets}
 use Rattle.zic_io.proofs.FaultLemmas.{gets_both, gets_nothing}

@@ -3,7 +3,7 @@ use Rattle.std.proofs.lemmas.List.{map-append, take_all}
 use Rattle.std.proofs.lemmas.List.Elements.{All-pop}
 use Rattle.std.proofs.lemmas.Result.{err_from_is_err_and}
 use Rattle.zic_source.specs.Texts.{texts_of}
-use Rattle.zic_base.specs.declared.word.TheConstants.{STANDARD_INPUT}
+use Rattle.zic_base.specs.declared.constants.TheConstants.{STANDARD_INPUT}
 use Rattle.zic_io.specs.Sources.{AreTextsOf}
 use Rattle.zic_io.proofs.ListLemmas.{taken, parts}
 use Rattle.zic_io.proofs.SourceLemmas.{AreFiles, files_parts, known_afters, known_more, known_on, source_stop, text_more, text_of}

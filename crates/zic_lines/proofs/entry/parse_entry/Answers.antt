@@ -1,8 +1,8 @@
 use Rattle.std.proofs.Common.{◌≡◌, Some, None, refl, sym, ap, ◌∙◌}
 use Rattle.std.proofs.lemmas.Result.{err_from_is_err_and}
 use Rattle.std.specs.Cow.{cow_slice_items}
-use Rattle.zic_words.specs.declared.keyword.Keyword.{Keyword}
-use Rattle.zic_words.specs.declared.keyword.Keyword.TheVariants as keywords
+use Rattle.zic_lines.specs.declared.keyword.Keyword.{Keyword}
+use Rattle.zic_lines.specs.declared.keyword.Keyword.TheVariants as keywords
 use Rattle.zic_lines.specs.declared.entry.Entry.TheVariants as entries
 use Rattle.zic_lines.specs.Entry.{is_continuation}
 use Rattle.zic_lines.specs.Grammar.{FieldsSay}

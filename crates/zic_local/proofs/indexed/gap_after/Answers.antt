@@ -3,7 +3,7 @@ use Rattle.std.specs.Option.{MatchOption}
 use Rattle.std.proofs.lemmas.Int.{ints}
 use Rattle.zic_tzif.specs.Answer.{answered}
 use Rattle.zic_local.specs.LocalTime.{IsGapOf, PassesOver}
-use Rattle.zic_local.specs.declared.local_instants.Gap.{Gap}
+use Rattle.zic_local.specs.declared.local_time.Gap.{Gap}
 use Rattle.zic_local.proofs.Quiet.{quiet_first, quiet_found, quiet_on, quiet_all}
 use Rattle.zic_local.proofs.Steps.{near_answer}
 use Rattle.zic_local.proofs.Walking.{smaller}

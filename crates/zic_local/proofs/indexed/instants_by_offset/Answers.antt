@@ -1,10 +1,10 @@
 use Rattle.std.proofs.Common.{◌≡◌, ◌≤◌, ◌+◌, ℤ, pos, ◌+ℤ◌, ◌-ℤ◌, List, get_or, unsigned_abs, to_z, of_z, to_z-of_z, FitsSigned, w32, w64, sym, subst, rules, arith}
 use Rattle.std.specs.Option.{MatchOption}
 use Rattle.std.proofs.lemmas.Int.{ints}
-use Rattle.zic_base.specs.declared.limit.TheConstants.{FARTHEST_FILE_OFFSET}
+use Rattle.zic_base.specs.declared.constants.TheConstants.{FARTHEST_FILE_OFFSET}
 use Rattle.zic_local.specs.Index.{AreOffsetsOf}
 use Rattle.zic_local.specs.LocalTime.{IsOffsetAt}
-use Rattle.zic_local.specs.declared.local_instants.LocalInstants.{LocalInstants}
+use Rattle.zic_local.specs.declared.local_time.LocalInstants.{LocalInstants}
 use Rattle.zic_local.specs.code.Indexing.{IsTried}
 use Rattle.zic_local.specs.code.Walk.{AnswersLocalUpTo}
 use Rattle.zic_local.proofs.Trying.{placed, tried_first, tried_more, tried_all}

@@ -1,8 +1,8 @@
 use Rattle.std.proofs.Common.{ℤ, pos, ◌-ℤ◌, to_z, of_z, to_z-of_z, w64, sym, subst}
-use Rattle.zic_base.specs.declared.limit.TheConstants.{FARTHEST_FILE_OFFSET}
+use Rattle.zic_base.specs.declared.constants.TheConstants.{FARTHEST_FILE_OFFSET}
 use Rattle.zic_local.specs.LocalTime.{AnswersLocal}
 use Rattle.zic_local.specs.code.Walk.{with_gap}
-use Rattle.zic_local.specs.declared.local_instants.LocalInstants.{LocalInstants}
+use Rattle.zic_local.specs.declared.local_time.LocalInstants.{LocalInstants}
 use Rattle.zic_local.proofs.Trying.{found_all, gap_all}
 use Rattle.zic_local.proofs.indexed.instants_in.Goals as goal
 

@@ -1,6 +1,6 @@
 use Rattle.std.proofs.Common.{◌≡◌, ℤ, inl, inr, ◌+ℤ◌, ◌∷◌, [], ◌++◌, to_z-of_z, w64, FitsSigned, sym, subst, rules}
-use Rattle.zic_plan.specs.declared.disambiguation.Disambiguation.{Disambiguation}
-use Rattle.zic_local.specs.declared.local_instants.LocalInstants.TheVariants as instants
+use Rattle.zic_layouts.specs.declared.disambiguation.Disambiguation.{Disambiguation}
+use Rattle.zic_local.specs.declared.local_time.LocalInstants.TheVariants as instants
 use Rattle.zic_local.specs.LocalTime.{AreInstantsOf, IsFoldOf, AnswersLocal}
 use Rattle.zic_local.specs.Choice.{Means}
 use Rattle.zic_local.proofs.Choices.{means_only, first_of, last_of}

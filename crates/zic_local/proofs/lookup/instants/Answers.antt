@@ -1,7 +1,7 @@
 use Rattle.std.proofs.Common.{ℤ, to_z, of_z, to_z-of_z, w64, sym, subst, arith, rules}
 use Rattle.std.proofs.lemmas.Int.{ints}
 use Rattle.zic_tzif.specs.Answer.{answered}
-use Rattle.zic_local.specs.declared.local_instants.LocalInstants.{LocalInstants}
+use Rattle.zic_local.specs.declared.local_time.LocalInstants.{LocalInstants}
 use Rattle.zic_local.specs.LocalTime.{AnswersLocal}
 use Rattle.zic_local.specs.code.Walk.{with_instant, IsWalked}
 use Rattle.zic_local.proofs.Steps.{near_answer, known_all}

@@ -1,5 +1,5 @@
 use Rattle.std.proofs.Common.{◌≡◌, rules, ap, ◌∙◌, arith}
-use Rattle.zic_pieces.specs.declared.event.Known.{Known}
+use Rattle.zic_pieces.specs.declared.pass.Known.{Known}
 use Rattle.zic_pieces.proofs.Works.{step_end, step_skip, step_keep, step_halt, nearer, report_past}
 use Rattle.zic_pieces.proofs.work.work.Goals as goal
 

@@ -2,7 +2,7 @@ use Rattle.std.proofs.Common.{◌≡◌, ◌++◌, List, [], ◌∷◌, length, 
 use Rattle.zic_rules.specs.code.Period.{the_zone}
 use Rattle.zic_rules.specs.code.Shown.{AreChangesSoFar, shown_by, dated}
 use Rattle.zic_rules.specs.declared.changes.DatedState.{DatedState}
-use Rattle.zic_rules.specs.declared.period.Period.{Period}
+use Rattle.zic_rules.specs.declared.line.Period.{Period}
 use Rattle.zic_rules.proofs.TimelineStates.{nowhere, item_at, held_at, unnamed_from, states_same, states_differ, so_far_first, so_far_same, so_far_pushed, so_far_to_end}
 use Rattle.zic_rules.proofs.changes.changes_of.Goals as goal
 use Rattle.zic_rules.proofs.changes.changes_of.Goals.{then-ne+in_ok-push-in-Ok, else-ne}

@@ -1,7 +1,7 @@
 use Rattle.std.proofs.Common.{◌≡◌, ℕ, length, get_or, ap, subst, arith}
 use Rattle.zic_rules.specs.code.Period.{the_zone}
 use Rattle.zic_rules.specs.code.Shown.{ShowsSomeTo}
-use Rattle.zic_rules.specs.declared.period.Period.{Period}
+use Rattle.zic_rules.specs.declared.line.Period.{Period}
 use Rattle.std.specs.Prelude.{List}
 use Rattle.zic_rules.proofs.TimelineStates.{nowhere, item_at, held_first, held_at, some_first, some_next, some_to_end}
 use Rattle.zic_rules.proofs.TimelineFaults.{no_letter_lacks}

@@ -1,7 +1,7 @@
 use Rattle.std.proofs.Common.{◌≡◌, ◌∙◌, ◌+◌, Option, arith, ℤ, pos, ◌+ℤ◌, to_z, of_z, w64, ap, subst, sym}
 use Rattle.std.specs.Prelude.{IfSome}
 use Rattle.std.proofs.lemmas.Int.{ints}
-use Rattle.zic_occurrences.specs.Occurrence.{year_second}
+use Rattle.zic_states.specs.Occurrence.{year_second}
 use Rattle.zic_rules.specs.code.Period.{the_zone}
 use Rattle.zic_rules.specs.code.End.{IsStart, IsInYears, IsEndFrom}
 use Rattle.zic_rules.proofs.Years.{small}

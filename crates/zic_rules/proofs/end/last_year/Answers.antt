@@ -1,8 +1,8 @@
 use Rattle.std.proofs.Common.{Option, arith, ℤ, pos, subst, sym}
 use Rattle.std.specs.Prelude.{IfSome}
 use Rattle.zic_rules.specs.code.End.{IsInYears}
-use Rattle.zic_occurrences.specs.Occurrence.{RuleSet}
-use Rattle.zic_occurrences.proofs.LastNamed.{named_year}
+use Rattle.zic_states.specs.Occurrence.{RuleSet}
+use Rattle.zic_states.proofs.LastNamed.{named_year}
 use Rattle.zic_states.specs.End.{IsYearOf}
 use Rattle.zic_states.specs.Until.{set_of}
 use Rattle.zic_rules.proofs.Years.{cast, in_later_years, year_before}

@@ -1,7 +1,7 @@
 use Rattle.std.proofs.Common.{rules, ◌≡◌, ◌++◌, ◌-◌, ap, sym, ◌∙◌, List, length, take, drop, arith, length-drop}
 use Rattle.std.specs.Prelude.{int_le}
 use Rattle.std.proofs.lemmas.List.{take-append-drop, take_all}
-use Rattle.zic_occurrences.specs.declared.occurrence.TimedOccurrence.{TimedOccurrence}
+use Rattle.zic_states.specs.declared.occurrence.TimedOccurrence.{TimedOccurrence}
 use Rattle.zic_states.specs.ByList.{not_after}
 use Rattle.zic_states.proofs.Points.{filter_from_clause, parted_not_after}
 use Rattle.zic_rules.proofs.line.after.Goals as goal

@@ -4,8 +4,8 @@ use Rattle.std.proofs.lemmas.Option.{IfSome_then}
 use Rattle.std.proofs.lemmas.Result.{err_from_is_err_and}
 use Rattle.zic_base.specs.Fault.{kind_of}
 use Rattle.zic_base.proofs.Elements.{got}
-use Rattle.zic_occurrences.specs.declared.occurrence.TimedOccurrence.{TimedOccurrence}
-use Rattle.zic_occurrences.specs.LineItems.{items_of}
+use Rattle.zic_states.specs.declared.occurrence.TimedOccurrence.{TimedOccurrence}
+use Rattle.zic_states.specs.LineItems.{items_of}
 use Rattle.zic_states.specs.ByList.{before}
 use Rattle.zic_states.specs.End.{IsYearOf, IsEnd}
 use Rattle.zic_rules.specs.code.Period.{the_zone}

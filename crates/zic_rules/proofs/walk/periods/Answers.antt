@@ -8,7 +8,7 @@ use Rattle.zic_source.specs.Source.{ZoneLines, lines_of_zone}
 use Rattle.zic_base.proofs.Elements.{got}
 use Rattle.zic_states.specs.Tail.{HasNoSet}
 use Rattle.zic_states.specs.Zone.{Zone, lines_of}
-use Rattle.zic_rules.specs.declared.period.Period.{Period}
+use Rattle.zic_rules.specs.declared.line.Period.{Period}
 use Rattle.zic_rules.specs.Timeline.{IsFixed}
 use Rattle.zic_rules.specs.code.Period.{the_zone, ArePeriods}
 use Rattle.zic_rules.specs.code.Held.{AreSoFar}

@@ -1,5 +1,5 @@
 use Rattle.std.proofs.Common.{List, take}
-use Rattle.zic_lines.specs.declared.rule.Rule.{Rule}
+use Rattle.zic_lines.specs.declared.rule_line.Rule.{Rule}
 use Rattle.zic_source.specs.Source.{lines_of_zone}
 use Rattle.zic_source.specs.code.Sets.{IndexesSets}
 use Rattle.zic_source.specs.code.Faults.{LineIsRight, LineHas, IsFirstOf}

@@ -1,6 +1,6 @@
 use Rattle.std.proofs.Common.{rules, ap, ◌∙◌}
 use Rattle.std.specs.Prelude.{int_le, option_map}
-use Rattle.zic_occurrences.specs.declared.occurrence.TimedOccurrence.{TimedOccurrence}
+use Rattle.zic_states.specs.declared.occurrence.TimedOccurrence.{TimedOccurrence}
 use Rattle.zic_states.specs.ByList.{last_of}
 use Rattle.zic_states.proofs.Points.{filter_from_clause, parted_not_after}
 use Rattle.zic_states.proofs.current.rule_at.Goals as goal

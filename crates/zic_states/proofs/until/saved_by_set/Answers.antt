@@ -2,7 +2,7 @@ use Rattle.std.proofs.Common.{◌≡◌, ◌+◌, ◌∙◌, sym, ap, subst, ari
 use Rattle.std.specs.Prelude.{slice_get}
 use Rattle.std.proofs.lemmas.Int.{ints}
 use Rattle.std.proofs.lemmas.Option.{slice_get-get_or}
-use Rattle.zic_occurrences.specs.declared.occurrence.TimedOccurrence.{TimedOccurrence}
+use Rattle.zic_states.specs.declared.occurrence.TimedOccurrence.{TimedOccurrence}
 use Rattle.zic_states.specs.Until.{until_by}
 use Rattle.zic_states.proofs.LineWalk.{IsPassedOnLine, passed_more, read_at, read_at_end, rule_known, same_reading, le_from_test, lt_from_test, cast_within_day}
 use Rattle.zic_states.proofs.until.saved_by_set.Goals as goal

@@ -9,7 +9,7 @@ use Rattle.zic_base.specs.declared.fault.Kind.TheVariants.{TooManyChars}
 use Rattle.zic_base.specs.declared.state.State.{State}
 use Rattle.zic_table.specs.code.LocalTypes.{HasManyCharacters}
 use Rattle.zic_footer.proofs.Outcomes.{if_refusal}
-use Rattle.zic_tzif.specs.declared.limit.TheConstants.{MAX_CHARACTERS}
+use Rattle.zic_tzif.specs.declared.content.TheConstants.{MAX_CHARACTERS}
 use Rattle.zic_table.proofs.Designated.{known_step, new_step, too_many}
 use Rattle.zic_table.proofs.local_types.local_types.Goals as goal
 use Rattle.zic_table.proofs.local_types.local_types.Goals.{in-Some, in-None+in_ok-place-in-None}

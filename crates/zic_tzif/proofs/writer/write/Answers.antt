@@ -1,7 +1,7 @@
 use Rattle.std.proofs.Common.{◌≡◌, ℕ, ◌<◌, ◌≤◌, ◌^◌, List, Fits, w32, ap, arith, ◌++◌, replicate, length, map, sym, subst}
 use Rattle.std.specs.List.{flat_map}
 use Rattle.zic_tzif.specs.declared.content.Change.{Change}
-use Rattle.zic_tzif.specs.declared.limit.TheConstants.{MAX_TRANSITIONS, MAX_TYPES, MAX_CHARACTERS}
+use Rattle.zic_tzif.specs.declared.content.TheConstants.{MAX_TRANSITIONS, MAX_TYPES, MAX_CHARACTERS}
 use Rattle.zic_tzif.specs.Reading.{IsFile}
 use Rattle.zic_tzif.specs.Writing.{header, time_octets, type_octets}
 use Rattle.zic_tzif.proofs.WriteLists.{line_after}

@@ -1,6 +1,6 @@
 use Rattle.std.proofs.Common.{◌≢◌, ◌+◌, ◌∙◌, List, [], ◌∷◌, ◌++◌, vec_len, ap, refl, sym, subst}
 use Rattle.std.specs.Prelude.{All}
-use Rattle.zic_files.specs.declared.entry.Entry.{Entry}
+use Rattle.zic_files.specs.declared.names.Entry.{Entry}
 use Rattle.zic_files.specs.File.{File}
 use Rattle.zic_files.specs.code.NameIndex.{AreNumbersUpTo}
 use Rattle.zic_files.proofs.Added.{files_added, entries_added, files_refused, entries_refused, if_err}

@@ -1,7 +1,7 @@
 use Rattle.std.proofs.Common.{◌≡◌, ◌≢◌, List, subst}
 use Rattle.std.specs.Prelude.{All, IfSome, IfNone, IsSomeAnd, slice_get}
 use Rattle.zic_files.specs.File.{File}
-use Rattle.zic_files.specs.declared.entry.Entry.{Entry}
+use Rattle.zic_files.specs.declared.names.Entry.{Entry}
 use Rattle.zic_files.proofs.Numbers.{file_found, file_missing}
 use Rattle.zic_files.proofs.files.Files.find.Goals as goal
 

@@ -2,7 +2,7 @@ use Rattle.std.proofs.Common.{◌<◌, List, length, map, sym, subst}
 use Rattle.std.specs.Prelude.{All}
 use Rattle.zic_files.specs.File.{FileImage, file_of}
 use Rattle.zic_files.specs.Sound.{AreSoundFiles}
-use Rattle.zic_files.specs.declared.entry.Entry.{Entry}
+use Rattle.zic_files.specs.declared.names.Entry.{Entry}
 use Rattle.zic_files.specs.code.NameIndex.{AreNumbersOf}
 use Rattle.zic_files.proofs.files.Files.new.Goals as goal
 

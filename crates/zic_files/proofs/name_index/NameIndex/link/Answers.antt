@@ -1,7 +1,7 @@
 use Rattle.std.proofs.Common.{rules, ◌≡◌, ◌<◌, ◌∙◌, ◌++◌, ◌∷◌, [], length, get_or, ap, refl, sym, ℕ, arith}
 use Rattle.std.proofs.lemmas.List.{get_or_default}
 use Rattle.std.proofs.lemmas.Option.{slice_get_read}
-use Rattle.zic_files.specs.declared.entry.Entry.{Entry}
+use Rattle.zic_files.specs.declared.names.Entry.{Entry}
 use Rattle.zic_files.specs.code.NameIndex.{bucket_of}
 use Rattle.zic_files.proofs.Numbers.{numbers_more, numbers_same, on_err}
 use Rattle.zic_files.proofs.name_index.NameIndex.link.Goals as goal

@@ -1,6 +1,6 @@
 use Rattle.std.proofs.Common.{◌≡◌, ℕ, List, [], ◌∷◌, ◌++◌, ◌∙◌, ap, map, vec_len, rules}
 use Rattle.std.proofs.lemmas.List.{map-append}
-use Rattle.zic_files.specs.declared.entry.Entry.{Entry}
+use Rattle.zic_files.specs.declared.names.Entry.{Entry}
 use Rattle.zic_files.proofs.Numbers.{numbers_before, numbers_after, popped}
 use Rattle.zic_files.proofs.names.Names.add.Goals as goal
 

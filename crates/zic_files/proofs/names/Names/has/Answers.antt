@@ -1,7 +1,7 @@
 use Rattle.std.proofs.Common.{◌≡◌, ◌≢◌, List, ℕ, Decides, subst}
 use Rattle.std.specs.Prelude.{All, Contains, IfSome, IfNone, IsSomeAnd, is_some, slice_get}
 use Rattle.std.proofs.lemmas.Bool.Decides.{Decides-at}
-use Rattle.zic_files.specs.declared.entry.Entry.{Entry}
+use Rattle.zic_files.specs.declared.names.Entry.{Entry}
 use Rattle.zic_files.proofs.Learning.{has_name}
 use Rattle.zic_files.proofs.names.Names.has.Goals as goal
 

@@ -1,7 +1,7 @@
 use Rattle.std.proofs.Common.{◌+◌, ◌-◌, ◌^◌, ◌≡◌, ◌∙◌, ◌++◌, ℕ, List, Option, Some, length, min, slice_get, ap, refl, subst, sym}
 use Rattle.std.specs.Option.{option_or}
 use Rattle.zic_base.specs.declared.row_fault.RowFault.{RowFault}
-use Rattle.zic_plan.specs.Noted.{RowNote}
+use Rattle.zic_layouts.specs.Noted.{RowNote}
 use Rattle.zic_io.specs.Faults.{IsFaultLine, IsRecordLine, fault_of, line_end_bytes}
 use Rattle.zic_io.specs.code.FaultList.{Gets, kept}
 use Rattle.zic_io.proofs.FaultLemmas.{count_rises, file_grows, first_stays, records_grow}

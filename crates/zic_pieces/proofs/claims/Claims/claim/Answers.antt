@@ -1,5 +1,5 @@
 use Rattle.std.proofs.Common.{◌≡◌, ◌+◌, rules, sym, ap, ◌∙◌, arith}
-use Rattle.zic_pieces.specs.declared.event.Known.{Known}
+use Rattle.zic_pieces.specs.declared.pass.Known.{Known}
 use Rattle.zic_pieces.specs.Core.{glanced}
 use Rattle.zic_pieces.specs.Passes.{Shared, Held}
 use Rattle.zic_pieces.proofs.Steps.{draws_allowed, glance_allowed}

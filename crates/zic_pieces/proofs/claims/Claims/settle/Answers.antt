@@ -1,5 +1,5 @@
 use Rattle.std.proofs.Common.{◌≡◌, ℕ, true, sym, ap, ◌∙◌, subst, rules}
-use Rattle.zic_pieces.specs.declared.event.Known.{Known}
+use Rattle.zic_pieces.specs.declared.pass.Known.{Known}
 use Rattle.zic_pieces.specs.code.Whole.{is_whole}
 use Rattle.zic_pieces.specs.Passes.{Shared, Held}
 use Rattle.zic_pieces.proofs.Settles.{Facts, settles}

@@ -2,7 +2,7 @@ use Rattle.std.proofs.Common.{◌≡◌, refl, sym, subst, ℤ, pos, ◌+ℤ◌,
 use Rattle.std.specs.Int.{int_rem_euclid, saturate_signed}
 use Rattle.std.proofs.lemmas.Int.{ints}
 use Rattle.zic_base.specs.State.{shown}
-use Rattle.zic_posix.specs.declared.instants.Instants.{Instants}
+use Rattle.zic_posix.specs.declared.span.Instants.{Instants}
 use Rattle.zic_posix.specs.Footer.{TzString}
 use Rattle.zic_posix.specs.Instants.{Includes, AreBetween}
 use Rattle.zic_posix.specs.Meaning.{standard_state, HasEdgeAt, Means, MeansThroughout}

@@ -1,8 +1,8 @@
 use Rattle.std.proofs.Common.{◌≡◌, ◌<◌, List, length, sym, ap, subst, arith}
 use Rattle.std.proofs.lemmas.Result.{err_from_is_err_and}
 use Rattle.zic_base.specs.Fault.{fault_of}
-use Rattle.zic_lines.specs.declared.rule.Rule.{Rule}
-use Rattle.zic_source.specs.declared.limit.TheConstants.{MAX_RULES}
+use Rattle.zic_lines.specs.declared.rule_line.Rule.{Rule}
+use Rattle.zic_source.specs.declared.source.TheConstants.{MAX_RULES}
 use Rattle.zic_source.specs.code.Lines.{source_lines}
 use Rattle.zic_source.specs.code.Sets.{IndexesSets}
 use Rattle.zic_source.proofs.events.Leads.{if_some_map, if_none_map}

@@ -3,7 +3,7 @@ use Rattle.std.proofs.lemmas.List.{map_push, length-map}
 use Rattle.zic_base.specs.State.{Shown, shown}
 use Rattle.zic_table.specs.ContentOf.{same_state}
 use Rattle.zic_table.specs.code.Firsts.{IsNumbered, with_new}
-use Rattle.zic_tzif.specs.declared.limit.TheConstants.{MAX_TYPES}
+use Rattle.zic_tzif.specs.declared.content.TheConstants.{MAX_TYPES}
 use Rattle.zic_table.proofs.Numbers.{is_numbered, is_new, one_more, is_next, numbers_more}
 use Rattle.zic_table.proofs.numbering.Numbering.number.Goals as goal
 

@@ -1,6 +1,6 @@
 use Rattle.std.proofs.Common.{◌≡◌, ℕ, ◌-◌, ◌<◌, ℤ, pos, ◌-ℤ◌, ◌<ℤ◌, inl, inr, List, get_or, length, FitsSigned, w64, to_z, of_z, to_z-of_z, refl, sym, ap, subst, ◌∙◌, arith, rules}
 use Rattle.std.proofs.lemmas.Int.{ints}
-use Rattle.zic_posix.specs.declared.instants.TheConstants.{MAX_INSTANT}
+use Rattle.zic_posix.specs.declared.span.TheConstants.{MAX_INSTANT}
 use Rattle.zic_tzif.specs.code.Window.{IsSplit}
 use Rattle.zic_tzif.proofs.Gaps.{IsFirst, IsLast, requested, between}
 use Rattle.zic_tzif.proofs.times.Times.gap_at.Goals as goal

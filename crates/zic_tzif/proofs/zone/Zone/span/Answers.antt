@@ -1,6 +1,6 @@
 use Rattle.std.proofs.Common.{◌≡◌, ℕ, ◌+◌, ◌<◌, ◌≤◌, ◌⊎◌, inl, inr, true, false, ℤ, List, length, FitsSigned, w64, to_z-of_z, refl, ap, subst, arith, rules}
 use Rattle.zic_base.specs.State.{shown}
-use Rattle.zic_posix.specs.declared.instants.Instants.{Instants}
+use Rattle.zic_posix.specs.declared.span.Instants.{Instants}
 use Rattle.zic_posix.specs.Instants.{Includes}
 use Rattle.zic_tzif.specs.declared.content.Change.{Change}
 use Rattle.zic_tzif.specs.Content.{Content}

@@ -1,4 +1,0 @@
-//! Words that several crates know.
-
-/// The word for standard input.
-pub const STANDARD_INPUT: &str = "-";

@@ -1,5 +1,0 @@
-use Rattle.zic_occurrences.proofs.SharedLists.{names_set, listing_of}
-use Rattle.zic_occurrences.proofs.listed_source.listing_of.Goals as goal
-
-pub list_set-requires-clause-set : goal.list_set-requires-clause-set
-list_set-requires-clause-set c = names_set c.args.source.now.rules c.args.number c.rule.result.now c.rule.ensures.rule

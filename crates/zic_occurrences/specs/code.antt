@@ -1,6 +1,0 @@
--- Definitions for the code of this crate and for proofs. No contract of an exported function cites them.
-pub mod Walk
-pub mod Nominals
-pub mod Timed
-pub mod Apart
-pub mod Shared

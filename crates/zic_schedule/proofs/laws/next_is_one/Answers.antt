@@ -1,5 +1,0 @@
-use Rattle.zic_schedule.proofs.Once.{next_once}
-use Rattle.zic_schedule.proofs.laws.next_is_one.Goals as goal
-
-pub returns : goal.returns
-returns c = λ content schedule after until a b. next_once content schedule after until a b

@@ -1,4 +1,0 @@
-pub mod code
-pub mod Due
-pub mod Laws
-pub mod Weekdays

@@ -1,2 +1,0 @@
--- Definitions for the code of this crate and for proofs. No contract of an exported function cites them.
-pub mod Search

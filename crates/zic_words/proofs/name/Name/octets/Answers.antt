@@ -1,8 +1,0 @@
-use Rattle.std.proofs.Common.{rules}
-use Rattle.zic_words.proofs.name.Name.octets.Goals as goal
-
-pub returns-clause-octets : goal.returns-clause-octets
-returns-clause-octets c = search rules
-
-pub returns-clause-name : goal.returns-clause-name
-returns-clause-name c = search rules
