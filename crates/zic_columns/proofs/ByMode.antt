@@ -1,7 +1,7 @@
 -- Records wherever they end.
 use Rattle.std.proofs.Common.{◌≡◌, ◌⊎◌, ℕ, List, [], ◌∷◌, ◌++◌, map, refl, ap}
-use Rattle.zic_plan.specs.declared.layout.Records.{Records}
-use Rattle.zic_plan.specs.declared.layout.Records.TheVariants as by
+use Rattle.zic_layouts.specs.declared.layout.Records.{Records}
+use Rattle.zic_layouts.specs.declared.layout.Records.TheVariants as by
 use Rattle.zic_columns.specs.Column.{AreWholeRecords, CanDelimit, lines_of}
 use Rattle.zic_columns.specs.Lines.{line_record, records_by, texts_by}
 use Rattle.zic_columns.specs.Own.{CsvRecord, csv_records}

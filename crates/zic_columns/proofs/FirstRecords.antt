@@ -3,8 +3,8 @@ use Rattle.std.proofs.Common.{◌≡◌, ◌⊎◌, ◌+◌, ◌<◌, ℕ, zero,
 use Rattle.std.specs.Prelude.{filter}
 use Rattle.std.proofs.lemmas.List.Elements.{All-nil}
 use Rattle.std.proofs.lemmas.List.Splits.{slice_split_at}
-use Rattle.zic_plan.specs.declared.layout.Records.{Records}
-use Rattle.zic_plan.specs.declared.layout.Records.TheVariants as by
+use Rattle.zic_layouts.specs.declared.layout.Records.{Records}
+use Rattle.zic_layouts.specs.declared.layout.Records.TheVariants as by
 use Rattle.zic_columns.specs.Column.{CanDelimit, HasNoLineEnd, ends_line, has_byte, lines_of}
 use Rattle.zic_columns.specs.Lines.{line_record, line_records, records_by, texts_by}
 use Rattle.zic_columns.specs.Own.{csv_records, first_text}

@@ -30,6 +30,8 @@ pub mod OwnFacts
 pub mod OwnLens
 pub mod PieceRecords
 pub mod OwnRecords
+pub mod PairFacts
+pub mod PairMarks
 pub mod OwnLaw
 pub mod FirstRecords
 pub mod Spans

@@ -1,5 +1,5 @@
 -- Masks of bytes.
-use Rattle.std.proofs.Common.{◌≡◌, ℕ, ◌+◌, ◌-◌, ◌*◌, ◌%◌, ◌^◌, ◌<◌, ◌≤◌, ◌==◌, ◌||◌, ◌&&◌, not, Bool, true, false, cond, eqb, List, [], ◌∷◌, map, length, get_or, replicate, Some, inl, inr, ◌⊎◌, refl, sym, ap, ap₂, subst, ◌∙◌, arith, w64, bit_and, bit_or}
+use Rattle.std.proofs.Common.{◌≡◌, ℕ, ◌+◌, ◌-◌, ◌*◌, ◌%◌, ◌^◌, ◌<◌, ◌≤◌, ◌==◌, ◌||◌, ◌&&◌, not, Bool, true, false, cond, eqb, leb, List, [], ◌∷◌, map, length, get_or, replicate, Some, inl, inr, ◌⊎◌, refl, sym, ap, ap₂, subst, ◌∙◌, arith, w64, bit_and, bit_or}
 use Rattle.std.specs.Int.{bit_at, trailing_zeros}
 use mir.Val.{bool_byte}
 use Rattle.std.specs.Int.Bits.{and_le_r}
@@ -14,12 +14,17 @@ use Rattle.std.proofs.lemmas.Simd.{bit_mask_l, get_or-chunk, length-chunk, map-m
 use Rattle.memchr.specs.Find.{IsFirst, Passes}
 use Rattle.zic_columns.specs.Column.{HasNoQuote, ends_line}
 use Rattle.zic_columns.specs.code.Block.{ends_field, mask_at, records_ended}
+use Rattle.zic_columns.specs.code.Pairs.{is_mark}
 
 -- ---- from lanes to a mask
 
 -- a lane of the comparison with a byte
 abbrev hit : ℕ → ℕ → ℕ
 hit a b = cond (eqb a b) 255 0
+
+-- a lane of the comparison with a greatest byte
+abbrev at_most : ℕ → ℕ → ℕ
+at_most a b = cond (leb a b) 255 0
 
 map_same : (f g : ℕ → Bool) → ((x : ℕ) → f x ≡ g x) → (xs : List ℕ) → map f xs ≡ map g xs
 map_same f g same [] = refl
@@ -73,7 +78,18 @@ module _ (size : ℕ) (small : size ≤ 64) (bytes : List ℕ) (at : ℕ) (withi
       ≡ mask_l (map ends_line (chunk at size bytes))
   line_ends_mask = mask_of (λ x. bit_or (hit x 13) (hit x 10)) ends_line (λ x. top_either (x == 13) (x == 10)) (chunk at size bytes) _ few either_lanes
 
+  low_lanes : (byte : ℕ) → zip2 at_most (chunk at size bytes) (replicate size byte) ≡ map (λ x. at_most x byte) (chunk at size bytes)
+  low_lanes byte = zip2_splat at_most (chunk at size bytes) size byte block_long
+
   module _ (d : ℕ) where
+    mark_lanes : zip2 bit_or (zip2 hit (chunk at size bytes) (replicate size d)) (zip2 at_most (chunk at size bytes) (replicate size 34))
+        ≡ map (λ x. bit_or (hit x d) (at_most x 34)) (chunk at size bytes)
+    mark_lanes = zip2_of_maps bit_or (λ x. hit x d) (λ x. at_most x 34) (chunk at size bytes) (equal_lanes d) (low_lanes 34)
+
+    pub marks_mask : mask_l (map (top 7) (zip2 bit_or (zip2 hit (chunk at size bytes) (replicate size d)) (zip2 at_most (chunk at size bytes) (replicate size 34)))) % 2 ^ 64
+        ≡ mask_l (map (is_mark d) (chunk at size bytes))
+    marks_mask = mask_of (λ x. bit_or (hit x d) (at_most x 34)) (is_mark d) (λ x. top_either (x == d) (leb x 34)) (chunk at size bytes) _ few mark_lanes
+
     delimiter_lanes : zip2 bit_or (zip2 hit (chunk at size bytes) (replicate size d)) (zip2 hit (chunk at size bytes) (replicate size 13))
         ≡ map (λ x. bit_or (hit x d) (hit x 13)) (chunk at size bytes)
     delimiter_lanes = zip2_of_maps bit_or (λ x. hit x d) (λ x. hit x 13) (chunk at size bytes) (equal_lanes d) (equal_lanes 13)

@@ -2,7 +2,7 @@
 use Rattle.std.proofs.Common.{◌≡◌, ◌⊎◌, ℕ, ◌≤◌, false, List, [], ◌∷◌, ◌++◌, length, map, take, drop, Option, Some, None, IfSome, inr, refl, sym, ap, ◌∙◌, arith, subst, ⊎_elim, append_assoc}
 use Rattle.std.proofs.lemmas.List.{append-nil, drop_all, drop_at, length-append, length-map, length-take, map-append, nil_from_length, take-append-drop, take_all}
 use Rattle.std.specs.Io.KnownBytes.{prepend_known}
-use Rattle.zic_plan.specs.declared.layout.Records.{Records}
+use Rattle.zic_layouts.specs.declared.layout.Records.{Records}
 use Rattle.zic_columns.specs.Column.{AreWholeRecords, CanDelimit, column_records}
 use Rattle.zic_columns.specs.Lines.{records_by, texts_by}
 use Rattle.zic_columns.specs.Own.{CsvRecord, csv_records, first_own, first_text, own_texts}

@@ -8,10 +8,10 @@ use Rattle.zic_columns.specs.Record.{IsWithin, bytes_at, wanted_text}
 use Rattle.zic_columns.specs.declared.fields.Span.{Span}
 
 module _ (texts : List (List ℕ)) (text : List ℕ) (index : ℕ) where
-  last_text : index ≡ length texts → wanted_text (texts ++ text ∷ []) (Some index) ≡ text
+  pub last_text : index ≡ length texts → wanted_text (texts ++ text ∷ []) (Some index) ≡ text
   last_text is = ap (λ (n : ℕ). slice_index_or (texts ++ text ∷ []) n []) is ∙ get_or-append_seam texts text [] []
 
-  other_text : index ≢ length texts → wanted_text (texts ++ text ∷ []) (Some index) ≡ wanted_text texts (Some index)
+  pub other_text : index ≢ length texts → wanted_text (texts ++ text ∷ []) (Some index) ≡ wanted_text texts (Some index)
   other_text other = ⊎_elim
       (λ (before : index < length texts). get_or_append_left texts (text ∷ []) [] index before)
       (λ (past : length texts ≤ index).

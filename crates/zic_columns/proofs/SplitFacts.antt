@@ -32,9 +32,20 @@ module _ {d : ℕ} (can : CanDelimit d) where
       of_own_bytes can (drop at piece) ∙ ap (λ (l : List ℕ). map (own_record d) (own_texts d l)) (drop_more piece at 0 is.within)
       ∙ ap (map (own_record d)) (own_end can (get_or piece at 0) rest is.here) ∙ sym (of_own_bytes can rest)
 
+  module _ (piece : List ℕ) (start : ℕ) (wanted : Wanted) (given : Record) where
+    -- the record that begins there is the next
+    pub next_here : IsRecordFrom d piece start wanted given → csv_records d (drop start piece) ≡ record_at d piece given ∷ csv_records d (drop given.own.«end» piece)
+    next_here is =
+        of_own_bytes can (drop start piece) ∙ ap (map (own_record d)) is.owns
+        ∙ ap (λ (w : List CsvRecord). record_at d piece given ∷ w) (sym (of_own_bytes can (drop given.own.«end» piece)))
+
+    pub pair_next : IsRecordFrom d piece start wanted given → IsLineEndAt piece given.own.«end»
+        → csv_records d (drop start piece) ≡ record_at d piece given ∷ csv_records d (drop (given.own.«end» + 1) piece)
+    pair_next is ended = next_here is ∙ ap (λ (w : List CsvRecord). record_at d piece given ∷ w) (after_end piece given.own.«end» ended)
+
   module _ (piece : List ℕ) (at start : ℕ) (after : IsAfterLineEnds (drop at piece) (drop start piece)) where
     -- the line ends make no record
-    rest_records : csv_records d (drop at piece) ≡ csv_records d (drop start piece)
+    pub rest_records : csv_records d (drop at piece) ≡ csv_records d (drop start piece)
     rest_records =
         of_own_bytes can (drop at piece) ∙ ap (λ (l : List ℕ). map (own_record d) (own_texts d l)) after.parts
         ∙ ap (map (own_record d)) (own_ends can after.skipped (drop start piece) after.ends) ∙ sym (of_own_bytes can (drop start piece))
@@ -50,9 +61,7 @@ module _ {d : ℕ} (can : CanDelimit d) where
 
     pub first_next : (wanted : Wanted) (given : Record) → IsRecordFrom d piece start wanted given
         → csv_records d (drop at piece) ≡ record_at d piece given ∷ csv_records d (drop given.own.«end» piece)
-    first_next wanted given is =
-        rest_records ∙ of_own_bytes can (drop start piece) ∙ ap (map (own_record d)) is.owns
-        ∙ ap (λ (w : List CsvRecord). record_at d piece given ∷ w) (sym (of_own_bytes can (drop given.own.«end» piece)))
+    first_next wanted given is = rest_records ∙ next_here piece start wanted given is
 
     pub plain_next : (wanted : Wanted) (ends : FieldEnds) (given : Record) → IsPlainFrom d piece start wanted ends given
         → csv_records d (drop at piece) ≡ record_at d piece given ∷ csv_records d (drop (given.own.«end» + 1) piece)

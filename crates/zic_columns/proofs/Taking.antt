@@ -9,7 +9,7 @@ use Rattle.zic_columns.specs.Lines.{records_by}
 use Rattle.zic_columns.specs.Own.{CsvRecord, csv_records}
 use Rattle.zic_columns.specs.Round.{ColumnOf, HasNoRecord, StaysWithin, Takes, TakesOf, may_take, records_of_pieces}
 use Rattle.zic_columns.specs.code.Buffered.{AreSomeRecords, CanBeCut, ClosedBy}
-use Rattle.zic_plan.specs.declared.layout.Records.{Records}
+use Rattle.zic_layouts.specs.declared.layout.Records.{Records}
 use Rattle.zic_columns.proofs.ByMode.{alike_by, front_by, joined_by}
 use Rattle.zic_columns.specs.code.Cutting.{IsCut}
 use Rattle.zic_columns.specs.code.Mark.{ShowsMark}

@@ -8,7 +8,7 @@ use Rattle.zic_columns.specs.Quotes.{IsRfcField, delimited, has_stray, is_open}
 use Rattle.zic_columns.specs.Record.{own_record}
 use Rattle.zic_columns.specs.Round.{records_of, records_of_pieces}
 use Rattle.zic_columns.specs.Truncated.{truncated}
-use Rattle.zic_plan.specs.declared.layout.Records.{Records}
+use Rattle.zic_layouts.specs.declared.layout.Records.{Records}
 
 -- a CSV reader gives bytes these records
 abbrev pub ColumnRecordsAreRead : Type 0

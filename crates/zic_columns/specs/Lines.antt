@@ -1,8 +1,8 @@
 -- The records of a column by where a record ends. RFC 4180, 2, lets a field between double quotes have line ends. That a column may be
 -- read line by line instead, and what a line is then, is own choice.
 use Rattle.std.specs.Prelude.{ℕ, List, [], map, if◌then◌else◌}
-use Rattle.zic_plan.specs.declared.layout.Records.{Records}
-use Rattle.zic_plan.specs.declared.layout.Records.TheVariants as by
+use Rattle.zic_layouts.specs.declared.layout.Records.{Records}
+use Rattle.zic_layouts.specs.declared.layout.Records.TheVariants as by
 use Rattle.zic_columns.specs.Column.{column_records, lines_of}
 use Rattle.zic_columns.specs.Own.{CsvRecord, csv_records, own_texts}
 use Rattle.zic_columns.specs.Quotes.{is_open}

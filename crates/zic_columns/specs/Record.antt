@@ -1,10 +1,11 @@
 -- The records of a piece: where their bytes stand, and the fields that rows need.
-use Rattle.std.specs.Prelude.{◌≡◌, ◌≤◌, ℕ, List, [], ◌∷◌, Option, None, Some, length, slice_index_or, slice_range}
+use Rattle.std.specs.Prelude.{◌≡◌, ◌+◌, ◌<◌, ◌≤◌, ℕ, false, List, [], ◌∷◌, Option, None, Some, length, slice_index, slice_index_or, slice_range}
 use Rattle.zic_columns.specs.Column.{column_records}
 use Rattle.zic_columns.specs.Own.{CsvRecord, first_text}
 use Rattle.zic_columns.specs.Quotes.{has_stray}
 use Rattle.zic_columns.specs.declared.fields.Field.{Field}
 use Rattle.zic_columns.specs.declared.fields.Field.TheVariants.{Plain, Quoted}
+use Rattle.zic_columns.specs.declared.fields.Pair.{Pair}
 use Rattle.zic_columns.specs.declared.fields.Record.{Record}
 use Rattle.zic_columns.specs.declared.fields.Span.{Span}
 use Rattle.zic_columns.specs.declared.fields.Wanted.{Wanted}
@@ -58,6 +59,20 @@ pub record IsSplit (delimiter : ℕ) (piece : List ℕ) (wanted : Wanted) (given
   pub time_within : IsWithinPiece piece given.time
   pub time : field_text delimiter piece given.time ≡ wanted_text (record_at delimiter piece given).fields (Some wanted.time)
   pub stray : given.stray ≡ has_stray delimiter (bytes_at piece given.own)
+
+-- the record that a pair is: two fields, with the delimiter between them
+abbrev pub pair_record : Pair → Record
+pair_record pair = record { own = span pair.start pair.end; count = 2; zone = Plain (span pair.start pair.stop); time = Plain (span (pair.stop + 1) pair.end); stray = false }
+  where
+    span : ℕ → ℕ → Span
+    span start end = record { start = start; end = end }
+
+-- the pair stands within the piece, with the delimiter between its fields
+pub record IsPairOf (delimiter : ℕ) (piece : List ℕ) (pair : Pair) : Type 0 where
+  pub first : pair.start ≤ pair.stop
+  pub second : pair.stop < pair.end
+  pub within : pair.end ≤ length piece
+  pub between : slice_index piece pair.stop ≡ delimiter
 
 -- a piece that is split: its delimiter, its bytes, the fields that rows need, and the records to come
 pub record Splitting : Type 0 where

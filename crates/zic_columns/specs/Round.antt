@@ -9,7 +9,7 @@ use Rattle.zic_columns.specs.Own.{CsvRecord, csv_records}
 use Rattle.zic_columns.specs.declared.buffer.TheConstants.{FIRST_ROOM}
 use Rattle.zic_columns.specs.declared.columns.Taken.{Taken}
 use Rattle.zic_columns.specs.declared.columns.Taken.TheVariants as taken
-use Rattle.zic_plan.specs.declared.layout.Records.{Records}
+use Rattle.zic_layouts.specs.declared.layout.Records.{Records}
 
 -- the byte beyond the limit, if there was one, and then the known bytes
 abbrev pub with_past : Option ℕ → Option (List ℕ) → Option (List ℕ)

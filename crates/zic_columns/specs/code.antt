@@ -11,6 +11,7 @@ pub mod LineScan
 pub mod Machine
 pub mod Mark
 pub mod Own
+pub mod Pairs
 pub mod Plain
 pub mod Quote
 pub mod Range

@@ -7,8 +7,8 @@ ghost use Rattle.zic_columns.specs.Column.{CanDelimit, HasNoQuote, ends_line};
 ghost use Rattle.zic_columns.specs.code.Block.{AreCounted, ArePassed, ends_field, is_after_line, mask_at, records_ended};
 
 use crate::csv_scan::split_lines;
-use crate::delimiter::Separator;
-use crate::line::ends_line;
+use crate::fields::Separator;
+use crate::lines::ends_line;
 use std::simd::prelude::*;
 
 /// The number of bytes that a search looks at together.

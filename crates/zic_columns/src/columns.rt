@@ -13,21 +13,18 @@ ghost use Rattle.zic_columns.specs.code.Mark.{ShowsMark};
 ghost use Rattle.zic_columns.specs.code.Buffered.{CanBeCut, IsBuffered, UnendedBy, to_come};
 
 use crate::buffer::Window;
-use crate::delimiter::Separator;
-use crate::first::{first_record, split_records};
+use crate::fields::{Separator, may_have};
 use crate::limit::Bounded;
 use crate::line_scan::{OpenLine, is_open};
-use crate::lines::{line_end_at, lines_after};
-use crate::longest::may_have;
+use crate::lines::{first_own_bytes, line_end_at, lines_after};
 use crate::mark::{shows_mark, without_mark};
-use crate::own::first_own_bytes;
-use crate::pieces::{PieceRange, cut_pieces};
+use crate::pieces::{PieceRange, cut_pieces, first_record, split_records};
 use crate::rounds::Round;
 use crate::scan::Scan;
 use std::alloc::{AllocError, Global};
 use std::io::{self, Read};
 use std::marker::Model;
-use zic_plan::{Delimiter, LineEnd, Notes, Records};
+use zic_layouts::{Delimiter, LineEnd, Notes, Records};
 
 /// The number of bytes that show whether a column begins with a byte order mark, whatever they are.
 const MARK_LEN: usize = 3;

@@ -5,7 +5,7 @@ ghost use Rattle.zic_columns.specs.Column.{AreWholeRecords};
 ghost use Rattle.zic_columns.specs.code.Cut.{AreCutAfterLines};
 ghost use Rattle.zic_columns.specs.code.Buffered.{BeginWithLines, IsScanned};
 
-use crate::delimiter::Separator;
+use crate::fields::Separator;
 use crate::machine::{Place, record_end};
 use crate::quote::first_quote;
 use crate::walk::whole_record_end;

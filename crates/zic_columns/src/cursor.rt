@@ -3,14 +3,12 @@
 ghost use Rattle.std.specs.Prelude.{◌≡◌, ◌≤◌, ℕ, List, None, Some, IfSome, IsTrue, drop, length};
 ghost use Rattle.zic_columns.specs.code.Ends.{ShowsEnds};
 ghost use Rattle.zic_columns.specs.code.Line.{IsAfterLineEnds};
-ghost use Rattle.zic_columns.specs.code.Machine.{BeginsRecord};
 ghost use Rattle.zic_columns.specs.code.Plain.{IsNextAt, record_of};
 
-use crate::delimiter::Separator;
 use crate::ends::FieldEnds;
-use crate::fields::{Record, Wanted};
-use crate::line::{after_line_ends, ends_line};
-use crate::plain::{PlainRecord, split_pair, split_plain, split_quoted_pair};
+use crate::fields::{Record, Separator, Wanted};
+use crate::lines::{after_line_ends, ends_line};
+use crate::plain::{PlainRecord, are_zone_and_time, split_pair, split_plain, split_quoted_pair};
 use crate::walk::{split_record, split_rest};
 
 /// The number of bytes of a piece that were split, and what is known of the field ends after them.
@@ -35,7 +33,7 @@ impl Cursor {
 
     /// Passes over line ends.
     #[inline(always)]
-    fn pass_line_ends(&mut self, piece: &[u8])
+    pub(crate) fn pass_line_ends(&mut self, piece: &[u8])
         requires { self.old.at ≤ length piece.now }
         ensures shows { (delimiter : ℕ) → ShowsEnds delimiter piece.now self.old.at self.old.ends
             → ShowsEnds delimiter piece.now self.new.at self.new.ends }
@@ -46,14 +44,6 @@ impl Cursor {
         }
         let rest = after_line_ends(&piece[self.at..]);
         *self = Cursor::new(piece.len() - rest.len());
-    }
-
-    /// Returns whether a byte that ends no line comes next.
-    #[inline(always)]
-    fn begins_record(&self, piece: &[u8]) -> bool
-        ensures { IsTrue result → BeginsRecord (drop self.now.at piece.now) }
-    {
-        self.at < piece.len() && !ends_line(piece[self.at])
     }
 
     /// Splits the next record if it begins here and is just a zone and a time, bare or between double
@@ -71,17 +61,17 @@ impl Cursor {
             (Some (record_of plain.start plain.end plain.fields)) self.new.at) }
         ensures none { result ≡ None → self.new ≡ self.old }
     {
-        if !self.begins_record(piece) {
+        if !are_zone_and_time(wanted) {
             return None;
         }
-        if piece[self.at] == b'"' {
+        if self.at < piece.len() && piece[self.at] == b'"' {
             let plain = split_quoted_pair(piece, self.at, wanted, delimiter)?;
             *self = Cursor::new(plain.end + 1);
             return Some(plain);
         }
-        let plain = split_pair(piece, self.at, wanted, delimiter, &mut self.ends)?;
-        self.at = plain.end + 1;
-        Some(plain)
+        let pair = split_pair(piece, self.at, delimiter, &mut self.ends)?;
+        self.at = pair.end + 1;
+        Some(PlainRecord::of(pair))
     }
 
     /// Splits the next record, if there is one.

@@ -6,7 +6,7 @@ ghost use Rattle.zic_columns.specs.code.Block.{ends_field};
 ghost use Rattle.zic_columns.specs.code.Ends.{ShowsEnds};
 ghost use Rattle.zic_columns.specs.code.Walk.{IsFieldEnd};
 
-use crate::delimiter::Separator;
+use crate::fields::Separator;
 use std::simd::prelude::*;
 
 /// The number of bytes that are looked at together.

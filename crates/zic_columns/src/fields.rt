@@ -1,13 +1,15 @@
-//! Records of a piece: where their bytes stand, and the fields that rows need.
+//! Records of a piece: what stands between their fields, where their bytes stand, and the fields
+//! that rows need.
 
-ghost use Rattle.std.specs.Prelude.{◌≡◌, ◌++◌, OnOk};
-ghost use Rattle.zic_columns.specs.Record.{IsWithin, IsWithinPiece, bytes_at, field_text, text_alone};
+ghost use Rattle.std.specs.Prelude.{◌≡◌, ◌<◌, ◌++◌, OnOk};
+ghost use Rattle.zic_columns.specs.Record.{IsWithin, IsWithinPiece, bytes_at, field_text, pair_record, text_alone};
+ghost use Rattle.zic_columns.specs.Column.{CanDelimit};
+ghost use Rattle.zic_columns.specs.Round.{may_have};
 
-use crate::delimiter::Separator;
-use crate::line::after_line_ends;
+use crate::lines::after_line_ends;
 use crate::machine::{Place, field_byte};
 use std::alloc::AllocError;
-use zic_plan::Delimiter;
+use zic_layouts::Delimiter;
 
 /// A range of bytes of a piece: from its start up to its end.
 #[derive(Clone, Copy, Drop)]
@@ -60,6 +62,43 @@ impl Span {
     }
 }
 
+/// A record of two fields, neither of which begins with a double quote: where it starts, where the
+/// delimiter stands that ends its first field, and where it ends.
+#[derive(Clone, Copy, Drop)]
+pub struct Pair {
+    pub start: usize,
+    pub stop: usize,
+    pub end: usize,
+}
+
+impl Pair {
+    /// Returns the record.
+    #[inline(always)]
+    pub fn record(self) -> Record
+        requires { self.stop < self.end }
+        ensures { result ≡ pair_record self }
+    {
+        let zone = Span {
+            start: self.start,
+            end: self.stop,
+        };
+        let time = Span {
+            start: self.stop + 1,
+            end: self.end,
+        };
+        Record {
+            own: Span {
+                start: self.start,
+                end: self.end,
+            },
+            count: 2,
+            zone: Field::Plain(zone),
+            time: Field::Plain(time),
+            stray: false,
+        }
+    }
+}
+
 /// Appends the text of a field of a piece, in which this delimiter stands between fields.
 ///
 /// # Errors
@@ -100,4 +139,34 @@ fn push_quoted(text: &mut Vec<u8>, bytes: &[u8], delimiter: Separator) -> Result
         place_now = read.next;
     }
     Ok(())
+}
+
+/// The byte of a delimiter: no double quote, and no line end.
+#[derive(Clone, Copy, Drop)]
+pub(crate) struct Separator {
+    pub(crate) byte: u8,
+    ghost can: { CanDelimit byte },
+}
+
+impl Separator {
+    /// Returns the byte of a delimiter.
+    pub(crate) fn of(delimiter: &Delimiter) -> Separator
+        ensures { result.byte ≡ delimiter.now }
+    {
+        Separator {
+            byte: delimiter.byte(),
+        }
+    }
+}
+
+/// Returns whether a record may have this number of bytes of its own, where there may be a greatest
+/// number.
+#[inline(always)]
+pub fn may_have(most: Option<u64>, len: usize) -> bool
+    ensures { result ≡ may_have most len }
+{
+    match most {
+        Some(most) => len as u64 <= most,
+        None => true,
+    }
 }

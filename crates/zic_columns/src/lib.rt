@@ -32,6 +32,8 @@
 //! - `Splitter::new`, `fill`: the next records of a piece come first of those that were left
 //!   (`split`), each with its number of fields and the two that rows need (`IsSplit`); fewer than
 //!   64 only where no record is left
+//! - `Splitter::fill_pairs`: the next records, as long as each is a plain pair, with the delimiter between its
+//!   two fields (`IsPairOf`); `Pair::record`: the record that a pair is (`pair_record`)
 //! - `Span::of`, `push_field`: bytes of a piece, the text of a field (`field_text`)
 //! - `has_stray_quote`, and `fill` of each record: whether it has a double quote that RFC 4180
 //!   doesn't have (`has_stray`); `is_open_line`: whether the double quotes of a line are open at
@@ -43,19 +45,15 @@ mod buffer;
 mod columns;
 mod csv_scan;
 mod cursor;
-mod delimiter;
 mod ends;
 mod fields;
-mod first;
 pub mod laws;
 mod limit;
-mod line;
 mod line_scan;
 mod lines;
-mod longest;
 mod machine;
 mod mark;
-mod own;
+mod pairs;
 mod pieces;
 mod plain;
 mod quote;
@@ -67,10 +65,9 @@ mod walk;
 
 pub use buffer::FIRST_ROOM;
 pub use columns::{Column, PassStop, Taken, TakenLine, Unread};
-pub use fields::{Field, Record, Span, Wanted, push_field};
+pub use fields::{Field, Pair, Record, Span, Wanted, may_have, push_field};
 pub use line_scan::is_open_line;
 pub use lines::{line_end_at, line_feeds};
-pub use longest::may_have;
 pub use mark::without_mark;
 pub use pieces::MAX_ROUND_PIECES;
 pub use quote::has_stray_quote;

@@ -6,10 +6,10 @@ ghost use Rattle.zic_columns.specs.Quotes.{is_open};
 ghost use Rattle.zic_columns.specs.code.LineScan.{AreClosedLines, IsFirstLine, IsLineScan};
 
 use crate::csv_scan::lines_before_quote;
-use crate::delimiter::Separator;
+use crate::fields::Separator;
 use crate::machine::{Place, place_after};
 use memchr::memchr2;
-use zic_plan::Delimiter;
+use zic_layouts::Delimiter;
 
 /// The number of bytes of an open line at the start of some bytes, without its line end and with it.
 #[derive(Clone, Copy, Drop)]

@@ -5,8 +5,8 @@ ghost use Rattle.zic_columns.specs.Column.{CanDelimit};
 ghost use Rattle.zic_columns.specs.code.Field.{EndsField, HasQuotes, IsField, IsOfField};
 ghost use Rattle.zic_columns.specs.code.Machine.{EndsRecord, GoesOn, IsEndOfRecord, ReadsTo, state_at};
 
-use crate::delimiter::Separator;
-use crate::line::ends_line;
+use crate::fields::Separator;
+use crate::lines::ends_line;
 
 /// The state of a CSV reader in a record.
 #[derive(Clone, Copy, Drop)]

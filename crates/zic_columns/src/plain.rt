@@ -1,15 +1,14 @@
 //! Records of a piece whose fields begin with no double quote.
 
-ghost use Rattle.std.specs.Prelude.{◌≡◌, ◌≢◌, ◌+◌, ◌^◌, ◌<◌, ◌≤◌, ◌∷◌, ◌++◌, [], ℕ, List, None, drop, length, IfSome, MatchResult};
-ghost use Rattle.zic_columns.specs.Record.{IsWithin, bytes_at};
+ghost use Rattle.std.specs.Prelude.{◌≡◌, ◌≢◌, ◌+◌, ◌^◌, ◌<◌, ◌≤◌, ◌∷◌, ◌++◌, [], ℕ, List, None, drop, length, IfSome, IsTrue, MatchResult};
+ghost use Rattle.zic_columns.specs.Record.{IsPairOf, IsWithin, bytes_at, pair_record};
 ghost use Rattle.zic_columns.specs.code.Ends.{ShowsEnds};
 ghost use Rattle.zic_columns.specs.code.Machine.{BeginsRecord};
-ghost use Rattle.zic_columns.specs.code.Plain.{IsLineEndAt, IsPlainFrom, AreIndicesOf, no_fields, record_of};
+ghost use Rattle.zic_columns.specs.code.Plain.{IsLineEndAt, IsPlainFrom, AreIndicesOf, no_fields, record_of, zone_and_time};
 ghost use Rattle.zic_columns.specs.code.Walk.{HasFields, HasWalked, IsRecordFrom};
 
-use crate::delimiter::Separator;
 use crate::ends::FieldEnds;
-use crate::fields::{Field, Record, Span, Wanted};
+use crate::fields::{Field, Pair, Record, Separator, Span, Wanted};
 use crate::walk::{PartRecord, quoted_text};
 
 /// The number of fields of a record, and where those that rows need stand.
@@ -29,6 +28,31 @@ pub(crate) struct PlainRecord {
 }
 
 impl PlainRecord {
+    /// Returns the record of a pair.
+    #[inline(always)]
+    pub(crate) fn of(pair: Pair) -> PlainRecord
+        requires { pair.stop < pair.end }
+        ensures { record_of result.start result.end result.fields ≡ pair_record pair }
+    {
+        let zone = Span {
+            start: pair.start,
+            end: pair.stop,
+        };
+        let time = Span {
+            start: pair.stop + 1,
+            end: pair.end,
+        };
+        PlainRecord {
+            start: pair.start,
+            end: pair.end,
+            fields: PlainFields {
+                count: 2,
+                zone,
+                time,
+            },
+        }
+    }
+
     /// Returns the record.
     #[inline(always)]
     pub(crate) fn record(self) -> Record
@@ -130,32 +154,38 @@ pub(crate) fn split_plain(
     ensures { MatchResult result (IsPlainFrom delimiter.byte piece.now start wanted ends.new)
         (λ begun. HasWalked delimiter.byte piece.now start wanted begun.given begun.at) }
 {
-    match split_pair(piece, start, wanted, delimiter, ends) {
-        Some(plain) => Ok(plain.record()),
-        None => split_fields(piece, start, wanted, delimiter, ends),
+    if are_zone_and_time(wanted) {
+        if let Some(pair) = split_pair(piece, start, delimiter, ends) {
+            return Ok(pair.record());
+        }
     }
+    split_fields(piece, start, wanted, delimiter, ends)
 }
 
-/// Splits the record that begins at an index, where it is a zone and a time in this order, neither of
-/// which begins with a double quote. `None` doesn't mean that there is no record, and leaves the field
-/// ends as they were.
+/// Returns whether rows need the first field as a zone, and the second as a time.
+#[inline(always)]
+pub(crate) fn are_zone_and_time(wanted: Wanted) -> bool
+    ensures { IsTrue result → wanted ≡ zone_and_time }
+{
+    matches!((wanted.zone, wanted.time), (Some(0), 1))
+}
+
+/// Splits the record that begins at an index, where it is two fields, neither of which begins with a double
+/// quote, with a line end after it. `None` doesn't mean that there is no record, and leaves the field ends
+/// as they were.
 #[inline(always)]
 pub(crate) fn split_pair(
     piece: &[u8],
     start: usize,
-    wanted: Wanted,
     delimiter: Separator,
     ends: &mut FieldEnds,
-) -> Option<PlainRecord>
-    requires begins { BeginsRecord (drop start piece.now) }
-    requires shows { ShowsEnds delimiter.byte piece.now start ends.old }
-    ensures some { IfSome result (λ plain. IsPlainFrom delimiter.byte piece.now start wanted ends.new
-        (record_of plain.start plain.end plain.fields)) }
+) -> Option<Pair>
+    requires { ShowsEnds delimiter.byte piece.now start ends.old }
+    ensures from { IfSome result (λ pair.
+        IsPlainFrom delimiter.byte piece.now start zone_and_time ends.new (pair_record pair)) }
+    ensures pair { IfSome result (IsPairOf delimiter.byte piece.now) }
     ensures none { result ≡ None → ends.new ≡ ends.old }
 {
-    let (Some(0), 1) = (wanted.zone, wanted.time) else {
-        return None;
-    };
     let mut next = *ends;
     let stop = next.next_end(piece, start, delimiter)?;
     let end = next.next_end(piece, stop + 1, delimiter)?;
@@ -166,17 +196,7 @@ pub(crate) fn split_pair(
         return None;
     }
     *ends = next;
-    let indices = indices_of(wanted);
-    let zone = with_span(no_fields(start), Span { start, end: stop }, indices);
-    let time = Span {
-        start: stop + 1,
-        end,
-    };
-    Some(PlainRecord {
-        start,
-        end,
-        fields: with_span(zone, time, indices),
-    })
+    Some(Pair { start, stop, end })
 }
 
 /// Splits the record that begins at an index, where it is a zone and a time in this order, each of them

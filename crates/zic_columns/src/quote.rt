@@ -6,10 +6,10 @@ ghost use Rattle.zic_columns.specs.Quotes.{has_stray, is_past_quote};
 ghost use Rattle.zic_columns.specs.code.Machine.{state_at};
 ghost use Rattle.zic_columns.specs.code.Quote.{IsFirstQuote, StraysOn};
 
-use crate::delimiter::Separator;
+use crate::fields::Separator;
 use crate::machine::{Place, field_byte};
 use memchr::memchr;
-use zic_plan::Delimiter;
+use zic_layouts::Delimiter;
 
 /// Returns the index of the first double quote.
 ///

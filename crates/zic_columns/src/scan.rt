@@ -4,9 +4,9 @@ ghost use Rattle.std.specs.Prelude.{◌≡◌, ◌≤◌, ℕ, [], drop, length,
 ghost use Rattle.zic_columns.specs.code.Buffered.{IsScannedBy, mode_of, open_of_scan, whole_of_scan};
 
 use crate::csv_scan::{CsvScan, scan_on, scan_rest};
-use crate::delimiter::Separator;
+use crate::fields::Separator;
 use crate::line_scan::{LineScan, OpenLine, scan_lines_on, scan_lines_rest};
-use zic_plan::Records;
+use zic_layouts::Records;
 
 /// The whole records among the buffered bytes.
 #[derive(Clone, Copy, Drop)]

@@ -2,14 +2,15 @@
 
 ghost use Rattle.std.specs.Prelude.{◌≡◌, ◌++◌, ◌+◌, ◌<◌, ◌≤◌, [], All, drop, length, map, take};
 ghost use Rattle.zic_columns.specs.Own.{csv_records};
-ghost use Rattle.zic_columns.specs.Record.{IsSplit, record_at};
+ghost use Rattle.zic_columns.specs.Record.{IsPairOf, IsSplit, pair_record, record_at};
 ghost use Rattle.zic_columns.specs.code.Ends.{ShowsEnds};
 
 use crate::cursor::Cursor;
-use crate::delimiter::Separator;
-use crate::fields::{Record, Wanted};
+use crate::fields::{Pair, Record, Separator, Wanted};
+use crate::pairs::split_pairs;
+use crate::plain::are_zone_and_time;
 use std::marker::Model;
-use zic_plan::Delimiter;
+use zic_layouts::Delimiter;
 
 /// The most records that are split together.
 pub const BATCH: usize = 64;
@@ -82,6 +83,29 @@ impl<'a> Splitter<'a> {
         );
         self.at = cursor.at;
         count
+    }
+
+    /// Splits the next records as long as each is a plain pair, at most `BATCH`, and returns their number.
+    /// Fewer don't mean that no record is left: the next isn't a plain pair, has a space or a control
+    /// character, or isn't shown by the next 64 bytes; or rows need other fields than the first two.
+    pub fn fill_pairs(&mut self, pairs: &mut [Pair; BATCH]) -> usize
+        ensures delimiter { self.new.delimiter ≡ self.old.delimiter }
+        ensures piece { self.new.piece ≡ self.old.piece }
+        ensures wanted { self.new.wanted ≡ self.old.wanted }
+        ensures few { result ≤ BATCH }
+        ensures long { length pairs.new ≡ BATCH }
+        ensures split { self.old.left ≡ map (record_at self.old.delimiter self.old.piece)
+            (map pair_record (take result pairs.new)) ++ self.new.left }
+        ensures each { All (IsSplit self.old.delimiter self.old.piece self.old.wanted)
+            (map pair_record (take result pairs.new)) }
+        ensures bare { All (IsPairOf self.old.delimiter self.old.piece) (take result pairs.new) }
+    {
+        if !are_zone_and_time(self.fields) {
+            return 0;
+        }
+        let split = split_pairs(self.bytes, self.at, self.separator, pairs);
+        self.at = split.at;
+        split.count
     }
 
     /// Splits the next records of a piece, at most `BATCH`, and returns their number.

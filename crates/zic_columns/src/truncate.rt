@@ -5,7 +5,7 @@ ghost use Rattle.std.specs.Io.{ReadsAtMost};
 ghost use Rattle.std.specs.Io.KnownBytes.{ReadConsumes};
 ghost use Rattle.zic_columns.specs.Truncated.{truncated, truncated_from, truncated_known};
 
-use crate::line::ends_line;
+use crate::lines::ends_line;
 use std::io::{self, ErrorKind, Read};
 
 /// Returns how many more bytes of its line may stay after a byte, where `room` may stay with it, or

@@ -10,9 +10,8 @@ ghost use Rattle.zic_columns.specs.code.Walk.{HasFields, HasWalked, IsFieldEnd, 
 ghost use Rattle.zic_columns.specs.declared.machine.Place.TheVariants as place;
 
 use crate::blocks::{near_field_end, near_quote};
-use crate::delimiter::Separator;
-use crate::fields::{Field, Record, Span, Wanted};
-use crate::line::ends_line;
+use crate::fields::{Field, Record, Separator, Span, Wanted};
+use crate::lines::ends_line;
 use crate::machine::{Place, field_len, record_end};
 use crate::plain::split_quoted_pair;
 use memchr::{memchr, memchr3};

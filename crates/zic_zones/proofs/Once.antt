@@ -9,7 +9,7 @@ use Rattle.zic_base.proofs.Lists.{get_mapped}
 use Rattle.zic_base.proofs.Options.{if_at}
 use Rattle.zic_zones.specs.Places.{base_of}
 use Rattle.zic_zones.specs.Slots.{AreRight}
-use Rattle.zic_zones.specs.declared.limit.TheConstants.{SLOTS}
+use Rattle.zic_zones.specs.declared.slot.TheConstants.{SLOTS}
 use Rattle.zic_zones.specs.declared.slot.Slot.{Slot}
 use Rattle.zic_tzif.specs.Content.{Content}
 use Rattle.zic_zones.proofs.Slots.{got_more}

@@ -6,16 +6,16 @@ use Rattle.std.proofs.lemmas.Option.{same_Some}
 use Rattle.zic_base.proofs.Elements.{all_got}
 use Rattle.zic_base.proofs.Options.{if_at}
 use Rattle.zic_base.specs.State.{Shown}
-use Rattle.zic_base.specs.declared.limit.TheConstants.{FARTHEST_FILE_OFFSET}
+use Rattle.zic_base.specs.declared.constants.TheConstants.{FARTHEST_FILE_OFFSET}
 use Rattle.zic_files.specs.File.{File}
 use Rattle.zic_files.specs.Sound.{AreSoundFiles, IsSoundFile}
 use Rattle.zic_local.specs.Choice.{Means}
 use Rattle.zic_local.specs.Laws.{ChoicesMeanOne, InstantsAreNear}
 use Rattle.zic_local.specs.LocalTime.{HaveOffsets, IsInRange, IsInstantOf}
-use Rattle.zic_plan.specs.declared.disambiguation.Disambiguation.{Disambiguation}
-use Rattle.zic_plan.specs.declared.disambiguation.Disambiguation.TheVariants as choice
-use Rattle.zic_rows.specs.Instant.{IsRowOffset}
-use Rattle.zic_zones.specs.declared.limit.TheConstants.{UNKNOWN}
+use Rattle.zic_layouts.specs.declared.disambiguation.Disambiguation.{Disambiguation}
+use Rattle.zic_layouts.specs.declared.disambiguation.Disambiguation.TheVariants as choice
+use Rattle.zic_row_text.specs.Instant.{IsRowOffset}
+use Rattle.zic_zones.specs.declared.slot.TheConstants.{UNKNOWN}
 use Rattle.zic_tzif.proofs.AnswerLemmas.{one_answer}
 use Rattle.zic_tzif.specs.Answer.{Answers}
 use Rattle.zic_tzif.specs.Content.{Content}

@@ -14,7 +14,7 @@ use Rattle.zic_columns.specs.declared.fields.Record.{Record}
 use Rattle.zic_columns.specs.declared.fields.Wanted.{Wanted}
 use Rattle.zic_columns.specs.declared.splits.TheConstants.{BATCH}
 use Rattle.zic_files.specs.Tree.{IsKnown, Reply}
-use Rattle.zic_plan.specs.declared.layout.ZoneFrom.TheVariants as zone
+use Rattle.zic_layouts.specs.declared.layout.ZoneFrom.TheVariants as zone
 use Rattle.zic_zones.specs.Growing.{grows_then}
 use Rattle.zic_zones.specs.Tree.{Grows, TreeOf}
 use Rattle.zic_zones.specs.Zones.{field_at, zone_in}

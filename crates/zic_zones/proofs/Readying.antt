@@ -16,8 +16,8 @@ use Rattle.zic_local.specs.declared.local_index.LocalIndex.{LocalIndex}
 use Rattle.zic_zones.proofs.Slots.{got_more}
 use Rattle.zic_zones.specs.Places.{IsPlaceOf, base_of, start_of}
 use Rattle.zic_zones.specs.Slots.{number_at}
-use Rattle.zic_zones.specs.declared.limit.TheConstants.{SLOT_SECONDS}
-use Rattle.zic_zones.specs.declared.place.Place.{Place}
+use Rattle.zic_zones.specs.declared.slot.TheConstants.{SLOT_SECONDS}
+use Rattle.zic_zones.specs.declared.slot.Place.{Place}
 use Rattle.zic_zones.specs.declared.slot.Slot.{Slot}
 use Rattle.zic_tzif.specs.Content.{Content}
 use Rattle.zic_zones.proofs.Held.{names_still}

@@ -7,16 +7,16 @@ use Rattle.zic_base.proofs.Elements.{all_got}
 use Rattle.zic_base.proofs.Options.{if_at}
 use Rattle.zic_base.specs.Byte.{is_abbreviation_byte}
 use Rattle.zic_base.specs.State.{Shown}
-use Rattle.zic_base.specs.declared.limit.TheConstants.{LONGEST_ABBREVIATION, SHORTEST_ABBREVIATION}
+use Rattle.zic_base.specs.declared.constants.TheConstants.{LONGEST_ABBREVIATION, SHORTEST_ABBREVIATION}
 use Rattle.zic_files.specs.File.{File}
 use Rattle.zic_files.specs.Sound.{AreSoundFiles, IsSoundFile}
-use Rattle.zic_posix.specs.declared.instants.Instants.{Instants}
-use Rattle.zic_rows.specs.Row.{IsRowState}
+use Rattle.zic_posix.specs.declared.span.Instants.{Instants}
+use Rattle.zic_row_text.specs.Row.{IsRowState}
 use Rattle.zic_tzif.proofs.States.{one_state}
 use Rattle.zic_tzif.specs.Answer.{Answers, AnswersThroughout}
 use Rattle.zic_tzif.specs.Content.{Content}
 use Rattle.zic_tzif.specs.States.{IsStateOfNumber}
-use Rattle.zic_words.specs.Limits.{IsWithinLimits}
+use Rattle.zic_lines.specs.Limits.{IsWithinLimits}
 use Rattle.zic_zones.specs.Zones.{AnswersAt, IsShownAt, ShowsThroughout}
 
 second : (a b c : Bool) → (a && b && c) ≡ true → b ≡ true

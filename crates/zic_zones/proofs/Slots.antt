@@ -7,9 +7,9 @@ use Rattle.std.proofs.lemmas.Option.{same_Some}
 use Rattle.zic_posix.specs.Instants.{Includes}
 use Rattle.zic_zones.specs.Slots.{AreRight, IsRight, Says}
 use Rattle.zic_zones.specs.code.Known.{IsKnown}
-use Rattle.zic_zones.specs.declared.limit.TheConstants.{SLOT_SECONDS, UNKNOWN}
+use Rattle.zic_zones.specs.declared.slot.TheConstants.{SLOT_SECONDS, UNKNOWN}
 use Rattle.zic_zones.specs.declared.slot.Slot.{Slot}
-use Rattle.zic_zones.specs.declared.table.Known.{Known}
+use Rattle.zic_zones.specs.declared.table.NumberSpan.{NumberSpan}
 use Rattle.zic_tzif.specs.Content.{Content}
 
 either : (b : Bool) (n : ℕ) → (if b then n else n) ≡ n
@@ -18,7 +18,7 @@ either false n = refl
 
 module _ (content : Content) (numbers : List ℕ) (start : ℤ) where
   -- a slot of one number
-  pub right_throughout : (known : Known) → IsKnown content numbers known → Includes known.instants start → (start +ℤ pos 8388607) ≤ℤ known.instants.last
+  pub right_throughout : (known : NumberSpan) → IsKnown content numbers known → Includes known.instants start → (start +ℤ pos 8388607) ≤ℤ known.instants.last
       → IsRight content numbers start (record { change = 0; before = known.number; after = known.number })
   right_throughout known is requested far = record {
     says = λ second lt.
@@ -28,7 +28,7 @@ module _ (content : Content) (numbers : List ℕ) (start : ℤ) where
   }
 
   -- a slot with a change
-  pub right_by_change : (before after : Known) (change : ℕ) → IsKnown content numbers before → IsKnown content numbers after
+  pub right_by_change : (before after : NumberSpan) (change : ℕ) → IsKnown content numbers before → IsKnown content numbers after
       → Includes before.instants start → (start +ℤ pos change) ≡ (before.instants.last +ℤ pos 1)
       → Includes after.instants (start +ℤ pos change) → (start +ℤ pos 8388607) ≤ℤ after.instants.last
       → IsRight content numbers start (record { change = change; before = before.number; after = after.number })

@@ -3,7 +3,7 @@ use Rattle.std.proofs.Common.{◌≡◌, ◌∙◌, ◌+◌, ◌++◌, ℕ, suc,
 use Rattle.std.specs.Prelude.{◌*◌, pos, ◌+ℤ◌, slice_get}
 use Rattle.zic_base.specs.State.{Shown}
 use Rattle.zic_zones.specs.Slots.{number_at}
-use Rattle.zic_zones.specs.declared.limit.TheConstants.{SLOT_SECONDS}
+use Rattle.zic_zones.specs.declared.slot.TheConstants.{SLOT_SECONDS}
 use Rattle.zic_zones.specs.declared.slot.Slot.{Slot}
 use Rattle.zic_tzif.proofs.States.{one_state}
 use Rattle.zic_tzif.specs.Answer.{Answers}

@@ -1,6 +1,6 @@
 -- Zones of two releases, the second of which rows are compared with: own choice.
 use Rattle.std.specs.Prelude.{◌≡◌, Some}
-use Rattle.zic_zones.specs.declared.releases.Releases.{Releases}
+use Rattle.zic_zones.specs.declared.zones.Releases.{Releases}
 
 -- the files of a release, compared with those of another
 abbrev pub compared : Releases → Releases → Releases

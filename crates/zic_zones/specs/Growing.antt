@@ -7,7 +7,7 @@ use Rattle.zic_files.specs.Tree.{Gains, IsKnown, IsLearntFrom, Learnt, Reply}
 use Rattle.zic_zones.specs.Tree.{Grows, MayHave, TreeOf}
 use Rattle.zic_zones.specs.Compared.{MayCompare, compared}
 use Rattle.zic_zones.specs.Zones.{Agree, OldAgree, ReleasesAgree, alone}
-use Rattle.zic_zones.specs.declared.releases.Releases.{Releases}
+use Rattle.zic_zones.specs.declared.zones.Releases.{Releases}
 
 gains_none : (replied : Option (List Reply)) → Gains replied replied []
 gains_none None = tt

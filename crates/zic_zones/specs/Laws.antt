@@ -1,6 +1,6 @@
 -- Laws of zones by name.
 use Rattle.std.specs.Prelude.{ℕ, ℤ, List, ◌++◌, MatchResult}
-use Rattle.zic_plan.specs.declared.disambiguation.Disambiguation.{Disambiguation}
+use Rattle.zic_layouts.specs.declared.disambiguation.Disambiguation.{Disambiguation}
 use Rattle.zic_tzif.specs.Content.{Content}
 use Rattle.zic_tzif.specs.Reading.{IsFile}
 use Rattle.zic_local.specs.Choice.{IsUnresolved, Means}

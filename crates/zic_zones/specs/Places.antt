@@ -1,7 +1,7 @@
 -- Where the slot of an instant is: own choice.
 use Rattle.std.specs.Prelude.{◌≡◌, ℕ, ◌*◌, ◌^◌, ◌<◌, ℤ, pos, ◌+ℤ◌}
-use Rattle.zic_zones.specs.declared.limit.TheConstants.{ERAS, FIRST_BASE, SLOT_SECONDS, SLOTS}
-use Rattle.zic_zones.specs.declared.place.Place.{Place}
+use Rattle.zic_zones.specs.declared.slot.TheConstants.{ERAS, FIRST_BASE, SLOT_SECONDS, SLOTS}
+use Rattle.zic_zones.specs.declared.slot.Place.{Place}
 
 -- the first instant of an era
 abbrev pub base_of : ℕ → ℤ

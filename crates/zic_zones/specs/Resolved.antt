@@ -1,7 +1,7 @@
 -- What is meant by a local time, as a function of a file's bytes: for definitions that are functions themselves.
 use Rattle.std.specs.Prelude.{ℕ, ℤ, List, Result}
-use Rattle.zic_plan.specs.declared.disambiguation.Disambiguation.{Disambiguation}
-use Rattle.zic_local.specs.declared.disambiguation.Unresolved.{Unresolved}
+use Rattle.zic_layouts.specs.declared.disambiguation.Disambiguation.{Disambiguation}
+use Rattle.zic_local.specs.declared.local_time.Unresolved.{Unresolved}
 use Rattle.zic_local.proofs.Resolving.{resolved_by}
 
 -- The instant that is meant by a local time, or why none is: of the bytes of a file the one thing of which `Means` or `IsUnresolved` holds, as

@@ -1,7 +1,7 @@
 -- What slots say of the states of a zone: own choice.
 use Rattle.std.specs.Prelude.{◌≡◌, ◌≢◌, ℕ, ◌*◌, ◌<◌, nat_le, ℤ, pos, ◌+ℤ◌, if◌then◌else◌, List, Some, slice_get}
 use Rattle.zic_base.specs.State.{Shown}
-use Rattle.zic_zones.specs.declared.limit.TheConstants.{SLOT_SECONDS, UNKNOWN}
+use Rattle.zic_zones.specs.declared.slot.TheConstants.{SLOT_SECONDS, UNKNOWN}
 use Rattle.zic_zones.specs.declared.slot.Slot.{Slot}
 use Rattle.zic_tzif.specs.Answer.{Answers}
 use Rattle.zic_tzif.specs.Content.{Content}

@@ -4,7 +4,7 @@ use Rattle.std.specs.Prelude.{◌≡◌, ℕ, List}
 use Rattle.zic_files.specs.File.{File}
 use Rattle.zic_files.specs.Sound.{AreSoundFiles}
 use Rattle.zic_zones.specs.Zones.{ReleasesAgree, alone}
-use Rattle.zic_zones.specs.declared.releases.Releases.{Releases}
+use Rattle.zic_zones.specs.declared.zones.Releases.{Releases}
 
 pub source_then : (a b c : List File) → b ≡ a → c ≡ b → c ≡ a
 source_then a b c first second = second ∙ first

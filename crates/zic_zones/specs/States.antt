@@ -2,7 +2,7 @@
 use Rattle.std.specs.Prelude.{◌≡◌, ◌≢◌, ℕ, List, Some, slice_get}
 use Rattle.zic_base.specs.State.{Shown}
 use Rattle.zic_files.specs.File.{File}
-use Rattle.zic_zones.specs.declared.limit.TheConstants.{UNKNOWN}
+use Rattle.zic_zones.specs.declared.slot.TheConstants.{UNKNOWN}
 
 -- some files, and states by number
 pub record NumberedStates : Type 0 where

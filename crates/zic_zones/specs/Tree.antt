@@ -3,7 +3,7 @@ use Rattle.std.specs.Prelude.{◌≡◌, ℕ, List, ◌++◌, Option, None, Cont
 use Rattle.zic_files.specs.File.{File}
 use Rattle.zic_files.specs.Tree.{AreRequestedOnce, AreOfName, Gains, IsKnown, IsLearntFrom, Learnt, Reply}
 use Rattle.zic_zones.specs.Zones.{Agree}
-use Rattle.zic_zones.specs.declared.releases.Releases.{Releases}
+use Rattle.zic_zones.specs.declared.zones.Releases.{Releases}
 
 -- a tree, and the names and files that were learnt of it
 pub record TreeOf (T : Type 0) : Type 0 where

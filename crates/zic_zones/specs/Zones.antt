@@ -4,12 +4,12 @@ use Rattle.std.specs.List.{list_any}
 use Rattle.zic_base.specs.State.{Shown}
 use Rattle.zic_files.specs.File.{File}
 use Rattle.zic_files.specs.Sound.{AreSoundFiles}
-use Rattle.zic_plan.specs.declared.layout.ZoneFrom.{ZoneFrom}
-use Rattle.zic_plan.specs.declared.layout.ZoneFrom.TheVariants as zone
-use Rattle.zic_posix.specs.declared.instants.Instants.{Instants}
+use Rattle.zic_layouts.specs.declared.layout.ZoneFrom.{ZoneFrom}
+use Rattle.zic_layouts.specs.declared.layout.ZoneFrom.TheVariants as zone
+use Rattle.zic_posix.specs.declared.span.Instants.{Instants}
 use Rattle.zic_tzif.specs.Answer.{Answers, AnswersThroughout}
 use Rattle.zic_tzif.specs.States.{IsStateOfNumber}
-use Rattle.zic_zones.specs.declared.releases.Releases.{Releases}
+use Rattle.zic_zones.specs.declared.zones.Releases.{Releases}
 
 -- some file has this name
 abbrev pub is_named : List File → List ℕ → Bool

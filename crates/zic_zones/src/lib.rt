@@ -7,7 +7,7 @@
 //! `Zones` is a trait: `learn` and `prepare` make zones ready, and from then on no other file of
 //! these names is known (`settled`); the files by which rows may be made agree with those that are
 //! known (`Agree`). `SourceZones` knows the files of a source, and nothing grows; `TreeZones`
-//! requests each name of a tree once (`Grows`, `Breaks`, `Requests`); `Compared` knows those of
+//! requests each name of a tree once (`Grows`, `Breaks`, `Requests`); `TwoReleases` knows those of
 //! two. `RowZones::find` and `find_at` give the file of a name (`number_of`), `name` the name of a
 //! file, `span` the number of the state at an instant and instants round it that show it
 //! (`ShowsThroughout`), `instant` the instant that is meant by a local time (`resolved`),
@@ -19,14 +19,9 @@
 //! none (`AreRight`). `Slot::number_at` and `place_of` read them (`IsPlaceOf`).
 #![tactic(auto)]
 
-mod compared;
 pub mod laws;
-mod limit;
 mod name_keys;
-mod near;
-mod place;
 mod ready;
-mod releases;
 mod row_states;
 mod row_zones;
 mod runs;
@@ -39,14 +34,10 @@ mod texts;
 mod tree_zones;
 mod zones;
 
-pub use compared::Compared;
-pub use limit::{ERAS, FIRST_BASE, LAST_BASE, SLOT_SECONDS, SLOTS, UNKNOWN};
-pub use place::{Place, place_of};
-pub use releases::Releases;
 pub use row_states::RowStates;
 pub use row_zones::{OnlyInstant, RowSpan, RowZones};
-pub use slot::Slot;
+pub use slot::{ERAS, FIRST_BASE, LAST_BASE, Place, SLOT_SECONDS, SLOTS, Slot, UNKNOWN, place_of};
 pub use source_zones::SourceZones;
 pub use table::slots_of;
 pub use tree_zones::TreeZones;
-pub use zones::Zones;
+pub use zones::{Releases, TwoReleases, Zones};

@@ -9,16 +9,14 @@ ghost use Rattle.zic_zones.specs.code.Near.{AnswersNear};
 ghost use Rattle.zic_zones.specs.code.Ready.{AreReady, HasIndex, IsFileOf, IsReadyZone, IsTextOf};
 ghost use Rattle.zic_zones.specs.code.Texts.{Keeps};
 
-use crate::limit::{ERAS, UNKNOWN};
 use crate::name_keys::NameKeys;
-use crate::near::number_near;
-use crate::place::place_of;
+use crate::slot::{ERAS, UNKNOWN, number_near, place_of};
 use crate::tables::{Expected, Tables};
 use crate::texts::Texts;
 use std::alloc::{AllocError, Global};
 use zic_files::Files;
 use zic_local::LocalIndex;
-use zic_rows::StateText;
+use zic_row_text::StateText;
 use zic_tzif::Zone;
 
 /// The least number of bytes of a file in which changes may come close together: some 450 changes.
@@ -199,8 +197,8 @@ impl Ready {
         ensures { (files : List File) → AreReady files self.now
             → IfSome result (λ n. HasState self.now.texts n (AnswersAt files file instant)) }
     {
-        let zone = self.zones.get(file)?;
         let place = place_of(instant)?;
+        let zone = self.zones.get(file)?;
         let start = zone.tables[place.era]?;
         let slot = self.tables.slot(start, place.slot)?;
         Some(slot.number_at(place.second))
@@ -213,8 +211,8 @@ impl Ready {
         ensures { (files : List File) → AreReady files self.now
             → IfSome result (λ n. HasState self.now.texts n (AnswersNear files file local)) }
     {
-        let zone = self.zones.get(file)?;
         let place = place_of(local)?;
+        let zone = self.zones.get(file)?;
         let start = zone.tables[place.era]?;
         let slot = self.tables.slot(start, place.slot)?;
         number_near(slot, place.second)

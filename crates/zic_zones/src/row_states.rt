@@ -4,11 +4,11 @@ ghost use Rattle.std.specs.Prelude.{◌≡◌, ◌<◌, Some, length, slice_get}
 ghost use Rattle.zic_zones.specs.States.{HasState};
 ghost use Rattle.zic_zones.specs.Zones.{AnswersAt};
 
-use crate::limit::UNKNOWN;
 use crate::ready::Ready;
+use crate::slot::UNKNOWN;
 use std::marker::Model;
 use zic_files::Files;
-use zic_rows::StateText;
+use zic_row_text::StateText;
 use zic_tzif::Answer;
 
 /// The states that files show, each with a number that it has for all files, and its text. Clauses see

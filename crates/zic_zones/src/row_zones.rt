@@ -3,22 +3,22 @@
 ghost use Rattle.std.specs.Prelude.{◌≡◌, ◌<◌, ◌≤◌, ℤ, length, IfSome, Ok, slice_get, slice_range};
 ghost use Rattle.zic_files.specs.Sound.{AreSoundFiles};
 ghost use Rattle.zic_local.specs.LocalTime.{IsInRange};
-ghost use Rattle.zic_plan.specs.declared.disambiguation.Disambiguation.{Disambiguation};
+ghost use Rattle.zic_layouts.specs.declared.disambiguation.Disambiguation.{Disambiguation};
 ghost use Rattle.zic_posix.specs.Instants.{Includes};
-ghost use Rattle.zic_rows.specs.Row.{IsRowState};
+ghost use Rattle.zic_row_text.specs.Row.{IsRowState};
 ghost use Rattle.zic_zones.specs.Resolved.{resolved};
 ghost use Rattle.zic_zones.specs.Zones.{AnswersAt, IsShownAt, ShowsThroughout, number_of};
 
 use crate::laws::local_times_resolve;
-use crate::limit::UNKNOWN;
 use crate::ready::Ready;
 use crate::row_states::RowStates;
+use crate::slot::UNKNOWN;
 use std::marker::Model;
 use zic_files::Files;
+use zic_layouts::Disambiguation;
 use zic_local::laws::{choices_mean_one, instants_are_near};
 use zic_local::{Unresolved, instant_by};
-use zic_plan::Disambiguation;
-use zic_rows::StateText;
+use zic_row_text::StateText;
 use zic_tzif::{Answer, Instants};
 
 /// Some instants, and the number of the state that a zone shows at each of them.

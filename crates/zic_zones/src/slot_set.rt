@@ -1,11 +1,10 @@
 //! Slots by number, each stored once.
 
-ghost use Rattle.std.specs.Prelude.{◌≡◌, [], IfOk, IfSome, IsTrue, Some, slice_get};
+ghost use Rattle.std.specs.Prelude.{◌≡◌, ◌<◌, [], IfOk, IfSome, IsTrue, Some, length, slice_get};
 ghost use Rattle.zic_zones.specs.code.Tables.{AreNumbersOfSlots};
 ghost use Rattle.zic_zones.specs.code.Texts.{Keeps};
 
-use crate::limit::UNKNOWN;
-use crate::slot::Slot;
+use crate::slot::{Slot, UNKNOWN};
 use std::alloc::{AllocError, Global};
 use std::marker::Model;
 
@@ -49,6 +48,15 @@ impl SlotSet {
         ensures { IfSome result (λ slot. slice_get self.now number ≡ Some slot) }
     {
         Some(*self.slots.get(usize::from(number))?)
+    }
+
+    /// Returns the slot of a number.
+    #[inline(always)]
+    pub(crate) fn known_slot(&self, number: u16) -> Slot
+        requires { number < length self.now }
+        ensures { slice_get self.now number ≡ Some result }
+    {
+        self.slots[usize::from(number)]
     }
 
     /// Returns the numbers of some slots, of which those that aren't here are added, or `None` where

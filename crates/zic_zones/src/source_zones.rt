@@ -3,17 +3,16 @@
 ghost use Rattle.std.specs.Prelude.{◌≡◌, IfOk};
 ghost use Rattle.zic_zones.specs.code.Ready.{AreReady};
 
-use crate::place::place_of;
 use crate::ready::Ready;
-use crate::releases::Releases;
 use crate::row_zones::RowZones;
+use crate::slot::place_of;
 use crate::tables::Expected;
-use crate::zones::Zones;
+use crate::zones::{Releases, Zones};
 use std::alloc::{AllocError, Global};
 use std::marker::Model;
 use zic_columns::Round;
 use zic_files::Files;
-use zic_plan::{Delimiter, ZoneFrom};
+use zic_layouts::{Delimiter, ZoneFrom};
 
 /// The zones of the files of a source, all of them ready for rows. Clauses see the files.
 #[derive(Drop)]

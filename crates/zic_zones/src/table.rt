@@ -5,15 +5,14 @@ ghost use Rattle.zic_posix.specs.Instants.{Includes};
 ghost use Rattle.zic_zones.specs.Slots.{AreRight, IsRight};
 ghost use Rattle.zic_zones.specs.code.Known.{IsKnown};
 
-use crate::limit::{LAST_BASE, SLOT_SECONDS, SLOTS, UNKNOWN};
-use crate::slot::Slot;
+use crate::slot::{LAST_BASE, SLOT_SECONDS, SLOTS, Slot, UNKNOWN};
 use std::alloc::{AllocError, Global};
 use zic_posix::MAX_INSTANT;
 use zic_tzif::{Answer, Instants, Zone};
 
 /// Some instants, and the number at each of them.
 #[derive(Clone, Copy)]
-struct Known {
+struct NumberSpan {
     instants: Instants,
     number: u16,
 }
@@ -45,7 +44,7 @@ pub fn slots_of(
 
 /// Returns the slot that starts at an instant. Keeps what is known of the last instants that were
 /// looked up.
-fn slot_from(zone: &Zone, numbers: &[u16], start: i64, known: &mut Known) -> Slot
+fn slot_from(zone: &Zone, numbers: &[u16], start: i64, known: &mut NumberSpan) -> Slot
     requires start { (start +ℤ pos SLOT_SECONDS) ≤ℤ MAX_INSTANT }
     requires known { IsKnown zone.now numbers.now known.old }
     ensures right { IsRight zone.now numbers.now start result }
@@ -89,7 +88,7 @@ fn seconds_from(start: i64, instant: i64) -> u32
 
 /// Returns the number at an instant, and the instants round it at which it is the same: those of
 /// the last look-up, if the instant is one of them.
-fn known_from(zone: &Zone, numbers: &[u16], instant: i64, last: Known) -> Known
+fn known_from(zone: &Zone, numbers: &[u16], instant: i64, last: NumberSpan) -> NumberSpan
     requires { IsKnown zone.now numbers.now last }
     ensures requested { Includes result.instants instant }
     ensures known { IsKnown zone.now numbers.now result }
@@ -102,7 +101,7 @@ fn known_from(zone: &Zone, numbers: &[u16], instant: i64, last: Known) -> Known
 }
 
 /// Returns the number at an instant, and the instants round it at which it is the same.
-fn known_at(zone: &Zone, numbers: &[u16], instant: i64) -> Known
+fn known_at(zone: &Zone, numbers: &[u16], instant: i64) -> NumberSpan
     ensures requested { Includes result.instants instant }
     ensures known { IsKnown zone.now numbers.now result }
 {
@@ -111,7 +110,7 @@ fn known_at(zone: &Zone, numbers: &[u16], instant: i64) -> Known
         Answer::Known(_) if span.number < numbers.len() => numbers[span.number],
         _ => UNKNOWN,
     };
-    Known {
+    NumberSpan {
         instants: span.instants,
         number,
     }

@@ -2,13 +2,12 @@
 
 ghost use Rattle.std.specs.Prelude.{◌≡◌, ◌<◌, ◌≤◌, ◌≤ℤ◌, [], IfOk, IfSome, slice_get, Some, ◌+◌};
 ghost use Rattle.zic_zones.specs.Places.{base_of};
-ghost use Rattle.zic_zones.specs.declared.limit.TheConstants.{ERAS, LAST_BASE, SLOTS};
+ghost use Rattle.zic_zones.specs.declared.slot.TheConstants.{ERAS, LAST_BASE, SLOTS};
 ghost use Rattle.zic_zones.specs.code.Tables.{HasTable, HaveTables};
 ghost use Rattle.zic_zones.specs.code.Texts.{Keeps};
 
-use crate::limit::{ERAS, FIRST_BASE};
 use crate::runs::Runs;
-use crate::slot::Slot;
+use crate::slot::{ERAS, FIRST_BASE, Slot};
 use crate::slot_set::SlotSet;
 use crate::table::slots_of;
 use std::alloc::{AllocError, Global};
@@ -120,7 +119,7 @@ impl Tables {
         ensures { IfSome result (λ slot. slice_get self.now (start + number) ≡ Some slot) }
     {
         let found = self.numbers.number(start as usize + number)?;
-        self.slots.slot(found)
+        Some(self.slots.known_slot(found))
     }
 }
 

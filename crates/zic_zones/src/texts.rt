@@ -5,11 +5,11 @@ ghost use Rattle.zic_base.specs.State.{shown};
 ghost use Rattle.zic_zones.specs.States.{HasState};
 ghost use Rattle.zic_zones.specs.code.Texts.{AreNumbersOf, IsText, Keeps};
 
-use crate::limit::UNKNOWN;
+use crate::slot::UNKNOWN;
 use std::alloc::{AllocError, Global};
 use std::marker::Model;
 use zic_base::{LONGEST_ABBREVIATION, State};
-use zic_rows::{FARTHEST_OFFSET, StateText};
+use zic_row_text::{FARTHEST_OFFSET, StateText};
 use zic_tzif::Zone;
 
 /// The number of bits that number the places: some four for each state of the tz database.
@@ -30,7 +30,7 @@ pub(crate) struct Texts {
 impl Model for Texts {
     ghost use Rattle.std.specs.Prelude.{◌≤◌, List, length};
     ghost use Rattle.zic_base.specs.State.{Shown};
-    ghost use Rattle.zic_zones.specs.declared.limit.TheConstants.{UNKNOWN};
+    ghost use Rattle.zic_zones.specs.declared.slot.TheConstants.{UNKNOWN};
 
     ghost Value = { List Shown };
 

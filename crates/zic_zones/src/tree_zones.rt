@@ -9,15 +9,14 @@ ghost use Rattle.zic_zones.specs.Tree.{Breaks, Grows};
 ghost use Rattle.zic_zones.specs.Zones.{field_at};
 
 use crate::ready::Ready;
-use crate::releases::Releases;
 use crate::row_zones::RowZones;
 use crate::tables::Expected;
-use crate::zones::Zones;
+use crate::zones::{Releases, Zones};
 use std::alloc::{AllocError, Global};
 use std::marker::Model;
 use zic_columns::{BATCH, Field, Record, Round, Span, Splitter, Wanted, push_field};
 use zic_files::{TreeFiles, ZoneTree};
-use zic_plan::{Delimiter, ZoneFrom};
+use zic_layouts::{Delimiter, ZoneFrom};
 
 /// An empty range of a piece.
 const NOWHERE: Span = Span { start: 0, end: 0 };

@@ -1,5 +1,5 @@
 -- Records of a piece whose fields begin with no double quote.
-use Rattle.std.specs.Prelude.{◌≡◌, ◌+◌, ◌<◌, ℕ, true, false, List, [], ◌∷◌, length, slice_index, drop, Option, MatchOption, ◌-◌, ◌^◌}
+use Rattle.std.specs.Prelude.{◌≡◌, ◌+◌, ◌<◌, ℕ, true, false, List, [], ◌∷◌, length, slice_index, drop, Option, Some, MatchOption, ◌-◌, ◌^◌}
 use Rattle.zic_columns.specs.Column.{ends_line}
 use Rattle.zic_columns.specs.Own.{csv_records}
 use Rattle.zic_columns.specs.Record.{IsSplit, record_at}
@@ -20,6 +20,10 @@ AreIndicesOf wanted sought = MatchOption wanted.zone (sought.zone ≡ 2 ^ 64 - 1
 -- the record of these fields that stands from an index up to another
 abbrev pub record_of : ℕ → ℕ → PlainFields → Record
 record_of start end fields = record { own = record { start = start; end = end }; count = fields.count; zone = Plain fields.zone; time = Plain fields.time; stray = false }
+
+-- rows need the first field as a zone, and the second as a time
+abbrev pub zone_and_time : Wanted
+zone_and_time = record { zone = Some 0; time = 1 }
 
 -- no fields, of a record that begins at an index
 abbrev pub no_fields : ℕ → PlainFields

@@ -1,10 +1,10 @@
 -- States at all instants that a local time may have.
 use Rattle.std.specs.Prelude.{◌≡◌, ℕ, ◌+◌, ◌<◌, ◌≤◌, ℤ, ◌-ℤ◌, unsigned_abs, List, Some, IfSome, slice_get}
 use Rattle.zic_base.specs.State.{Shown}
-use Rattle.zic_base.specs.declared.limit.TheConstants.{FARTHEST_FILE_OFFSET}
+use Rattle.zic_base.specs.declared.constants.TheConstants.{FARTHEST_FILE_OFFSET}
 use Rattle.zic_files.specs.File.{File}
 use Rattle.zic_zones.specs.Slots.{number_at}
-use Rattle.zic_zones.specs.declared.limit.TheConstants.{SLOT_SECONDS}
+use Rattle.zic_zones.specs.declared.slot.TheConstants.{SLOT_SECONDS}
 use Rattle.zic_zones.specs.declared.slot.Slot.{Slot}
 use Rattle.zic_tzif.specs.Answer.{Answers}
 use Rattle.zic_tzif.specs.Content.{Content}

@@ -3,7 +3,7 @@ use Rattle.std.specs.Prelude.{◌≡◌, ◌<◌, ◌+◌, ◌*◌, ℕ, ℤ, po
 use Rattle.zic_base.specs.State.{Shown}
 use Rattle.zic_zones.specs.Places.{base_of}
 use Rattle.zic_zones.specs.Slots.{IsRight, number_at}
-use Rattle.zic_zones.specs.declared.limit.TheConstants.{SLOT_SECONDS, SLOTS}
+use Rattle.zic_zones.specs.declared.slot.TheConstants.{SLOT_SECONDS, SLOTS}
 use Rattle.zic_zones.specs.declared.slot.Slot.{Slot}
 use Rattle.zic_tzif.specs.Content.{Content}
 use Rattle.zic_zones.specs.States.{HasState}

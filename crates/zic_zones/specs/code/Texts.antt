@@ -1,7 +1,7 @@
 -- Texts of states by number.
 use Rattle.std.specs.Prelude.{◌≡◌, ◌≢◌, ℕ, List, Some, slice_get}
 use Rattle.zic_base.specs.State.{Shown}
-use Rattle.zic_zones.specs.declared.limit.TheConstants.{UNKNOWN}
+use Rattle.zic_zones.specs.declared.slot.TheConstants.{UNKNOWN}
 use Rattle.zic_tzif.specs.Content.{Content}
 use Rattle.zic_tzif.specs.States.{IsStateOfNumber}
 use Rattle.zic_zones.specs.States.{HasState}

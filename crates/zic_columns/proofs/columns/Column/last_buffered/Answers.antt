@@ -1,5 +1,5 @@
 use Rattle.std.proofs.Common.{◌≡◌, ◌∙◌, ap, sym, subst}
-use Rattle.zic_plan.specs.declared.layout.Records.TheVariants as by
+use Rattle.zic_layouts.specs.declared.layout.Records.TheVariants as by
 use Rattle.zic_columns.specs.Column.{CanDelimit}
 use Rattle.zic_columns.specs.Round.{ColumnOf}
 use Rattle.zic_columns.specs.code.Buffered.{to_come}

@@ -1,6 +1,6 @@
 use Rattle.std.proofs.Common.{◌≡◌, ℕ, ℤ, List, length, map, sym, subst, to_z-of_z, rules}
 use Rattle.zic_zones.specs.Slots.{AreRight}
-use Rattle.zic_zones.specs.declared.limit.TheConstants.{SLOTS}
+use Rattle.zic_zones.specs.declared.slot.TheConstants.{SLOTS}
 use Rattle.zic_zones.specs.declared.slot.Slot.{Slot}
 use Rattle.zic_zones.proofs.Numbered.{keeps_same}
 use Rattle.zic_zones.proofs.Once.{either_have, either_keeps, has_table, have_still, if_ok_some, slots_still}

@@ -1,8 +1,0 @@
-pub mod code
-pub mod Detail
-pub mod Rows
-pub mod LayoutRows
-pub mod PieceRows
-pub use Rattle.zic_rows.specs.Instant
-pub use Rattle.zic_rows.specs.Row
-pub use Rattle.zic_files.specs.File

@@ -1,6 +1,0 @@
--- Definitions for the code of this crate and for proofs. No contract of an exported function cites them.
-pub mod Answer
-pub mod Batch
-pub mod Note
-pub mod Piece
-pub mod Row

@@ -1,0 +1,42 @@
+-- How a column is read, and what its rows are: own choice.
+use Rattle.std.specs.Prelude.{◌≡◌, ℕ, Bool, None, ◌==◌, nat_le}
+use Rattle.zic_layouts.specs.declared.layout.AtFault.TheVariants as at
+use Rattle.zic_layouts.specs.declared.layout.Layout.{Layout}
+use Rattle.zic_layouts.specs.declared.layout.FieldCount.{FieldCount}
+use Rattle.zic_layouts.specs.declared.layout.FieldCount.TheVariants as fields
+use Rattle.zic_layouts.specs.declared.layout.Header.{Header}
+use Rattle.zic_layouts.specs.declared.layout.Header.TheVariants as header
+use Rattle.zic_layouts.specs.declared.layout.Records.TheVariants as by
+use Rattle.zic_layouts.specs.declared.layout.Quotes.TheVariants as quotes
+use Rattle.zic_layouts.specs.declared.layout.RowStart.TheVariants as starts
+use Rattle.zic_layouts.specs.declared.layout.Style.TheVariants as styles
+use Rattle.zic_layouts.specs.declared.layout.TimeFrom.TheVariants as times
+use Rattle.zic_layouts.specs.declared.layout.Unit.TheVariants as units
+use Rattle.zic_layouts.specs.declared.layout.ZoneFrom.TheVariants as from
+
+-- a record has as many fields
+abbrev pub has_count : FieldCount → ℕ → Bool
+has_count (fields.Exactly n) count = count == n
+has_count (fields.AtLeast n) count = nat_le n count
+
+-- the number of records before those that make rows
+abbrev pub records_before : Header → ℕ
+records_before header.Absent = 0
+records_before header.First = 1
+records_before header.Skipped = 1
+
+-- A record is one of CSV, of any length and with any double quotes, and has two fields, the name of a zone and seconds, with a comma between them. Each row is
+-- written, begins with these fields, and has local time and UT offset in two more, and the first fault ends the conversion.
+pub record HasPlainRows (layout : Layout) : Type 0 where
+  pub zone : layout.zone ≡ from.Field 0
+  pub time : layout.time ≡ 1
+  pub from : layout.from ≡ times.Count
+  pub count : layout.count ≡ fields.Exactly 2
+  pub unit : layout.unit ≡ units.Second
+  pub delimiter : layout.delimiter ≡ 44
+  pub records : layout.records ≡ by.Csv
+  pub quotes : layout.quotes ≡ quotes.Lenient
+  pub max_record : layout.max_record ≡ None
+  pub start : layout.start ≡ starts.Fields
+  pub style : layout.style ≡ styles.Fields
+  pub at_fault : layout.at_fault ≡ at.End

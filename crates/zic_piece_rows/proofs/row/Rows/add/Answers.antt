@@ -1,0 +1,39 @@
+use Rattle.std.proofs.Common.{◌≡◌, ◌+◌, List, Option, None, Some, false, ap, refl, subst, sym, ℕ}
+use Rattle.std.specs.Prelude.{IsSome, is_some, slice_index_or}
+use Rattle.zic_base.specs.declared.row_fault.RowKind.{RowKind}
+use Rattle.zic_piece_rows.specs.LayoutRows.{IsRowAt, IsWrittenBy}
+use Rattle.zic_piece_rows.specs.PieceRows.{RowsOf}
+use Rattle.zic_piece_rows.specs.code.Answer.{unknown}
+use Rattle.zic_piece_rows.specs.code.Batch.{blank, blank_time, record_of}
+use Rattle.zic_piece_rows.specs.code.Row.{by_both, files_of}
+use Rattle.zic_piece_rows.specs.declared.piece.Piece.{Piece}
+use Rattle.zic_piece_rows.proofs.KnownRows.{known_sound}
+use Rattle.zic_piece_rows.proofs.NextRows.{next_sound}
+use Rattle.zic_piece_rows.proofs.row.Rows.add.Goals as goal
+
+-- there is no other release
+no_other : (other : Option Piece) → false ≡ is_some other → other ≡ None
+no_other None is = refl
+no_other (Some piece) is = absurd (cc is)
+
+pub answer-answer-requires-clause-file : goal.answer-answer-requires-clause-file
+answer-answer-requires-clause-file c = let (state, got, is) = c.requires.at.found.answer c.if-known.false in subst IsSome (sym is.named) refl
+
+pub returns : goal.returns
+returns c =
+    let piece = c.args.piece.now in
+    let layout = piece.layout.now in
+    let batch = c.args.batch.now in
+    let place = c.args.place in
+    let releases = by_both piece (files_of c.args.other.now) in
+    let given = slice_index_or batch.records place blank in
+    let time = slice_index_or batch.times place blank_time in
+    let q = c.self.inside in
+    let old : RowsOf = record { text = q.text; count = q.count; fault = q.fault; faults = q.faults.items } in
+    let number = piece.first + q.count in
+    let (state, got, is) = c.requires.at.found.answer c.if-known.false in
+    let none = known_sound piece given time (slice_index_or batch.answers.known place unknown) state is number c.requires.at.split c.if-piece-number.false in
+    let (row, text, of) = c.in_ok-push_row.ensures in
+    let by_fault = subst (λ (o : Option RowKind). IsRowAt layout piece.zones.now o (record_of piece given) row) (sym none) of in
+    let by = subst (λ (o : Option Piece). IsWrittenBy layout (by_both piece (files_of o)) piece.most number (record_of piece given) row) (sym (no_other c.args.other.now c.if-is_some.ensures)) by_fault in
+    rw (← c.self.view_is) (next_sound layout releases piece.most number (record_of piece given) old _ none row by (ap (λ (l : List ℕ). record { text = l; count = q.count + 1; fault = q.fault; faults = q.faults.items }) text))

@@ -1,0 +1,299 @@
+-- The rows of a column's records, by a layout: own choice. A record has an instant or a local time, and perhaps a zone's name. Its row has the
+-- text of what the file of that name answers at the instant, or a fault. A row with a fault ends the run, or is written without an answer, or
+-- isn't written, and its record is rejected. Where rows are compared with another release, only those are written that it answers
+-- differently, with its answer at the end.
+use Rattle.std.specs.Prelude.{◌≡◌, ℕ, ◌+◌, nat_le, ℤ, pos, ◌+ℤ◌, ◌*ℤ◌, List, [], ◌∷◌, ◌++◌, length, replicate, take, Option, Some, None, Result, Ok, Err, option_map, is_some, IsSome, Contains, slice_get, Bool, true, not, ◌&&◌, if◌then◌else◌}
+use Rattle.std.specs.Fmt.{signed_decimal}
+use Rattle.csv.specs.Writing.{default_writer, row_text, with_delimiter}
+use Rattle.zic_base.specs.Check.{Check, first_failed}
+use Rattle.zic_base.specs.State.{Shown}
+use Rattle.zic_tzif.specs.Answer.{Answers}
+use Rattle.zic_row_text.specs.Count.{count_of, counted_rest_text, fraction_of, local_count_text, second_of, units_of_second}
+use Rattle.zic_row_text.specs.DateTime.{local_count_of, rfc3339_count_of}
+use Rattle.zic_row_text.specs.Row.{state_text}
+use Rattle.zic_local.specs.declared.local_time.Unresolved.{Unresolved}
+use Rattle.zic_local.specs.declared.local_time.Unresolved.TheVariants as unresolved
+use Rattle.zic_columns.specs.Own.{CsvRecord}
+use Rattle.zic_columns.specs.Quotes.{has_stray}
+use Rattle.zic_columns.specs.Round.{may_have}
+use Rattle.zic_files.specs.File.{File}
+use Rattle.zic_layouts.specs.Layout.{has_count}
+use Rattle.zic_layouts.specs.declared.layout.AtFault.{AtFault}
+use Rattle.zic_layouts.specs.declared.layout.AtFault.TheVariants as at
+use Rattle.zic_layouts.specs.declared.layout.Layout.{Layout}
+use Rattle.zic_layouts.specs.declared.layout.Quotes.{Quotes}
+use Rattle.zic_layouts.specs.declared.layout.Quotes.TheVariants as quotes
+use Rattle.zic_layouts.specs.declared.layout.Records.{Records}
+use Rattle.zic_layouts.specs.declared.layout.Records.TheVariants as by
+use Rattle.zic_layouts.specs.declared.layout.RowStart.{RowStart}
+use Rattle.zic_layouts.specs.declared.layout.RowStart.TheVariants as start
+use Rattle.zic_layouts.specs.declared.layout.Style.{Style}
+use Rattle.zic_layouts.specs.declared.layout.Style.TheVariants as styles
+use Rattle.zic_layouts.specs.declared.layout.TimeFrom.{TimeFrom}
+use Rattle.zic_layouts.specs.declared.layout.TimeFrom.TheVariants as from
+use Rattle.zic_layouts.specs.declared.layout.Unit.{Unit}
+use Rattle.zic_layouts.specs.Noted.{RowNote}
+use Rattle.zic_base.specs.declared.row_fault.RowKind.{RowKind}
+use Rattle.zic_base.specs.declared.row_fault.RowKind.TheVariants as kind
+use Rattle.zic_zones.specs.Resolved.{resolved}
+use Rattle.zic_zones.specs.Zones.{field_at, is_named, number_of, zone_in}
+use Rattle.zic_zones.specs.declared.zones.Releases.{Releases}
+use Rattle.zic_piece_rows.specs.Rows.{is_closed, is_row_instant, row_checks}
+
+-- the count that a field has: of an instant, in decimals or as a date and a time of day with a UT offset, or of a local time
+abbrev pub count_by : TimeFrom → Unit → List ℕ → Option ℤ
+count_by from.Count u field = count_of u field
+count_by from.Rfc3339 u field = rfc3339_count_of u field
+count_by (from.Local choice) u field = local_count_of u field
+
+-- the count that the field of the instant has, or of the local time
+abbrev pub count_in : Layout → List (List ℕ) → Option ℤ
+count_in layout fields = count_by layout.from layout.unit (field_at fields layout.time)
+
+-- the fault of a field that has none
+abbrev pub missing : TimeFrom → RowKind
+missing from.Count = kind.RowInstant
+missing from.Rfc3339 = kind.RowInstant
+missing (from.Local choice) = kind.RowLocal
+
+-- The count of the instant that is meant by a local time, with its fraction of a second, or the fault of a row that means none: in a gap, or in
+-- a fold. A file that rows are made by leaves local time open nowhere.
+abbrev pub moved : Unit → ℤ → Result ℤ Unresolved → Result ℤ RowKind
+moved u local (Ok t) = Ok ((t *ℤ pos (units_of_second u)) +ℤ pos (fraction_of u local))
+moved u local (Err unresolved.Gap) = Err kind.RowSkipped
+moved u local (Err unresolved.Fold) = Err kind.RowRepeated
+moved u local (Err unresolved.Unspecified) = Err kind.RowSkipped
+
+-- the count of the instant that a count in a field means: itself, or what it means as local time of the file's clocks
+abbrev pub instant_by : TimeFrom → Unit → File → ℤ → Result ℤ RowKind
+instant_by from.Count u file count = Ok count
+instant_by from.Rfc3339 u file count = Ok count
+instant_by (from.Local choice) u file local = moved u local (resolved file.image.octets (second_of u local) choice)
+
+-- the file with this number, and the file of a name, where there is one
+abbrev pub file_at : List File → Option ℕ → Option File
+file_at files None = None
+file_at files (Some n) = slice_get files n
+
+abbrev pub file_named : List File → List ℕ → Option File
+file_named files name = file_at files (number_of files name)
+
+-- The count of a record's instant, by the file of its zone and the count in its field, or the fault of a record that has none. Without a
+-- file the count stands for itself: the check of the zone comes first, and gives RowZone.
+abbrev pub time_by : Layout → Option File → Option ℤ → Result ℤ RowKind
+time_by layout file None = Err (missing layout.from)
+time_by layout None (Some count) = Ok count
+time_by layout (Some file) (Some count) = instant_by layout.from layout.unit file count
+
+abbrev pub time_in : Layout → List File → List (List ℕ) → Result ℤ RowKind
+time_in layout files fields = time_by layout (file_named files (zone_in layout.zone fields)) (count_in layout fields)
+
+-- the count of an instant, where there is one, and else the fault
+abbrev pub ok_count : Result ℤ RowKind → Option ℤ
+ok_count (Ok count) = Some count
+ok_count (Err fault) = None
+
+abbrev pub err_fault : Result ℤ RowKind → RowKind
+err_fault (Ok count) = kind.RowInstant
+err_fault (Err fault) = fault
+
+-- a record may have a stray double quote, or has none
+abbrev pub admits_stray : Quotes → Bool → Bool
+admits_stray quotes.Strict stray = not stray
+admits_stray quotes.Lenient stray = true
+
+-- the double quotes of a record with this delimiter are as they must be: it isn't an open line, and its own bytes may be stray, or aren't
+abbrev pub has_right_quotes : Quotes → ℕ → CsvRecord → Bool
+has_right_quotes by delimiter row_record = is_closed row_record.fields && admits_stray by (has_stray delimiter row_record.own)
+
+-- the checks of a record with this delimiter and this time as the row of a number, where there is a greatest number of rows
+abbrev pub checks_of : Layout → List File → ℕ → ℕ → ℕ → CsvRecord → Result ℤ RowKind → List (Check RowKind)
+checks_of layout files most number delimiter row_record time =
+    row_checks (nat_le number most) (may_have layout.max_record (length row_record.own)) (has_right_quotes layout.quotes delimiter row_record) (has_count layout.count (length row_record.fields))
+    (is_named files (zone_in layout.zone row_record.fields)) (is_some (ok_count time)) (err_fault time) (is_row_instant (option_map (second_of layout.unit) (ok_count time)))
+
+-- the checks of a record
+abbrev pub checks_by : Layout → List File → ℕ → ℕ → CsvRecord → List (Check RowKind)
+checks_by layout files most number row_record = checks_of layout files most number layout.delimiter row_record (time_in layout files row_record.fields)
+
+-- the fault of a row: of the first check that fails, or none
+abbrev pub fault_by : Layout → List File → ℕ → ℕ → CsvRecord → Option RowKind
+fault_by layout files most number row_record = first_failed (checks_by layout files most number row_record)
+
+-- the text of the count in a field: its decimals, or the local time
+abbrev pub input_text : TimeFrom → Unit → ℤ → List ℕ
+input_text from.Count u count = signed_decimal count
+input_text from.Rfc3339 u count = signed_decimal count
+input_text (from.Local choice) u local = local_count_text u local
+
+-- what a row begins with: the name, the delimiter and that text, or the record's own bytes
+abbrev pub beginning : RowStart → ℕ → List ℕ → List ℕ → List ℕ → List ℕ
+beginning start.Fields delimiter own name input = name ++ delimiter ∷ input
+beginning start.Record delimiter own name input = own
+
+abbrev pub start_text : Layout → List ℕ → List ℕ → ℤ → List ℕ
+start_text layout own name count = beginning layout.start layout.delimiter own name (input_text layout.from layout.unit count)
+
+-- What follows the instant of a local time: the state, or, where local time and offset are one field, both as the clocks show them at the
+-- instant. In a gap that is another local time than the record's, which with this offset would be another instant.
+abbrev pub state_after : ℕ → Style → Unit → ℤ → Shown → List ℕ
+state_after delimiter styles.Fields u count state = state_text delimiter state
+state_after delimiter styles.Iso u count state = counted_rest_text delimiter styles.Iso u count state
+
+-- what follows: the local time of an instant, or the instant of a local time, and the state, each field after a delimiter
+abbrev pub rest_by : ℕ → Style → TimeFrom → Unit → ℤ → Shown → List ℕ
+rest_by delimiter style from.Count u count state = counted_rest_text delimiter style u count state
+rest_by delimiter style from.Rfc3339 u count state = counted_rest_text delimiter style u count state
+rest_by delimiter style (from.Local choice) u count state = delimiter ∷ (signed_decimal count ++ state_after delimiter style u count state)
+
+-- The text of a record's row: what rows begin with, and the state that the file of the zone's name answers at the whole second of the
+-- instant's count. No name of a file and no field that a row adds to a record has the delimiter.
+pub record IsTextBy (layout : Layout) (files : List File) (row_record : CsvRecord) (text : List ℕ) : Type 0 where
+  pub file : File
+  pub among : Contains files file
+  pub named : file.name ≡ zone_in layout.zone row_record.fields
+  pub input : ℤ
+  pub says : count_in layout row_record.fields ≡ Some input
+  pub count : ℤ
+  pub means : instant_by layout.from layout.unit file input ≡ Ok count
+  pub state : Shown
+  pub answers : Answers file.image.content (second_of layout.unit count) (Some state)
+  pub is : text ≡ start_text layout row_record.own file.name input ++ rest_by layout.delimiter layout.style layout.from layout.unit count state
+
+-- how many fields a file answers: local time or instant, offset, flag and abbreviation; in one field local time and offset, which follow the
+-- instant of a local time
+abbrev pub answered : Style → TimeFrom → ℕ
+answered styles.Fields time = 4
+answered styles.Iso from.Count = 3
+answered styles.Iso from.Rfc3339 = 3
+answered styles.Iso (from.Local choice) = 4
+
+-- these fields without text, and the end of a row
+abbrev pub empty_fields : Layout → List ℕ
+empty_fields layout = replicate (answered layout.style layout.from) layout.delimiter ++ 10 ∷ []
+
+-- The text of a row without what a file answers, whose fields are empty. Where rows begin with names, it is what a CSV writer with the
+-- layout's delimiter writes of the zone's name, the field of the instant or of the local time as it was read, and these. Where they begin with
+-- their records, it is the record's own bytes and these.
+abbrev pub timeless_text : RowStart → Layout → CsvRecord → List ℕ
+timeless_text start.Fields layout row_record =
+    row_text (with_delimiter default_writer layout.delimiter) (zone_in layout.zone row_record.fields ∷ field_at row_record.fields layout.time ∷ replicate (answered layout.style layout.from) [])
+timeless_text start.Record layout row_record = row_record.own ++ empty_fields layout
+
+-- The text of a row with a fault that is written: one without local time, or, of a record with too many bytes, an open line, or a record
+-- with another number of fields than the layout's, the record's own bytes alone.
+abbrev pub marked_text : Layout → RowKind → CsvRecord → List ℕ
+marked_text layout kind.RowTooLong row_record = row_record.own ++ 10 ∷ []
+marked_text layout kind.RowFields row_record = row_record.own ++ 10 ∷ []
+marked_text layout kind.RowQuote row_record = row_record.own ++ 10 ∷ []
+marked_text layout _ row_record = timeless_text layout.start layout row_record
+
+-- these bytes, where a record with a fault is not rejected, and else none
+abbrev pub unless_rejected : AtFault → List ℕ → List ℕ
+unless_rejected at.End bytes = bytes
+unless_rejected at.GoOn bytes = bytes
+unless_rejected at.Reject bytes = []
+
+-- these bytes, where it is, and else none
+abbrev pub if_rejected : AtFault → List ℕ → List ℕ
+if_rejected at.End bytes = []
+if_rejected at.GoOn bytes = []
+if_rejected at.Reject bytes = bytes
+
+-- what a row with a fault adds to the text of rows: nothing, where its record is rejected
+abbrev pub faulty_text : Layout → RowKind → CsvRecord → List ℕ
+faulty_text layout kind row_record = unless_rejected layout.at_fault (marked_text layout kind row_record)
+
+-- The fault that ends a run: any, or only that of a record that is one too many, or of one of CSV that has too many bytes. Where each line
+-- is a record, one with too many bytes is a row with a fault as any other.
+abbrev pub ending : AtFault → Records → Option RowKind → Option RowKind
+ending at.End mode fault = fault
+ending at.GoOn mode None = None
+ending at.GoOn mode (Some kind.TooManyRows) = Some kind.TooManyRows
+ending at.GoOn by.Csv (Some kind.RowTooLong) = Some kind.RowTooLong
+ending at.GoOn mode (Some _) = None
+ending at.Reject mode None = None
+ending at.Reject mode (Some kind.TooManyRows) = Some kind.TooManyRows
+ending at.Reject by.Csv (Some kind.RowTooLong) = Some kind.RowTooLong
+ending at.Reject mode (Some _) = None
+
+-- the fault that ends a run at the row of a record, or none
+abbrev pub ends_by : Layout → List File → ℕ → ℕ → CsvRecord → Option RowKind
+ends_by layout files most number row_record = ending layout.at_fault layout.records (fault_by layout files most number row_record)
+
+-- the row of a record, which has this fault or none
+abbrev pub IsRowAt : Layout → List File → Option RowKind → CsvRecord → List ℕ → Type 0
+IsRowAt layout files None row_record text = IsTextBy layout files row_record text
+IsRowAt layout files (Some kind) row_record text = text ≡ faulty_text layout kind row_record
+
+-- the row of a record, as the row of a number
+abbrev pub IsRowBy : Layout → List File → ℕ → ℕ → CsvRecord → List ℕ → Type 0
+IsRowBy layout files most number row_record text = IsRowAt layout files (fault_by layout files most number row_record) row_record text
+
+-- What files answer a record: all that its row has after its beginning. It shows the state that the file of the zone's name answers at the
+-- whole second of the instant's count.
+pub record IsAnswerBy (layout : Layout) (files : List File) (row_record : CsvRecord) (answer : List ℕ) : Type 0 where
+  pub file : File
+  pub among : Contains files file
+  pub named : file.name ≡ zone_in layout.zone row_record.fields
+  pub input : ℤ
+  pub says : count_in layout row_record.fields ≡ Some input
+  pub count : ℤ
+  pub means : instant_by layout.from layout.unit file input ≡ Ok count
+  pub state : Shown
+  pub answers : Answers file.image.content (second_of layout.unit count) (Some state)
+  pub is : answer ≡ rest_by layout.delimiter layout.style layout.from layout.unit count state
+
+-- what files answer a record that has this fault as a row, or none
+abbrev pub IsAnswerAt : Layout → List File → Option RowKind → CsvRecord → List ℕ → Type 0
+IsAnswerAt layout files None row_record answer = IsAnswerBy layout files row_record answer
+IsAnswerAt layout files (Some kind) row_record answer = answer ≡ empty_fields layout
+
+-- what files answer a record, as the row of a number
+abbrev pub IsAnswer : Layout → List File → ℕ → ℕ → CsvRecord → List ℕ → Type 0
+IsAnswer layout files most number row_record answer = IsAnswerAt layout files (fault_by layout files most number row_record) row_record answer
+
+-- a row without its last byte, the line feed, and then an answer; no row stays no row
+abbrev pub with_answer : List ℕ → List ℕ → List ℕ
+with_answer [] answer = []
+with_answer (byte ∷ row) answer = take (length row) (byte ∷ row) ++ answer
+
+-- The row of a record that is written only if other files answer the record differently. It is the row by the first files, and at its end
+-- stands what the others answer.
+pub record IsMovedRow (layout : Layout) (files old : List File) (most number : ℕ) (row_record : CsvRecord) (text : List ℕ) : Type 0 where
+  pub row : List ℕ
+  pub by : IsRowBy layout files most number row_record row
+  pub answer : List ℕ
+  pub answers : IsAnswer layout files most number row_record answer
+  pub other : List ℕ
+  pub others : IsAnswer layout old most number row_record other
+  pub same : answer ≡ other → text ≡ []
+  pub moved : (answer ≡ other → ⊥) → text ≡ with_answer row other
+
+-- what is written of a record, as the row of a number: its row, or, where there is another release, its row only if that answers differently
+abbrev pub IsWrittenWith : Option (List File) → Layout → List File → ℕ → ℕ → CsvRecord → List ℕ → Type 0
+IsWrittenWith None layout files most number row_record text = IsRowBy layout files most number row_record text
+IsWrittenWith (Some old) layout files most number row_record text = IsMovedRow layout files old most number row_record text
+
+abbrev pub IsWrittenBy : Layout → Releases → ℕ → ℕ → CsvRecord → List ℕ → Type 0
+IsWrittenBy layout releases most number row_record text = IsWrittenWith releases.old layout releases.zones most number row_record text
+
+-- The outcome of records, the first of which is the row of this number: the texts of the rows up to the first that ends the run, and its
+-- fault, or none. The faults are those of rows by the first release.
+abbrev pub RecordsConvertBy : Layout → Releases → ℕ → ℕ → List CsvRecord → List (List ℕ) → Option RowKind → Type 0
+RecordsConvertBy layout releases most number [] texts fault = (texts ≡ []) × (fault ≡ None)
+RecordsConvertBy layout releases most number (row_record ∷ row_records) [] fault = (fault ≡ ends_by layout releases.zones most number row_record) × IsSome fault
+RecordsConvertBy layout releases most number (row_record ∷ row_records) (text ∷ texts) fault =
+    (ends_by layout releases.zones most number row_record ≡ None) × IsWrittenBy layout releases most number row_record text × RecordsConvertBy layout releases most (number + 1) row_records texts fault
+
+-- what is noted of the record with these own bytes as the row of a number: its fault, if it has one, and the bytes, where it is rejected
+abbrev pub noted : AtFault → ℕ → List ℕ → Option RowKind → List RowNote
+noted at_fault number own None = []
+noted at_fault number own (Some kind) = record { fault = record { row = number; kind = kind }; own = if_rejected at_fault own } ∷ []
+
+-- what is noted of records, the first of which is the row of this number, up to the row that ends the run
+abbrev pub faults_by : Layout → List File → ℕ → ℕ → List CsvRecord → List RowNote
+faults_by layout files most number [] = []
+faults_by layout files most number (row_record ∷ row_records) =
+    if is_some (ends_by layout files most number row_record) then []
+    else noted layout.at_fault number row_record.own (fault_by layout files most number row_record) ++ faults_by layout files most (number + 1) row_records

@@ -1,0 +1,118 @@
+//! Reads the times of the fields of records.
+
+ghost use Rattle.std.specs.Prelude.{◌≡◌, ◌≢◌, ◌≤◌, All, IfSome, Some, take};
+ghost use Rattle.zic_columns.specs.Record.{IsWithin, bytes_at};
+ghost use Rattle.zic_columns.specs.declared.fields.Field.TheVariants.{Plain};
+ghost use Rattle.zic_columns.specs.declared.splits.TheConstants.{BATCH};
+ghost use Rattle.zic_layouts.specs.declared.layout.TimeFrom.TheVariants as from;
+ghost use Rattle.zic_row_text.specs.PlainTime.{IsPlainTime};
+ghost use Rattle.zic_piece_rows.specs.code.Answer.{AreTimes, IfTime, IsReadTime};
+ghost use Rattle.zic_piece_rows.specs.code.Batch.{IsCountFor, IsGiven, count_at};
+
+use crate::lookup::is_in_range;
+use crate::piece::Piece;
+use zic_columns::{BATCH, Field, Record, Span};
+use zic_layouts::{TimeFrom, Unit};
+use zic_row_text::{RowTime, parse_local_time, parse_rfc3339, quick_time};
+
+/// The second of a time that isn't known. No row may have it.
+pub(crate) const NO_TIME: i64 = i64::MIN;
+
+/// The time before the first is read, of zeros alone.
+pub(crate) const ZERO_TIME: RowTime = RowTime {
+    second: 0,
+    fraction: 0,
+    unit: Unit::Second,
+};
+
+/// Returns a time that isn't known.
+#[inline(always)]
+pub(crate) fn no_time(unit: Unit) -> RowTime
+    ensures { result.second ≡ NO_TIME }
+{
+    RowTime {
+        second: NO_TIME,
+        fraction: 0,
+        unit,
+    }
+}
+
+/// Reads the times in the fields of the first `count` records.
+pub(crate) fn read_times(
+    piece: &Piece<'_, '_>,
+    records: &[Record; BATCH],
+    count: usize,
+    times: &mut [RowTime; BATCH],
+)
+    requires few { count ≤ BATCH }
+    requires split { All (IsGiven piece.now) (take count records.now) }
+    ensures { AreTimes piece.now count records.now times.new }
+{
+    for i in 0..count {
+        times[i] = read_time(piece, &records[i]);
+    }
+}
+
+/// Reads the time in the field of a record, if it has no double quotes. Returns one of [`NO_TIME`] if it
+/// isn't read that way: a search reads it.
+#[inline(always)]
+fn read_time(piece: &Piece<'_, '_>, given: &Record) -> RowTime
+    requires { IsGiven piece.now given.now }
+    ensures { IfTime result (IsReadTime piece.now given.now) }
+{
+    let Field::Plain(span) = given.time else {
+        return no_time(piece.layout.unit);
+    };
+    match piece.layout.from {
+        TimeFrom::Count => read_plain(piece, piece.layout.unit, span),
+        TimeFrom::Rfc3339 | TimeFrom::Local(_) => read_date(piece, given, span),
+    }
+}
+
+/// Reads a time in plain decimals, which counts these units.
+#[inline(always)]
+pub(crate) fn read_plain(piece: &Piece<'_, '_>, unit: Unit, span: Span) -> RowTime
+    requires { IsWithin piece.now.bytes.now span }
+    ensures { IfTime result (IsPlainTime unit (bytes_at piece.now.bytes.now span)) }
+{
+    match quick_time(piece.bytes, span.start, span.end, unit) {
+        // The parts alone are copied, and not what lies between them.
+        Some(time) => RowTime {
+            second: time.second,
+            fraction: time.fraction,
+            unit,
+        },
+        None => no_time(unit),
+    }
+}
+
+/// Reads a date with a time of day, or a local time, which stands there in a record's field.
+#[inline(never)]
+fn read_date(piece: &Piece<'_, '_>, given: &Record, span: Span) -> RowTime
+    requires split { IsGiven piece.now given.now }
+    requires from { piece.now.layout.now.from ≢ from.Count }
+    requires plain { given.now.time ≡ Plain span }
+    ensures { IfTime result (IsReadTime piece.now given.now) }
+{
+    let unit = piece.layout.unit;
+    match date_count(piece, given, span) {
+        Some(count) if is_in_range(count, unit) => RowTime::of_count(count, unit),
+        _ => no_time(unit),
+    }
+}
+
+/// Returns the count of a date or a local time, which stands there in a record's field.
+fn date_count(piece: &Piece<'_, '_>, given: &Record, span: Span) -> Option<i128>
+    requires split { IsGiven piece.now given.now }
+    requires from { piece.now.layout.now.from ≢ from.Count }
+    requires plain { given.now.time ≡ Plain span }
+    ensures says { IfSome result (λ count. count_at piece.now given.now ≡ Some count) }
+    ensures sound { IfSome result (IsCountFor piece.now.layout.now.from piece.now.layout.now.unit) }
+{
+    let text = span.of(piece.bytes);
+    match piece.layout.from {
+        TimeFrom::Local(_) => parse_local_time(text, piece.layout.unit),
+        TimeFrom::Rfc3339 => parse_rfc3339(text, piece.layout.unit),
+        TimeFrom::Count => None,
+    }
+}

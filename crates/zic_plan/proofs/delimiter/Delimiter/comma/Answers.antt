@@ -1,5 +1,0 @@
-use Rattle.std.proofs.Common.{rules}
-use Rattle.zic_plan.proofs.delimiter.Delimiter.comma.Goals as goal
-
-pub returns : goal.returns
-returns c = search rules

@@ -1,5 +1,0 @@
-use Rattle.zic_rows.proofs.LocalTime.{local_time_is}
-use Rattle.zic_rows.proofs.laws.local_time_is_civil.Goals as goal
-
-pub returns : goal.returns
-returns c = local_time_is

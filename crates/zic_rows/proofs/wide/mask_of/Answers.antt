@@ -1,5 +1,0 @@
-use Rattle.zic_rows.proofs.Lanes.{mask_part}
-use Rattle.zic_rows.proofs.wide.mask_of.Goals as goal
-
-pub returns : goal.returns
-returns c = mask_part 16 c.args.cleared 0 255 c.requires
