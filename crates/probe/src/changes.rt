@@ -12,9 +12,9 @@ use std::alloc::Global;
 use std::process::ExitCode;
 use std::rt::Env;
 use std::{io, slice};
-use zic_occurrences::ListedSource;
 use zic_rules::timeline;
 use zic_source::{Stop, read_source};
+use zic_states::ListedSource;
 
 /// Prints the lines of all zones, or the number of changes.
 pub fn run<R: Env + Input + Print + AllocGlobal>(rt: &R) -> io::Result<ExitCode> {

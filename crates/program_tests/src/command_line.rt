@@ -5,7 +5,7 @@ use crate::samples::{expect_text, must, words_of};
 use std::alloc::Global;
 use std::process::Abort;
 use zic_command_line::{Request, parse};
-use zic_plan::Plan;
+use zic_layouts::Plan;
 
 /// Returns the plan of a request, if it has one.
 fn plan_of(request: &Request) -> Option<&Plan> {

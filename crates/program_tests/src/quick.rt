@@ -6,26 +6,30 @@ ghost use Rattle.std.specs.Prelude.{◌≡◌};
 use crate::samples::{expect, must};
 use crate::workers::built;
 use zic_files::Files;
+use zic_layouts::Unit;
 use zic_pieces::Open;
-use zic_plan::Unit;
-use zic_rows::quick_time;
+use zic_row_text::quick_time;
 use zic_zones::{RowZones, SourceZones, UNKNOWN, Zones};
 
-/// Units, and instants in plain decimals.
+/// What stands before each instant.
+const NAME: &[u8] = b"America/New_York,";
+
+/// Units, and records with instants in plain decimals.
 const PLAIN: [(Unit, &[u8]); 7] = [
-    (Unit::Second, b"0"),
-    (Unit::Second, b"1173596399"),
-    (Unit::Second, b"-62135510400"),
-    (Unit::Second, b"253402214399"),
-    (Unit::Millisecond, b"1700000000007"),
-    (Unit::Microsecond, b"-1"),
-    (Unit::Nanosecond, b"1700000000000000001"),
+    (Unit::Second, b"America/New_York,0"),
+    (Unit::Second, b"America/New_York,1173596399"),
+    (Unit::Second, b"America/New_York,-62135510400"),
+    (Unit::Second, b"America/New_York,253402214399"),
+    (Unit::Millisecond, b"America/New_York,1700000000007"),
+    (Unit::Microsecond, b"America/New_York,-1"),
+    (Unit::Nanosecond, b"America/New_York,1700000000000000001"),
 ];
 
 #[test]
 fn plain_decimals_are_read(rt: HostRuntime) {
-    for (unit, field) in &PLAIN {
-        let time = quick_time(field, 0, field.len(), *unit);
+    for (unit, record) in &PLAIN {
+        let start = NAME.len().min(record.len());
+        let time = quick_time(record, start, record.len(), *unit);
         expect(&rt, time.is_some(), "a quick time");
     }
 }

@@ -6,7 +6,7 @@ use std::alloc::Global;
 use std::io::ErrorKind;
 use std::process::Abort;
 use zic_columns::{Column, Taken, Unread};
-use zic_plan::{Delimiter, Notes, Records};
+use zic_layouts::{Delimiter, Notes, Records};
 
 /// The greatest numbers of bytes that a read gives.
 const STEPS: [usize; 6] = [1, 2, 3, 5, 8, 1000];

@@ -12,8 +12,8 @@ use zic_compile::build;
 use zic_convert::convert;
 use zic_counted::Counted;
 use zic_files::Files;
+use zic_layouts::Plan;
 use zic_pieces::{Gate, Open};
-use zic_plan::Plan;
 
 /// Builds with a number of workers and pieces of one zone.
 pub fn built<R: Threads + Wait + Sync + Abort, G: Gate + Sync>(

@@ -1,4 +1,5 @@
 pub mod FilesTaken
 pub mod Layouts
+pub mod MadeRows
 pub mod RowStates
 pub mod Texts

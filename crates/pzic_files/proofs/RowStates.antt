@@ -9,7 +9,7 @@ use Rattle.zic_base.specs.State.{Shown}
 use Rattle.zic_files.specs.File.{File}
 use Rattle.zic_tzif.specs.Answer.{Gives}
 use Rattle.zic_tzif.specs.Content.{Content}
-use Rattle.zic_words.specs.Limits.{is_abbreviation}
+use Rattle.zic_lines.specs.Limits.{is_abbreviation}
 
 -- what the content of a file gives is what the file gives
 pub given-by : (files : List File) (i : ℕ) (content : Content) (t : ℤ) (state : Shown) → i < length files → IfSome (slice_get files i) (λ file. content ≡ file.image.content)

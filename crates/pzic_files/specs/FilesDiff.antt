@@ -1,13 +1,14 @@
 -- What the call on the differences of files returns. Own choice.
 use Rattle.std.specs.Prelude.{◌≡◌, ◌⊎◌, ◌==◌, ℕ, ◌-◌, ℤ, List, [], count_by, Option, Some, None, IsSomeAnd}
 use Rattle.zic_compare.specs.Files.{IsDiff}
-use Rattle.zic_compare.specs.declared.listed.Listed.{Listed}
+use Rattle.zic_compare.specs.Refused.{none_refused}
+use Rattle.zic_compare.specs.declared.sides.Listed.{Listed}
 use Rattle.zic_files.specs.File.{File}
 use Rattle.pzic_files.specs.DiffOptions.{HasNoListing, IsListedBy}
 use Rattle.pzic_zones.specs.Handle.{rows_of}
 use Rattle.pzic_files.specs.declared.diff_options.DiffOptions.{DiffOptions}
 use Rattle.pzic_zones.specs.declared.held.Held.{Held}
-use Rattle.pzic_zones.specs.declared.made.Made.{Made}
+use Rattle.pzic_zones.specs.declared.column.Made.{Made}
 use Rattle.pzic_zones.specs.declared.status.TheConstants.{OK, NO_MEMORY, NO_HANDLE, NO_SUCH}
 
 -- how many lines a text has after the first
@@ -16,7 +17,7 @@ lines_after_first text = count_by (λ byte. byte == 10) text - 1
 
 -- They are the text of `diff` for the old and the new files, with the number of its lines after that of the names of their fields, and no faults.
 pub record AreDiffRows (how : Listed) (old new : List File) (made : Made) : Type 0 where
-  pub is_text : IsDiff how old new made.text.items
+  pub is_text : IsDiff how old new none_refused made.text.items
   pub count_is : made.count ≡ lines_after_first made.text.items
   pub no_faults : made.faults.items ≡ []
 

@@ -1,7 +1,7 @@
 -- What the call that makes files of names and bytes returns. Own choice.
 use Rattle.std.specs.Prelude.{◌≡◌, ◌≢◌, ◌⊎◌, ℕ, ◌*◌, ℤ, true, false, List, [], ◌∷◌, ◌++◌, length, take, drop, All, Any, Option, Some, None, IsSomeAnd}
 use Rattle.std.specs.List.{sum}
-use Rattle.zic_words.specs.Name.{is_name}
+use Rattle.zic_lines.specs.Name.{is_name}
 use Rattle.zic_tzif.specs.Content.{Content}
 use Rattle.zic_tzif.specs.Reading.{IsFile, IsFault}
 use Rattle.zic_tzif.specs.declared.reason.Reason.{Reason}

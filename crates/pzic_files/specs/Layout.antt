@@ -1,30 +1,29 @@
 -- How a column is read and what its rows are, by numbers that C has. Own choice.
 use Rattle.std.specs.Prelude.{◌≡◌, ◌≢◌, ◌⊎◌, ℕ, true, false, IsUtf8, List, [], Option, Some, None, string_bytes}
-use Rattle.zic_plan.specs.Delimiter.{is_delimiter}
-use Rattle.zic_plan.specs.declared.disambiguation.Disambiguation.TheVariants as choice
-use Rattle.zic_plan.specs.declared.layout.AtFault.{AtFault}
-use Rattle.zic_plan.specs.declared.layout.AtFault.TheVariants as at
-use Rattle.zic_plan.specs.declared.layout.FieldCount.{FieldCount}
-use Rattle.zic_plan.specs.declared.layout.FieldCount.TheVariants as fields
-use Rattle.zic_plan.specs.declared.layout.Header.{Header}
-use Rattle.zic_plan.specs.declared.layout.Header.TheVariants as header
-use Rattle.zic_plan.specs.declared.layout.Layout.{Layout}
-use Rattle.zic_plan.specs.declared.layout.Quotes.{Quotes}
-use Rattle.zic_plan.specs.declared.layout.Quotes.TheVariants as quotes
-use Rattle.zic_plan.specs.declared.layout.Records.{Records}
-use Rattle.zic_plan.specs.declared.layout.Records.TheVariants as by
-use Rattle.zic_plan.specs.declared.layout.Notes.TheVariants as notes
-use Rattle.zic_plan.specs.declared.layout.RowStart.{RowStart}
-use Rattle.zic_plan.specs.declared.layout.RowStart.TheVariants as starts
-use Rattle.zic_plan.specs.declared.layout.Style.{Style}
-use Rattle.zic_plan.specs.declared.layout.Style.TheVariants as styles
-use Rattle.zic_plan.specs.declared.layout.TimeFrom.{TimeFrom}
-use Rattle.zic_plan.specs.declared.layout.TimeFrom.TheVariants as from
-use Rattle.zic_plan.specs.declared.layout.Unit.{Unit}
-use Rattle.zic_plan.specs.declared.layout.Unit.TheVariants as units
-use Rattle.zic_plan.specs.declared.layout.Written.TheVariants as written
-use Rattle.zic_plan.specs.declared.layout.ZoneFrom.{ZoneFrom}
-use Rattle.zic_plan.specs.declared.layout.ZoneFrom.TheVariants as zone
+use Rattle.zic_layouts.specs.Delimiter.{is_delimiter}
+use Rattle.zic_layouts.specs.declared.disambiguation.Disambiguation.TheVariants as choice
+use Rattle.zic_layouts.specs.declared.layout.AtFault.{AtFault}
+use Rattle.zic_layouts.specs.declared.layout.AtFault.TheVariants as at
+use Rattle.zic_layouts.specs.declared.layout.FieldCount.{FieldCount}
+use Rattle.zic_layouts.specs.declared.layout.FieldCount.TheVariants as fields
+use Rattle.zic_layouts.specs.declared.layout.Header.{Header}
+use Rattle.zic_layouts.specs.declared.layout.Header.TheVariants as header
+use Rattle.zic_layouts.specs.declared.layout.Layout.{Layout}
+use Rattle.zic_layouts.specs.declared.layout.Quotes.{Quotes}
+use Rattle.zic_layouts.specs.declared.layout.Quotes.TheVariants as quotes
+use Rattle.zic_layouts.specs.declared.layout.Records.{Records}
+use Rattle.zic_layouts.specs.declared.layout.Records.TheVariants as by
+use Rattle.zic_layouts.specs.declared.layout.Notes.TheVariants as notes
+use Rattle.zic_layouts.specs.declared.layout.RowStart.{RowStart}
+use Rattle.zic_layouts.specs.declared.layout.RowStart.TheVariants as starts
+use Rattle.zic_layouts.specs.declared.layout.Style.{Style}
+use Rattle.zic_layouts.specs.declared.layout.Style.TheVariants as styles
+use Rattle.zic_layouts.specs.declared.layout.TimeFrom.{TimeFrom}
+use Rattle.zic_layouts.specs.declared.layout.TimeFrom.TheVariants as from
+use Rattle.zic_layouts.specs.declared.layout.Unit.{Unit}
+use Rattle.zic_layouts.specs.declared.layout.Unit.TheVariants as units
+use Rattle.zic_layouts.specs.declared.layout.ZoneFrom.{ZoneFrom}
+use Rattle.zic_layouts.specs.declared.layout.ZoneFrom.TheVariants as zone
 use Rattle.pzic_files.specs.declared.layout.ColumnLayout.{ColumnLayout}
 use Rattle.pzic_files.specs.declared.layout.LayoutStop.{LayoutStop}
 use Rattle.pzic_files.specs.declared.layout.LayoutStop.TheVariants as stop
@@ -103,7 +102,6 @@ pub record HaveNumbers (given : ColumnLayout) (layout : Layout) : Type 0 where
   pub quotes : given.quotes ≡ quotes_number layout.quotes
   pub header : given.header ≡ header_number layout.header
   pub start : given.start ≡ start_number layout.start
-  pub written : layout.written ≡ written.All
   pub at_fault : given.at_fault ≡ fault_number layout.at_fault
   pub notes : layout.notes ≡ notes.Faults
   pub style : given.style ≡ style_number layout.style

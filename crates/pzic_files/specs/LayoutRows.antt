@@ -1,20 +1,22 @@
 -- What the calls on rows by a layout return. Own choice.
 use Rattle.std.specs.Prelude.{◌≡◌, ◌⊎◌, ℕ, ◌<◌, ◌≤◌, ℤ, List, [], ◌∷◌, ◌++◌, length, map, Option, Some, None, IsSomeAnd}
+use Rattle.zic_convert.specs.By.{by_of}
 use Rattle.zic_convert.specs.Memory.{IsConvertedTo}
+use Rattle.zic_convert.specs.declared.memory.LayoutRows.{LayoutRows}
 use Rattle.zic_files.specs.File.{File}
 use Rattle.zic_base.specs.RowFault.{row_kind_number}
 use Rattle.zic_base.specs.declared.row_fault.RowFault.{RowFault}
-use Rattle.zic_plan.specs.declared.layout.Layout.{Layout}
-use Rattle.zic_plan.specs.Noted.{RowNote}
-use Rattle.zic_plan.specs.declared.plan.TheConstants.{MAX_BYTES, MAX_ROWS}
+use Rattle.zic_layouts.specs.declared.layout.Layout.{Layout}
+use Rattle.zic_layouts.specs.Noted.{RowNote}
+use Rattle.zic_layouts.specs.declared.plan.TheConstants.{MAX_BYTES, MAX_ROWS}
 use Rattle.zic_zones.specs.Zones.{alone}
 use Rattle.pzic_zones.specs.Handle.{rows_of}
 use Rattle.pzic_files.specs.Layout.{HasNoLayout, IsLayoutOf}
 use Rattle.pzic_files.specs.Text.{overwritten}
 use Rattle.pzic_zones.specs.declared.held.Held.{Held}
 use Rattle.pzic_files.specs.declared.layout.ColumnLayout.{ColumnLayout}
-use Rattle.pzic_zones.specs.declared.made.Made.{Made}
-use Rattle.pzic_zones.specs.declared.made.RowFault as made
+use Rattle.pzic_zones.specs.declared.column.Made.{Made}
+use Rattle.pzic_zones.specs.declared.column.RowFault as made
 use Rattle.pzic_zones.specs.declared.status.TheConstants.{OK, NO_MEMORY, LENGTHS, NO_SUCH, BAD_ROW}
 
 -- a fault as C sees it: its row and the number of its kind
@@ -37,8 +39,8 @@ status_of_end (Some fault) = BAD_ROW
 -- They are the header and the rows of the column by the layout, up to the first that ends the run, and the faults; the header is row 0.
 abbrev pub AreMadeBy : List File → Layout → List ℕ → ℤ → Made → Type 0
 AreMadeBy files layout column status made =
-    (fault : Option RowFault) × (faults : List RowNote) × IsConvertedTo (alone files) layout MAX_ROWS column made.text.items made.count fault faults
-    × (made.faults.items ≡ map note_seen (faults_with_end faults fault)) × (status ≡ status_of_end fault)
+    (rows : LayoutRows) × IsConvertedTo (by_of layout (alone files) MAX_ROWS None) column rows × (made.text ≡ rows.text) × (made.count ≡ rows.count)
+    × (made.faults.items ≡ map note_seen (faults_with_end rows.faults.items rows.fault)) × (status ≡ status_of_end rows.fault)
 
 -- The handle holds them, or nothing, since memory ran out.
 abbrev pub AreRowsBy : List File → Layout → List ℕ → ℤ → Option Held → Type 0

@@ -3,12 +3,12 @@ use Rattle.std.specs.Prelude.{◌≡◌, ℕ, ◌+◌, ℤ, List, [], Option, So
 use Rattle.zic_convert.specs.Column.{AreRowsOfColumn}
 use Rattle.zic_files.specs.File.{File}
 use Rattle.zic_base.specs.RowFault.{row_kind_number}
-use Rattle.zic_plan.specs.declared.plan.TheConstants.{MAX_ROWS}
+use Rattle.zic_layouts.specs.declared.plan.TheConstants.{MAX_ROWS}
 use Rattle.zic_base.specs.declared.row_fault.RowKind.{RowKind}
 use Rattle.pzic_zones.specs.Handle.{rows_of}
 use Rattle.pzic_zones.specs.declared.held.Held.{Held}
-use Rattle.pzic_zones.specs.declared.made.Made.{Made}
-use Rattle.pzic_zones.specs.declared.made.RowFault.{RowFault}
+use Rattle.pzic_zones.specs.declared.column.Made.{Made}
+use Rattle.pzic_zones.specs.declared.column.RowFault.{RowFault}
 use Rattle.pzic_zones.specs.declared.status.TheConstants.{OK, NO_MEMORY, BAD_ROW}
 
 -- The status and the fault say whether the row after this number of rows has a fault: its number and its kind. If it has none, the fault stays as it was.

@@ -13,7 +13,7 @@ use std::alloc::Global;
 use zic_base::RowKind;
 use zic_convert::rows_of_column;
 use zic_files::Files;
-use zic_plan::MAX_ROWS;
+use zic_layouts::MAX_ROWS;
 
 /// Gives the fault of the row after `count` rows, if it has one.
 fn tell_fault(fault: Option<RowKind>, count: u64, reported: &mut RowFault) -> i32

@@ -3,7 +3,7 @@
 ghost use Rattle.std.specs.Prelude.{◌≡◌, Bool, MatchOption};
 ghost use Rattle.pzic_files.specs.DiffOptions.{HasNoListing, IsComparedBy, IsListedBy, ignore_number};
 
-use zic_compare::{Compared, Comparison, Listed, Survey};
+use zic_compare::{Compared, Comparison, Listed, Style, Survey};
 use zic_tzif::Instants;
 
 /// What is listed of the names of two lists of files, by numbers.
@@ -59,9 +59,14 @@ pub(crate) fn listed_of(given: &DiffOptions) -> Option<Listed>
         last: given.last,
     };
     match given.listed {
-        0 if given.first <= given.last => Some(Listed::Spans(Comparison { compared, bounds })),
+        0 if given.first <= given.last => Some(Listed::Spans(Comparison {
+            compared,
+            style: Style::Count,
+            bounds,
+        })),
         1 => Some(Listed::Summaries(Survey {
             compared,
+            style: Style::Count,
             since: given.first,
             present: given.present,
         })),

@@ -1,15 +1,15 @@
 //! How a column is read and what its rows are, as C passes it.
 
 ghost use Rattle.std.specs.Prelude.{◌≡◌, false, IsUtf8, MatchOption, IfOk, IfErr};
-ghost use Rattle.zic_plan.specs.Delimiter.{is_delimiter};
+ghost use Rattle.zic_layouts.specs.Delimiter.{is_delimiter};
 ghost use Rattle.pzic_files.specs.Layout.{HasNoLayout, IsFieldCount, IsLayoutOf, IsLimit, IsRefusal, IsZoneFrom};
 ghost use Rattle.pzic_files.specs.Layout.{fault_number, from_number, header_number, quotes_number, records_number, start_number, style_number, unit_number};
 
 use std::alloc::{AllocError, Global};
 use std::str::from_utf8;
-use zic_plan::{
+use zic_layouts::{
     AtFault, Delimiter, Disambiguation, FieldCount, Header, Layout, Notes, Quotes, Records,
-    RowStart, Style, TimeFrom, Unit, Written, ZoneFrom,
+    RowStart, Style, TimeFrom, Unit, ZoneFrom,
 };
 
 /// How a column is read, and what its rows are, by numbers.
@@ -251,7 +251,6 @@ pub(crate) fn layout_of(
         max_record: limit_of(given.max_record),
         start,
         style,
-        written: Written::All,
         at_fault,
         notes: Notes::Faults,
     })

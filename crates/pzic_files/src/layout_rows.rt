@@ -1,7 +1,7 @@
 //! The calls on the rows of columns by layouts.
 
 ghost use Rattle.std.specs.Prelude.{◌≡◌, ◌≤◌, None, MatchOption, IfOk, length, map};
-ghost use Rattle.zic_plan.specs.declared.plan.TheConstants.{MAX_BYTES};
+ghost use Rattle.zic_layouts.specs.declared.plan.TheConstants.{MAX_BYTES};
 ghost use Rattle.pzic_zones.specs.Handle.{IsHandle, files_in, held_in, rows_in};
 ghost use Rattle.pzic_files.specs.LayoutRows.{AreFaultsCopied, AreRowsBy, IsConvertedBy, fault_seen, faults_with_end, note_seen, status_of_end};
 ghost use Rattle.pzic_files.specs.Text.{overwritten};
@@ -14,7 +14,7 @@ use std::alloc::{AllocError, Global};
 use zic_base::RowKind;
 use zic_convert::{LayoutRows, rows_by_layout};
 use zic_files::Files;
-use zic_plan::{FaultyRow, Layout, MAX_BYTES, MAX_OF_PIECE, MAX_ROWS, Plan};
+use zic_layouts::{FaultyRow, Layout, MAX_BYTES, MAX_OF_PIECE, MAX_ROWS, Plan};
 
 /// Returns a fault as C sees it.
 fn seen(row: u64, kind: RowKind) -> RowFault

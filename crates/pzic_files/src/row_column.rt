@@ -3,7 +3,7 @@
 ghost use Rattle.std.specs.Prelude.{◌≡◌, ◌≤◌, length, option_map, IfSome, MatchOption};
 ghost use Rattle.std.specs.List.{AllZip, zip};
 ghost use Rattle.zic_base.specs.State.{shown};
-ghost use Rattle.zic_words.specs.Limits.{IsWithinLimits};
+ghost use Rattle.zic_lines.specs.Limits.{IsWithinLimits};
 ghost use Rattle.pzic_zones.specs.Handle.{IsHandle, files_in};
 ghost use Rattle.pzic_files.specs.RowColumn.{AreFlagsOfRow, AreRowAbbreviationsGiven, AreRowOffsetsGiven, IsAbbreviationOfRow, IsOffsetOfRow, IsStateOfRow, filled};
 ghost use Rattle.pzic_zones.specs.declared.status.TheConstants.{NO_HANDLE};

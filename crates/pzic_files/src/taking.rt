@@ -11,7 +11,7 @@ use pzic_zones::status::{BAD_FILE, BAD_NAME, LENGTHS, NO_MEMORY, OK, TAKEN, UNFI
 use pzic_zones::{Handle, hold_files};
 use std::alloc::{AllocError, Global};
 use zic_files::{Files, Image, Unfit};
-use zic_words::Name;
+use zic_lines::Name;
 
 /// Files that were taken, and of each that was given a status.
 #[derive(Drop)]

@@ -1,6 +1,6 @@
 -- What the calls on changes of local time return. Own choice.
 use Rattle.std.specs.Prelude.{◌≡◌, ℕ, ℤ, pos, ◌-ℤ◌, ◌⊎◌, List}
-use Rattle.zic_posix.specs.declared.instants.TheConstants.{MIN_INSTANT, MAX_INSTANT}
+use Rattle.zic_posix.specs.declared.span.TheConstants.{MIN_INSTANT, MAX_INSTANT}
 use Rattle.zic_tzif.specs.Content.{Content}
 use Rattle.zic_dump.specs.Changes.{StaysSame}
 use Rattle.zic_dump.specs.NearChanges.{IsNextChange, IsPreviousChange, AreChangesWritten}

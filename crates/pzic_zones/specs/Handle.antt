@@ -4,7 +4,7 @@ use Rattle.zic_tzif.specs.Content.{Content}
 use Rattle.zic_files.specs.File.{File}
 use Rattle.pzic_zones.specs.declared.held.Held.{Held}
 use Rattle.pzic_zones.specs.declared.held.Held.TheVariants as held
-use Rattle.pzic_zones.specs.declared.made.Made.{Made}
+use Rattle.pzic_zones.specs.declared.column.Made.{Made}
 use Rattle.pzic_zones.specs.declared.handle.Handle.{Handle}
 use Rattle.pzic_zones.specs.declared.status.TheConstants.{OK, NO_MEMORY, NO_HANDLE}
 

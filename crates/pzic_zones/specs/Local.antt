@@ -5,12 +5,12 @@ use Rattle.std.specs.List.{AllZip}
 use Rattle.zic_tzif.specs.Content.{Content}
 use Rattle.zic_local.specs.Choice.{Means, IsUnresolved}
 use Rattle.zic_local.specs.LocalTime.{IsInRange, AnswersLocal}
-use Rattle.zic_plan.specs.declared.disambiguation.Disambiguation.{Disambiguation}
-use Rattle.zic_plan.specs.declared.disambiguation.Disambiguation.TheVariants as choice
-use Rattle.zic_local.specs.declared.disambiguation.Unresolved.{Unresolved}
-use Rattle.zic_local.specs.declared.disambiguation.Unresolved.TheVariants as unresolved
-use Rattle.zic_local.specs.declared.local_instants.LocalInstants.{LocalInstants}
-use Rattle.zic_local.specs.declared.local_instants.LocalInstants.TheVariants as instants
+use Rattle.zic_layouts.specs.declared.disambiguation.Disambiguation.{Disambiguation}
+use Rattle.zic_layouts.specs.declared.disambiguation.Disambiguation.TheVariants as choice
+use Rattle.zic_local.specs.declared.local_time.Unresolved.{Unresolved}
+use Rattle.zic_local.specs.declared.local_time.Unresolved.TheVariants as unresolved
+use Rattle.zic_local.specs.declared.local_time.LocalInstants.{LocalInstants}
+use Rattle.zic_local.specs.declared.local_time.LocalInstants.TheVariants as instants
 use Rattle.pzic_zones.specs.declared.local.LocalTime.{LocalTime}
 use Rattle.pzic_zones.specs.declared.status.TheConstants.{OK, UNSPECIFIED, NO_SUCH, LENGTHS, OUT_OF_RANGE}
 

@@ -1,10 +1,10 @@
 -- What the calls on schedules return. Own choice.
 use Rattle.std.specs.Prelude.{◌≡◌, ℕ, ◌<◌, ℤ, ◌⊎◌, List}
 use Rattle.zic_tzif.specs.Content.{Content}
-use Rattle.zic_schedule.specs.Due.{AreDueWritten, IsNeverDue, IsNext}
-use Rattle.zic_schedule.specs.declared.schedule.Policy.{Policy}
-use Rattle.zic_schedule.specs.declared.schedule.Policy.TheVariants as policy
-use Rattle.zic_schedule.specs.declared.schedule.Schedule.{Schedule}
+use Rattle.zic_local.specs.Due.{AreDueWritten, IsNeverDue, IsNext}
+use Rattle.zic_local.specs.declared.schedule.Policy.{Policy}
+use Rattle.zic_local.specs.declared.schedule.Policy.TheVariants as policy
+use Rattle.zic_local.specs.declared.schedule.Schedule.{Schedule}
 use Rattle.pzic_zones.specs.declared.schedule.ScheduleOptions.{ScheduleOptions}
 use Rattle.pzic_zones.specs.declared.status.TheConstants.{OK, NO_SUCH, OUT_OF_RANGE}
 

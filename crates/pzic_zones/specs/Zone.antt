@@ -3,7 +3,7 @@ use Rattle.std.specs.Prelude.{◌≡◌, ℕ, ℤ, List, Option, Some, None, Mat
 use Rattle.zic_base.specs.State.{Shown}
 use Rattle.zic_tzif.specs.Content.{Content}
 use Rattle.zic_posix.specs.Instants.{Includes, AreBetween}
-use Rattle.zic_posix.specs.declared.instants.Instants.{Instants}
+use Rattle.zic_posix.specs.declared.span.Instants.{Instants}
 use Rattle.zic_tzif.specs.Answer.{Answers, AnswersThroughout, MayChangeAt}
 use Rattle.zic_tzif.specs.Reading.{IsFile, IsFault, ReadNeedsMemory}
 use Rattle.zic_tzif.specs.declared.reason.Reason.{Reason}

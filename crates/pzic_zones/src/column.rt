@@ -1,4 +1,4 @@
-//! Columns of instants in memory.
+//! Columns of instants, and the rows that were made.
 
 ghost use Rattle.std.specs.Prelude.{◌≡◌, ◌<◌, length, All};
 ghost use Rattle.std.specs.List.{AllZip};
@@ -162,4 +162,23 @@ pub(crate) fn write(zone: &Zone, instants: &[i64], offsets: &mut [i32], flags: &
     } else {
         write_many(zone, instants, offsets, flags);
     }
+}
+
+/// A row that has a fault.
+#[repr(C)]
+#[derive(Clone, Copy, Drop)]
+pub struct RowFault {
+    /// The number of the row, from 1.
+    pub row: u64,
+    /// The number of the kind.
+    pub kind: u32,
+}
+
+/// Rows: their text, how many there are, and their faults, of which the last may be that of the row
+/// after them.
+#[derive(Drop)]
+pub struct Made {
+    pub text: Vec<u8>,
+    pub count: u64,
+    pub faults: Vec<RowFault>,
 }

@@ -5,7 +5,7 @@ ghost use Rattle.std.specs.Option.{option_copied};
 ghost use Rattle.pzic_zones.specs.code.Near.{IsNear};
 ghost use Rattle.pzic_zones.specs.Handle.{AreAlike, content_at, content_of, files_of, rows_of};
 
-use crate::made::Made;
+use crate::column::Made;
 use crate::member::{Member, Single};
 use std::alloc::{AllocError, Global};
 use std::sync::Arc;

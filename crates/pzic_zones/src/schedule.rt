@@ -1,7 +1,7 @@
 //! The calls on the next instants at which clocks show a time of day.
 
 ghost use Rattle.std.specs.Prelude.{◌≡◌, ◌<◌, MatchOption};
-ghost use Rattle.zic_schedule.specs.declared.schedule.Policy.{Policy};
+ghost use Rattle.zic_local.specs.declared.schedule.Policy.{Policy};
 ghost use Rattle.pzic_zones.specs.code.Near.{IsNear};
 ghost use Rattle.pzic_zones.specs.Handle.{IsHandle, zone_in};
 ghost use Rattle.pzic_zones.specs.Schedule.{AreNextLocalsGiven, HasNoSchedule, IsNextLocalGiven, IsScheduleOf, policy_number};
@@ -11,7 +11,7 @@ use crate::handle::Handle;
 use crate::held::Held;
 use crate::status::{NO_HANDLE, NO_SUCH, OK, OUT_OF_RANGE};
 use std::alloc::Global;
-use zic_schedule::{Policy, Schedule, TimeOfDay, Weekdays, next_local, write_due};
+use zic_local::{Policy, Schedule, TimeOfDay, Weekdays, next_local, write_due};
 use zic_tzif::Zone;
 
 /// A time of day on weekdays, and the instants between which it is looked for, by numbers.

@@ -1,21 +1,22 @@
 -- A conversion by the zones of the files of a source, compared with those of another release.
 use Rattle.std.proofs.Common.{◌≡◌, ◌∙◌, ◌⊎◌, ℕ, List, Option, Result, Ok, Err, inl, inr, sym, subst, ap}
 use Rattle.std.specs.Prelude.{IfOk, IfErr}
-use Rattle.zic_base.specs.declared.run_stop.RunStop.{RunStop}
+use Rattle.zic_base.specs.declared.stops.RunStop.{RunStop}
 use Rattle.zic_compile.specs.Build.{AreFilesOfTexts}
+use Rattle.zic_convert.specs.By.{by_of}
 use Rattle.zic_convert.specs.Run.{EndsByZones, Run}
 use Rattle.zic_files.specs.File.{File}
 use Rattle.zic_files.specs.Sound.{AreSoundFiles}
 use Rattle.zic_io.specs.declared.failure.Failure.{Failure}
-use Rattle.zic_plan.specs.Plan.{Limits}
-use Rattle.zic_plan.specs.declared.layout.Layout.{Layout}
-use Rattle.zic_plan.specs.declared.layout.ZoneFrom.{ZoneFrom}
-use Rattle.zic_plan.specs.declared.layout.ZoneFrom.TheVariants as zone
+use Rattle.zic_layouts.specs.Plan.{Limits}
+use Rattle.zic_layouts.specs.declared.layout.Layout.{Layout}
+use Rattle.zic_layouts.specs.declared.layout.ZoneFrom.{ZoneFrom}
+use Rattle.zic_layouts.specs.declared.layout.ZoneFrom.TheVariants as zone
 use Rattle.zic_zones.specs.Compared.{MayCompare}
 use Rattle.zic_zones.specs.Zones.{alone}
-use Rattle.zic_zones.specs.declared.releases.Releases.{Releases}
+use Rattle.zic_zones.specs.declared.zones.Releases.{Releases}
 use Rattle.zic_bulk.specs.Converting.{ConvertsAgainst, IsFailureAgainst, MayBeAgainst, against}
-use Rattle.zic_file_commands.specs.Converting.{Converts, IsFailureOfConvert, IsFailureOfZones, IsZoneRequested, zones_of}
+use Rattle.zic_bulk.specs.ConvertingColumns.{Converts, IsFailureOfConvert, IsFailureOfZones, IsZoneRequested, zones_of}
 
 -- zones of which one part is those of a source, and the other those of another release
 module _ {B O : Type 0} (first : B → List File) (other : B → O) (grown broken : O → O → Type 0) (requests : O → List ℕ → O → Type 0) (may_be : O → Releases → Type 0) where
@@ -76,12 +77,14 @@ module _ {B O : Type 0} (first : B → List File) (other : B → O) (grown broke
         grown = names.grown.1;
         alone = requested_as layout.zone names.alone;
         has_zone = λ releases may. names.has_zone releases (both_may z' (names.grown.0 ∙ are) releases may);
+        line = names.line;
+        of_rows = λ releases may. names.of_rows releases (both_may z' (names.grown.0 ∙ are) releases may);
         fails = names.fails;
       }))
       failure_as failure (inr (inr rows)) = inr (inr (record { stop = rows.stop; is = rows.is; cause = rows.cause; ends = ends_as rows.stop _ rows.ends }))
 
       pub all_against : (texts : List (List ℕ)) → AreFilesOfTexts texts files → (result : Result ℕ Failure) → IfOk result (λ _. BothGrown z z')
-          → ((releases : Releases) → BothMayBe z' releases → IfOk result (λ n. Converts layout plan.max_rows limit n run releases))
+          → ((releases : Releases) → BothMayBe z' releases → IfOk result (λ n. Converts (by_of layout releases plan.max_rows limit) n run))
           → IfOk result (λ n. ConvertsAgainst texts layout plan.max_rows limit n run (λ fs then. against fs grown broken requests may_be (other z) then))
       all_against texts of (Ok n) grows all = record {
         files = files;

@@ -1,2 +1,12 @@
+pub mod ReadingLemmas
+pub mod ZoneLemmas
+pub mod ConvertingLemmas
+pub mod LocalLines
+pub mod LinkLemmas
+pub mod ListingLemmas
+pub mod NameLemmas
+pub mod TreeLemmas
+pub mod OnePlacing
+pub mod WayLemmas
 pub mod SourceLemmas
 pub mod AgainstLemmas

@@ -2,23 +2,24 @@
 use Rattle.std.proofs.Common.{◌≡◌, ◌∙◌, ◌⊎◌, ◌==◌, ℕ, length, List, Option, Result, Ok, Err, inl, inr, sym, subst, ap}
 use Rattle.std.specs.Prelude.{IfOk, IfErr}
 use Rattle.std.proofs.lemmas.Bool.{cond_both}
-use Rattle.zic_base.specs.declared.run_stop.RunStop.{RunStop}
-use Rattle.zic_base.specs.declared.run_stop.RunStop.TheVariants as stops
+use Rattle.zic_base.specs.declared.stops.RunStop.{RunStop}
+use Rattle.zic_base.specs.declared.stops.RunStop.TheVariants as stops
 use Rattle.zic_compile.specs.Build.{AreFilesOfTexts, IsStopOfBuild}
+use Rattle.zic_convert.specs.By.{by_of}
 use Rattle.zic_convert.specs.Run.{Run}
 use Rattle.zic_files.specs.File.{File}
 use Rattle.zic_files.specs.Sound.{AreSoundFiles}
 use Rattle.zic_io.specs.Failing.{run_failure}
 use Rattle.zic_io.specs.declared.failure.Failure.{Failure}
 use Rattle.zic_io.specs.declared.failure.Failure.TheVariants as failures
-use Rattle.zic_plan.specs.Plan.{Limits}
-use Rattle.zic_plan.specs.declared.layout.Layout.{Layout}
-use Rattle.zic_plan.specs.declared.layout.ZoneFrom.{ZoneFrom}
-use Rattle.zic_plan.specs.declared.layout.ZoneFrom.TheVariants as zone
+use Rattle.zic_layouts.specs.Plan.{Limits}
+use Rattle.zic_layouts.specs.declared.layout.Layout.{Layout}
+use Rattle.zic_layouts.specs.declared.layout.ZoneFrom.{ZoneFrom}
+use Rattle.zic_layouts.specs.declared.layout.ZoneFrom.TheVariants as zone
 use Rattle.zic_zones.specs.Zones.{alone}
-use Rattle.zic_zones.specs.declared.releases.Releases.{Releases}
+use Rattle.zic_zones.specs.declared.zones.Releases.{Releases}
 use Rattle.zic_bulk.specs.Converting.{ConvertsBySource, IsFailureAfterTexts, IsFailureByFiles, IsFailureOfKeyed}
-use Rattle.zic_file_commands.specs.Converting.{Converts, IsFailureOfConvert, IsFailureOfZone, IsFailureOfZones, zones_of}
+use Rattle.zic_bulk.specs.ConvertingColumns.{Converts, FailsAtNames, IsFailureOfConvert, IsFailureOfZone, IsFailureOfZones, zones_of}
 
 -- the files of a source stay
 abbrev Stays : List File → List File → Type 0
@@ -45,13 +46,15 @@ module _ (files : List File) (sound : AreSoundFiles files) where
 
     pub by_files : (failure : Failure) → IsFailureOfConvert plan limit layout run (zones_of Stays Stays StaysFor Only zones zones') failure → IsFailureByFiles plan limit layout run files failure
     by_files failure (inl none) = inl (none.untouched, without_zone layout.zone failure none.of_zones)
-    by_files failure (inr (inl names)) = inr (inl (names.has_zone (alone files) (only zones' (names.grown ∙ are)), names.fails))
+    by_files failure (inr (inl names)) =
+        let may = only zones' (names.grown ∙ are) in
+        inr (inl (names.has_zone (alone files) may, subst (λ (line : List ℕ). FailsAtNames line run failure) (names.of_rows (alone files) may) names.fails))
     by_files failure (inr (inr rows)) =
         let by = rows.ends.by (alone files) (only rows.ends.then (rows.ends.grown ∙ are)) in
         inr (inr (record { has_zone = by.0; stop = rows.stop; is = rows.is; cause = rows.cause; ends = by.1 }))
 
     pub all_by_source : (texts : List (List ℕ)) → AreFilesOfTexts texts files → (result : Result ℕ Failure) → IfOk result (λ _. Stays zones zones')
-        → ((rs : Releases) → Only zones' rs → IfOk result (λ n. Converts layout plan.max_rows limit n run rs)) → IfOk result (λ n. ConvertsBySource texts layout plan.max_rows limit n run)
+        → ((rs : Releases) → Only zones' rs → IfOk result (λ n. Converts (by_of layout rs plan.max_rows limit) n run)) → IfOk result (λ n. ConvertsBySource texts layout plan.max_rows limit n run)
     all_by_source texts of (Ok n) stays all = record { files = files; are_files = of; converts = all (alone files) (only zones' (stays ∙ are)) }
     all_by_source texts of (Err e) stays all = tt
 

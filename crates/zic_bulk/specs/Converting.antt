@@ -1,26 +1,28 @@
 -- The output of `convert` by texts, and why it gives up.
-use Rattle.std.specs.Prelude.{◌≡◌, ◌⊎◌, ℕ, List, Option}
-use Rattle.zic_base.specs.declared.run_stop.RunStop.{RunStop}
+use Rattle.std.specs.Prelude.{◌≡◌, ◌⊎◌, ℕ, List, Option, None}
+use Rattle.zic_base.specs.declared.stops.RunStop.{RunStop}
 use Rattle.zic_compile.specs.Build.{AreFilesOfTexts}
 use Rattle.zic_convert.specs.Convert.{IsCauseOf}
+use Rattle.zic_convert.specs.By.{by_of}
+use Rattle.zic_convert.specs.Column.{names_line}
 use Rattle.zic_convert.specs.Run.{EndsBy, Run}
-use Rattle.zic_file_commands.specs.Converting.{Converts, FailsAtNames, HasZone, IsFailureOfConvert, IsFailureOfZone, IsUntouched, ZonesRequested}
+use Rattle.zic_bulk.specs.ConvertingColumns.{Converts, FailsAtNames, HasZone, IsFailureOfConvert, IsFailureOfZone, IsUntouched, ZonesRequested}
 use Rattle.zic_files.specs.File.{File}
 use Rattle.zic_io.specs.Failing.{run_failure}
 use Rattle.zic_io.specs.declared.failure.Failure.{Failure}
 use Rattle.zic_io.specs.declared.failure.Failure.TheVariants as failures
-use Rattle.zic_plan.specs.Plan.{Limits}
-use Rattle.zic_plan.specs.declared.layout.Layout.{Layout}
-use Rattle.zic_source_commands.specs.Failing.{IsFailureOfTexts}
+use Rattle.zic_layouts.specs.Plan.{Limits}
+use Rattle.zic_layouts.specs.declared.layout.Layout.{Layout}
+use Rattle.zic_bulk.specs.Failing.{IsFailureOfTexts}
 use Rattle.zic_zones.specs.Compared.{compared}
 use Rattle.zic_zones.specs.Zones.{alone}
-use Rattle.zic_zones.specs.declared.releases.Releases.{Releases}
+use Rattle.zic_zones.specs.declared.zones.Releases.{Releases}
 
 -- the texts have files, and all rows of the column are written by them
 pub record ConvertsBySource {R W : Type 0} (texts : List (List ℕ)) (layout : Layout) (most : ℕ) (limit : Option ℕ) (n : ℕ) (run : Run R W) : Type 0 where
   pub files : List File
   pub are_files : AreFilesOfTexts texts files
-  pub converts : Converts layout most limit n run (alone files)
+  pub converts : Converts (by_of layout (alone files) most limit) n run
 
 -- the conversion of the column by these files ended early, for one of its own causes or for the log
 pub record IsFailureOfRowsBy {R W : Type 0} (plan : Limits) (limit : Option ℕ) (layout : Layout) (run : Run R W) (files : List File) (failure : Failure) : Type 0 where
@@ -28,14 +30,14 @@ pub record IsFailureOfRowsBy {R W : Type 0} (plan : Limits) (limit : Option ℕ)
   pub stop : RunStop
   pub is : failure ≡ run_failure stop 1
   pub cause : IsCauseOf plan.max_bytes run.reader run.reader' run.writer run.writer' stop ⊎ (failure ≡ failures.CannotWriteList)
-  pub ends : EndsBy layout plan.max_rows limit stop run (alone files)
+  pub ends : EndsBy (by_of layout (alone files) plan.max_rows limit) stop run
 
 -- why these files don't convert a column by a layout: memory ran out or they lack the zone for all rows, and nothing is touched, or the
 -- line of names can't be written, or the conversion ends early
 abbrev pub IsFailureByFiles : {R W : Type 0} → Limits → Option ℕ → Layout → Run R W → List File → Failure → Type 0
 IsFailureByFiles plan limit layout run files failure =
     (IsUntouched run × ((failure ≡ failures.Memory) ⊎ IsFailureOfZone files layout.zone failure))
-    ⊎ (HasZone files layout.zone × FailsAtNames layout run failure)
+    ⊎ (HasZone files layout.zone × FailsAtNames (names_line layout None) run failure)
     ⊎ IsFailureOfRowsBy plan limit layout run files failure
 
 -- the texts have files, and these don't convert the column
@@ -77,7 +79,7 @@ pub record ConvertsAgainst {R W O : Type 0} (texts : List (List ℕ)) (layout : 
   pub are_files : AreFilesOfTexts texts files
   pub then : O
   pub grown : (requested files then).grown (requested files then).zones then
-  pub converts : (releases : Releases) → (requested files then).may_be then releases → Converts layout most limit n run releases
+  pub converts : (releases : Releases) → (requested files then).may_be then releases → Converts (by_of layout releases most limit) n run
 
 -- the texts have files, and these and the other release don't convert the column
 pub record IsFailureAgainst {R W O : Type 0} (texts : List (List ℕ)) (plan : Limits) (limit : Option ℕ) (layout : Layout) (run : Run R W)

@@ -1,1 +1,9 @@
+pub mod Showing
+pub mod FailingToPrint
+pub mod ConvertingColumns
+pub mod Text
+pub mod Tree
+pub mod Linking
+pub mod Failing
+pub mod Laws
 pub mod Converting

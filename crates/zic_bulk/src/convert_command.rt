@@ -9,6 +9,7 @@ ghost use Rattle.zic_convert.specs.Run.{run_of};
 ghost use Rattle.zic_counted.specs.Counts.{HasFailedSince};
 ghost use Rattle.zic_source.specs.Texts.{texts_of};
 
+use crate::compiler::files_of;
 use std::io::{Read, Write};
 use std::sync::Wait;
 use std::thread::Threads;
@@ -16,10 +17,9 @@ use zic_convert::Conversion;
 use zic_counted::Counted;
 use zic_files::Files;
 use zic_io::Failure;
+use zic_layouts::RowLog;
 use zic_pieces::Gate;
-use zic_plan::RowLog;
-use zic_source_commands::files_of;
-use zic_zones::{Compared, SourceZones, Zones};
+use zic_zones::{SourceZones, TwoReleases, Zones};
 
 /// The texts of a source, and the key that seeds the hash of names, so that names can't be chosen to
 /// collide. Rows don't depend on the key.
@@ -61,7 +61,7 @@ fn keyed_files<T: Threads + Wait + Sync, G: Gate + Sync>(
 /// # Errors
 ///
 /// Why the texts have no files, in which case nothing is read of the column, or as
-/// [`zic_file_commands::convert`] by these files.
+/// [`crate::column_command::convert`] by these files.
 pub fn convert_source<T: Threads + Wait + Sync, G: Gate + Sync, R: Read, W: Write, L: RowLog>(
     conversion: &Conversion<'_, T, G>,
     texts: &[Vec<u8>],
@@ -86,11 +86,11 @@ pub fn convert_source<T: Threads + Wait + Sync, G: Gate + Sync, R: Read, W: Writ
 {
     let files = keyed_files(conversion, KeyedTexts { texts, key })?;
     let mut zones = SourceZones::new(conversion.alloc, &files)?;
-    zic_file_commands::convert(conversion, &mut zones, reader, writer, log)
+    crate::column_command::convert(conversion, &mut zones, reader, writer, log)
 }
 
 /// Compiles the texts, and converts a column by a layout and their files, and compares each row with what
-/// another release answers. Where the layout says so, only the rows are written whose answers differ.
+/// another release answers. Only the rows are written whose answers differ.
 /// Returns the number of all rows, written or not, without the header.
 ///
 /// # Errors
@@ -129,6 +129,6 @@ pub fn convert_source_against<
 {
     let files = keyed_files(conversion, source)?;
     let zones = SourceZones::new(conversion.alloc, &files)?;
-    let mut both = Compared { zones, old };
-    zic_file_commands::convert(conversion, &mut both, reader, writer, log)
+    let mut both = TwoReleases { zones, old };
+    crate::column_command::convert(conversion, &mut both, reader, writer, log)
 }

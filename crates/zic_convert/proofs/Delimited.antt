@@ -3,7 +3,7 @@ use Rattle.std.proofs.Common.{◌≡◌, ◌≢◌, ◌==◌, ℕ, Bool, true, f
 use Rattle.std.specs.Prelude.{◌||◌}
 use Rattle.std.proofs.lemmas.Bool.{and_parts, eqb-false}
 use Rattle.zic_columns.specs.Column.{CanDelimit}
-use Rattle.zic_plan.specs.Delimiter.{is_csv_byte, is_delimiter}
+use Rattle.zic_layouts.specs.Delimiter.{is_csv_byte, is_delimiter}
 
 not_false : (b : Bool) → not b ≡ true → b ≡ false
 not_false true h = absurd (cc h)

@@ -6,20 +6,21 @@ use Rattle.std.specs.Io.{StartsWith}
 use Rattle.std.specs.List.{concat}
 use Rattle.std.specs.Prelude.{IfErr, IfOk, Result, Ok, Err}
 use Rattle.zic_base.specs.declared.row_fault.RowKind.{RowKind}
-use Rattle.zic_base.specs.declared.run_stop.RunStop.{RunStop}
-use Rattle.zic_base.specs.declared.run_stop.RunStop.TheVariants as stop
+use Rattle.zic_base.specs.declared.stops.RunStop.{RunStop}
+use Rattle.zic_base.specs.declared.stops.RunStop.TheVariants as stop
 use Rattle.zic_columns.specs.Own.{CsvRecord}
 use Rattle.zic_counted.specs.Counts.{Counts}
-use Rattle.zic_zones.specs.declared.releases.Releases.{Releases}
-use Rattle.zic_plan.specs.declared.layout.Layout.{Layout}
+use Rattle.zic_zones.specs.declared.zones.Releases.{Releases}
+use Rattle.zic_layouts.specs.declared.layout.Layout.{Layout}
+use Rattle.zic_convert.specs.By.{By, by_of}
 use Rattle.zic_convert.specs.Convert.{IsCauseOf, IsCauseWithLog}
-use Rattle.zic_layout_rows.specs.LayoutRows.{faults_by}
+use Rattle.zic_piece_rows.specs.LayoutRows.{faults_by}
 use Rattle.zic_convert.specs.Run.{AreFew, EndsAfterLines, EndsByZones, Notes, Output, PassesHeader, WritesRows}
 use Rattle.zic_convert.specs.code.Halt.{IsCauseWith, IsEnd, IsOwnCause, IsReadingStop, stop_of}
 use Rattle.zic_convert.specs.code.Progress.{ConvertsColumn, EndsInColumn}
 use Rattle.zic_convert.specs.declared.halt.Halt.{Halt}
 use Rattle.zic_convert.specs.declared.halt.Halt.TheVariants as halt
-use Rattle.zic_layout_rows.proofs.Coming.{all_texts}
+use Rattle.zic_piece_rows.proofs.Coming.{all_texts}
 use Rattle.zic_convert.proofs.Options.{for_some, if_some}
 use Rattle.zic_convert.proofs.Rounds.{ends_map}
 
@@ -39,12 +40,12 @@ module _ {R : Type 0} (reader : Counts R) (failures taken most : ℕ) where
   err_end (Err (halt.Stop stop)) (Err why) P Q S all read stops is p q = subst S (sym is.stops) (stops stop q)
 
 -- all lines were written
-all_lines : (layout : Layout) (releases : Releases) (most : ℕ) (limit : Option ℕ) (header : List ℕ) (row_records : List CsvRecord) (n : ℕ) (why : RunStop) (out : Output) → WritesRows layout releases most limit header row_records n out
-    → EndsAfterLines layout releases most limit header row_records why out
-all_lines layout releases most limit header row_records n why out w =
+all_lines : (by : By) (header : List ℕ) (row_records : List CsvRecord) (n : ℕ) (why : RunStop) (out : Output) → WritesRows by header row_records n out
+    → EndsAfterLines by header row_records why out
+all_lines by header row_records n why out w =
     let texts = w.0.texts in
     let all : concat (take (suc n) (header ∷ texts)) ≡ header ++ concat texts = ap (λ (l : List (List ℕ)). header ++ concat l) (take_all n texts (omega (arith, w.0.count))) in
-    let many = all_texts layout releases most 1 row_records texts w.0.converts in
+    let many = all_texts by.layout by.releases by.most_rows 1 row_records texts w.0.converts in
     let rows : suc n - 1 ≡ n = omega arith in
     let row_record : take (suc n - 1) row_records ≡ row_records = ap (λ (k : ℕ). take k row_records) rows ∙ take_all n row_records (omega (arith, w.0.count, many)) in
     record {
@@ -58,15 +59,15 @@ all_lines layout releases most limit header row_records n why out w =
       least = subst (λ (l : List ℕ). StartsWith (header ++ concat texts) l) (sym all) (take-length (header ++ concat texts));
       exact = inl (sym all);
       wrote = w.0.wrote;
-      noted = subst (λ (l : List CsvRecord). Notes out.log out.log' (faults_by layout releases.zones most 1 l)) (sym row_record) w.1;
-      few = subst (λ (l : List CsvRecord). AreFew limit (faults_by layout releases.zones most 1 l)) (sym row_record) w.2;
-      may = subst (λ (l : List CsvRecord). AreFew limit (faults_by layout releases.zones most 1 l)) (sym row_record) w.2;
+      noted = subst (λ (l : List CsvRecord). Notes out.log out.log' (faults_by by.layout by.releases.zones by.most_rows 1 l)) (sym row_record) w.1;
+      few = subst (λ (l : List CsvRecord). AreFew by.max_faults (faults_by by.layout by.releases.zones by.most_rows 1 l)) (sym row_record) w.2;
+      may = subst (λ (l : List CsvRecord). AreFew by.max_faults (faults_by by.layout by.releases.zones by.most_rows 1 l)) (sym row_record) w.2;
     }
 
 -- where a read failed, other causes leave the same output
-read_as : (layout : Layout) (releases : Releases) (most : ℕ) (limit : Option ℕ) (header : List ℕ) (row_records : List CsvRecord) (why : RunStop) (out : Output)
-    → EndsAfterLines layout releases most limit header row_records stop.ReadFailed out → EndsAfterLines layout releases most limit header row_records why out
-read_as layout releases most limit header row_records why out w = record {
+read_as : (by : By) (header : List ℕ) (row_records : List CsvRecord) (why : RunStop) (out : Output)
+    → EndsAfterLines by header row_records stop.ReadFailed out → EndsAfterLines by header row_records why out
+read_as by header row_records why out w = record {
   texts = w.texts;
   fault = w.fault;
   come = w.come;
@@ -85,30 +86,30 @@ read_as layout releases most limit header row_records why out w = record {
   may = w.may;
 }
 
-module _ (layout : Layout) (most : ℕ) (limit : Option ℕ) (known : Option (List ℕ)) (out : Output) (releases : Releases) where
-  all_read : (n : ℕ) → ConvertsColumn layout most limit known n out releases → EndsInColumn layout most limit known stop.ReadFailed out releases
-  all_read n all = if_some known _ (λ column e. (let (none, row_records, are, w) = for_some known _ column all e in inr (inl none, row_records, are, all_lines layout releases most limit _ row_records n stop.ReadFailed out w)))
+module _ (by : By) (known : Option (List ℕ)) (out : Output) where
+  all_read : (n : ℕ) → ConvertsColumn by known n out → EndsInColumn by known stop.ReadFailed out
+  all_read n all = if_some known _ (λ column e. (let (none, row_records, are, w) = for_some known _ column all e in inr (inl none, row_records, are, all_lines by _ row_records n stop.ReadFailed out w)))
 
   -- a run that ended before its rows did so for whatever cause
-  passes_as : (column : List ℕ) (why : RunStop) → ((row : ℕ) (kind : RowKind) → why ≡ stop.Row row kind → ⊥) → PassesHeader layout releases.zones column stop.ReadFailed [] out
-      → PassesHeader layout releases.zones column why [] out
+  passes_as : (column : List ℕ) (why : RunStop) → ((row : ℕ) (kind : RowKind) → why ≡ stop.Row row kind → ⊥) → PassesHeader by column stop.ReadFailed [] out
+      → PassesHeader by column why [] out
   passes_as column why at_no_row (inl none) = inl none
   passes_as column why at_no_row (inr before) = inr (record { at_no_row = at_no_row; wrote = before.wrote; noted = before.noted })
 
-  ends_as_read : {R : Type 0} (reader : Counts R) (failures taken most_bytes : ℕ) (why : RunStop) → IsReadingStop reader failures taken most_bytes why → EndsInColumn layout most limit known stop.ReadFailed out releases
-      → EndsInColumn layout most limit known why out releases
+  ends_as_read : {R : Type 0} (reader : Counts R) (failures taken most_bytes : ℕ) (why : RunStop) → IsReadingStop reader failures taken most_bytes why → EndsInColumn by known stop.ReadFailed out
+      → EndsInColumn by known why out
   ends_as_read reader failures taken most_bytes stop.ReadFailed is ends = ends
   ends_as_read reader failures taken most_bytes stop.ColumnTooLong is ends =
       if_some known _ (λ column e.
       elim (for_some known _ column ends e) [
         | inl header ↦ absurd (cc header.is)
-        | inr rows ↦ inr (passes_as column stop.ColumnTooLong (λ row kind e. cc e) rows.0, rows.1, rows.2, read_as layout releases most limit _ rows.1 stop.ColumnTooLong out rows.3)
+        | inr rows ↦ inr (passes_as column stop.ColumnTooLong (λ row kind e. cc e) rows.0, rows.1, rows.2, read_as by _ rows.1 stop.ColumnTooLong out rows.3)
       ])
   ends_as_read reader failures taken most_bytes stop.Memory is ends =
       if_some known _ (λ column e.
       elim (for_some known _ column ends e) [
         | inl header ↦ absurd (cc header.is)
-        | inr rows ↦ inr (passes_as column stop.Memory (λ row kind e. cc e) rows.0, rows.1, rows.2, read_as layout releases most limit _ rows.1 stop.Memory out rows.3)
+        | inr rows ↦ inr (passes_as column stop.Memory (λ row kind e. cc e) rows.0, rows.1, rows.2, read_as by _ rows.1 stop.Memory out rows.3)
       ])
   ends_as_read reader failures taken most_bytes (stop.Row row kind) is ends = absurd is
   ends_as_read reader failures taken most_bytes (stop.Source fault) is ends = absurd is
@@ -126,17 +127,17 @@ both_ok (Err why) G M C g all = tt
 pub zones_end : {R Z : Type 0} (reader : Counts R) (failures taken most_bytes : ℕ) (grown broken : Z → Z → Type 0) (may_be : Z → Releases → Type 0) (old new : Z)
     (layout : Layout) (most : ℕ) (limit : Option ℕ) (known : Option (List ℕ)) (out : Output) (outcome : Result ℕ Halt) (result : Result ℕ RunStop) → IsEnd reader failures taken most_bytes outcome result
     → IfOk outcome (λ _. grown old new)
-    → ((releases : Releases) → may_be new releases → IfOk outcome (λ n. ConvertsColumn layout most limit known n out releases))
-    → IfErr outcome (λ why. EndsByZones grown broken may_be old new (stop_of why) (EndsInColumn layout most limit known (stop_of why) out))
-    → IfErr result (λ why. EndsByZones grown broken may_be old new why (EndsInColumn layout most limit known why out))
+    → ((releases : Releases) → may_be new releases → IfOk outcome (λ n. ConvertsColumn (by_of layout releases most limit) known n out))
+    → IfErr outcome (λ why. EndsByZones grown broken may_be old new (stop_of why) (λ releases. EndsInColumn (by_of layout releases most limit) known (stop_of why) out))
+    → IfErr result (λ why. EndsByZones grown broken may_be old new why (λ releases. EndsInColumn (by_of layout releases most limit) known why out))
 zones_end reader failures taken most_bytes grown broken may_be old new layout most limit known out outcome result is grew all ends =
     err_end reader failures taken most_bytes outcome result
-    (λ n. grown old new × ((releases : Releases) → may_be new releases → ConvertsColumn layout most limit known n out releases))
-    (λ why. EndsByZones grown broken may_be old new (stop_of why) (EndsInColumn layout most limit known (stop_of why) out))
-    (λ why. EndsByZones grown broken may_be old new why (EndsInColumn layout most limit known why out))
-    (λ n done. record { then = new; grown = done.0; ends = inl refl; by = λ releases may. all_read layout most limit known out releases n (done.1 releases may) })
-    (λ why read ends. ends_map grown broken may_be old new stop.ReadFailed why _ _ (λ e. absurd (cc e)) (λ releases part. ends_as_read layout most limit known out releases reader failures taken most_bytes why read part) ends)
-    (λ why ends. ends) is (both_ok outcome (grown old new) (may_be new) (λ n releases. ConvertsColumn layout most limit known n out releases) grew all) ends
+    (λ n. grown old new × ((releases : Releases) → may_be new releases → ConvertsColumn (by_of layout releases most limit) known n out))
+    (λ why. EndsByZones grown broken may_be old new (stop_of why) (λ releases. EndsInColumn (by_of layout releases most limit) known (stop_of why) out))
+    (λ why. EndsByZones grown broken may_be old new why (λ releases. EndsInColumn (by_of layout releases most limit) known why out))
+    (λ n done. record { then = new; grown = done.0; ends = inl refl; by = λ releases may. all_read (by_of layout releases most limit) known out n (done.1 releases may) })
+    (λ why read ends. ends_map grown broken may_be old new stop.ReadFailed why _ _ (λ e. absurd (cc e)) (λ releases part. ends_as_read (by_of layout releases most limit) known out reader failures taken most_bytes why read part) ends)
+    (λ why ends. ends) is (both_ok outcome (grown old new) (may_be new) (λ n releases. ConvertsColumn (by_of layout releases most limit) known n out) grew all) ends
 
 -- nothing is asked of rows
 all_of : (outcome : Result ℕ Halt) → IfOk outcome (λ n. Unit {0})

@@ -3,14 +3,14 @@ use Rattle.std.proofs.Common.{◌≡◌, ◌+◌, ℕ, suc, List, [], ◌∷◌,
 use Rattle.std.proofs.lemmas.List.{append-nil}
 use Rattle.zic_columns.specs.Own.{CsvRecord}
 use Rattle.zic_tzif.specs.Laws.{FilesAnswerOnce}
-use Rattle.zic_zones.specs.declared.releases.Releases.{Releases}
+use Rattle.zic_zones.specs.declared.zones.Releases.{Releases}
 use Rattle.zic_convert.specs.Laws.{AreSoundReleases}
-use Rattle.zic_plan.specs.declared.layout.Layout.{Layout}
-use Rattle.zic_plan.specs.Noted.{RowNote}
+use Rattle.zic_layouts.specs.declared.layout.Layout.{Layout}
+use Rattle.zic_layouts.specs.Noted.{RowNote}
 use Rattle.zic_base.specs.declared.row_fault.RowKind.{RowKind}
-use Rattle.zic_layout_rows.specs.LayoutRows.{RecordsConvertBy, fault_by, faults_by, noted}
-use Rattle.zic_layout_rows.specs.PieceRows.{AreRowsOf, RowsOf}
-use Rattle.zic_layout_rows.proofs.Coming.{come_after, come_more}
+use Rattle.zic_piece_rows.specs.LayoutRows.{RecordsConvertBy, fault_by, faults_by, noted}
+use Rattle.zic_piece_rows.specs.PieceRows.{AreRowsOf, RowsOf}
+use Rattle.zic_piece_rows.proofs.Coming.{come_after, come_more}
 use Rattle.zic_convert.proofs.Once.{once_by}
 use Rattle.zic_convert.proofs.Sounds.{both_known}
 use Rattle.zic_convert.proofs.Totals.{all_come}

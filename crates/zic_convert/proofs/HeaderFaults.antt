@@ -3,11 +3,12 @@ use Rattle.std.proofs.Common.{◌≡◌, ◌⊎◌, ◌∙◌, ℕ, true, false,
 use Rattle.std.specs.Option.{option_or}
 use Rattle.std.specs.Prelude.{All, IfSome, IsSome, ◌==◌, length, option_map, slice_get}
 use Rattle.csv.specs.Reading.{strip_bom}
-use Rattle.zic_base.specs.declared.run_stop.RunStop.TheVariants as stop
+use Rattle.zic_base.specs.declared.stops.RunStop.TheVariants as stop
 use Rattle.zic_counted.specs.Counts.{Counts}
-use Rattle.zic_plan.specs.Layout.{records_before}
-use Rattle.zic_plan.specs.declared.layout.Header.{Header}
-use Rattle.zic_plan.specs.declared.layout.Header.TheVariants as headers
+use Rattle.zic_layouts.specs.Layout.{records_before}
+use Rattle.zic_layouts.specs.declared.layout.Header.{Header}
+use Rattle.zic_layouts.specs.declared.layout.Header.TheVariants as headers
+use Rattle.zic_convert.specs.By.{by_of}
 use Rattle.zic_convert.specs.Column.{header_read, own_header, records_read, texts_read}
 use Rattle.zic_convert.specs.Run.{EndsByZones, LogBegan}
 use Rattle.zic_convert.specs.code.Halt.{IsCauseOfHalt, stop_of}
@@ -29,16 +30,16 @@ use Rattle.zic_columns.specs.Round.{records_of}
 use Rattle.zic_columns.proofs.PieceRecords.{wholes_none}
 use Rattle.zic_columns.proofs.SomeRecords.{column_records-nil}
 use Rattle.zic_files.specs.File.{File}
-use Rattle.zic_plan.specs.declared.layout.AtFault.{AtFault}
-use Rattle.zic_plan.specs.declared.layout.AtFault.TheVariants as at
-use Rattle.zic_plan.specs.declared.layout.Layout.{Layout}
-use Rattle.zic_plan.specs.declared.layout.Records.{Records}
-use Rattle.zic_plan.specs.declared.layout.Records.TheVariants as by
-use Rattle.zic_plan.specs.Noted.{RowNote}
+use Rattle.zic_layouts.specs.declared.layout.AtFault.{AtFault}
+use Rattle.zic_layouts.specs.declared.layout.AtFault.TheVariants as at
+use Rattle.zic_layouts.specs.declared.layout.Layout.{Layout}
+use Rattle.zic_layouts.specs.declared.layout.Records.{Records}
+use Rattle.zic_layouts.specs.declared.layout.Records.TheVariants as by
+use Rattle.zic_layouts.specs.Noted.{RowNote}
 use Rattle.zic_zones.specs.Zones.{ReleasesAgree, zone_in}
-use Rattle.zic_zones.specs.declared.releases.Releases.{Releases}
-use Rattle.zic_layout_rows.specs.LayoutRows.{ending, ends_by, fault_by, if_rejected, noted}
-use Rattle.zic_layout_rows.specs.PieceRows.{AreRowsOf, RowsOf}
+use Rattle.zic_zones.specs.declared.zones.Releases.{Releases}
+use Rattle.zic_piece_rows.specs.LayoutRows.{ending, ends_by, fault_by, if_rejected, noted}
+use Rattle.zic_piece_rows.specs.PieceRows.{AreRowsOf, RowsOf}
 use Rattle.zic_convert.specs.Header.{fault_read, header_fault, header_kind}
 use Rattle.zic_convert.specs.code.Progress.{AreOfOne, EndsNoLine, HaltsAtCheck, HaltsAtHead, IsOwnFault, header_passed, is_open_by, kept_of, records_left}
 use Rattle.zic_convert.proofs.Staying.{IsKnownZone, fault_same, kept, round_known}
@@ -247,9 +248,9 @@ module _ (law : FirstRecordIsAlone) (layout : Layout) (can : CanDelimit layout.d
         sym (found of ∙ ap (header_fault layout files) same))
 
   -- the check of the header ended the run
-  module _ {W Z : Type 0} (contents : W → Option (List ℕ)) (writer : Counts W) (grown broken : Z → Z → Type 0) (may_be : Z → Releases → Type 0) (still : (z : Z) → grown z z) (old new : Z) where
+  module _ {W Z : Type 0} (contents : W → Option (List ℕ)) (writer : Counts W) (grown broken : Z → Z → Type 0) (may_be : Z → Releases → Type 0) (still : (z : Z) → grown z z) (most : ℕ) (old new : Z) where
     pub check_halts : (why : Halt) → HaltsAtCheck grown broken may_be old new layout own why
-        → EndsByZones grown broken may_be old new (stop_of why) (λ releases. HaltsAtHead contents writer writer layout releases.zones known why)
+        → EndsByZones grown broken may_be old new (stop_of why) (λ releases. HaltsAtHead contents writer writer (by_of layout releases most None) known why)
     check_halts halt.Unread ends = absurd ends
     check_halts (halt.Stop stop.Memory) (inl grew) = record { then = new; grown = grew; ends = inl refl; by = λ releases may. refl }
     check_halts (halt.Stop stop.Memory) (inr broke) = record { then = old; grown = still old; ends = inr (refl, broke); by = λ releases may. refl }

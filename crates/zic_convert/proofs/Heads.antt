@@ -11,18 +11,19 @@ use Rattle.zic_columns.specs.Round.{BeginsTooLong}
 use Rattle.zic_counted.specs.Counts.{Counts}
 use Rattle.zic_counted.specs.Written.{FailsWithin}
 use Rattle.zic_tzif.specs.Laws.{FilesAnswerOnce}
-use Rattle.zic_zones.specs.declared.releases.Releases.{Releases}
+use Rattle.zic_zones.specs.declared.zones.Releases.{Releases}
+use Rattle.zic_convert.specs.By.{By, by_of}
 use Rattle.zic_convert.specs.Laws.{AreSoundReleases}
-use Rattle.zic_plan.specs.Layout.{records_before}
-use Rattle.zic_plan.specs.declared.layout.Layout.{Layout}
-use Rattle.zic_plan.specs.declared.layout.Records.{Records}
-use Rattle.zic_plan.specs.Noted.{RowNote}
+use Rattle.zic_layouts.specs.Layout.{records_before}
+use Rattle.zic_layouts.specs.declared.layout.Layout.{Layout}
+use Rattle.zic_layouts.specs.declared.layout.Records.{Records}
+use Rattle.zic_layouts.specs.Noted.{RowNote}
 use Rattle.zic_base.specs.declared.row_fault.RowKind.{RowKind}
 use Rattle.zic_base.specs.declared.row_fault.RowKind.TheVariants as kinds
 use Rattle.zic_files.specs.File.{File}
-use Rattle.zic_base.specs.declared.run_stop.RunStop.{RunStop}
-use Rattle.zic_base.specs.declared.run_stop.RunStop.TheVariants as stop
-use Rattle.zic_layout_rows.specs.LayoutRows.{if_rejected}
+use Rattle.zic_base.specs.declared.stops.RunStop.{RunStop}
+use Rattle.zic_base.specs.declared.stops.RunStop.TheVariants as stop
+use Rattle.zic_piece_rows.specs.LayoutRows.{if_rejected}
 use Rattle.zic_convert.specs.Column.{AreRowRecords, header_of, header_read, names_added, own_line, read_by, records_read, rejects_header}
 use Rattle.zic_convert.specs.Run.{EndsAfterLines, EndsAtHeader, EndsIn, LogBegan, PassesHeader, WritesRows}
 use Rattle.zic_convert.specs.code.Halt.{IsCauseOfHalt, stop_of}
@@ -44,12 +45,12 @@ long_fault : (layout : Layout) (files : List File) (given : List CsvRecord) → 
 long_fault layout files [] none = absurd none
 long_fault layout files (first ∷ others) is = rw is refl
 
-at_long : (layout : Layout) (files : List File) (known : Option (List ℕ)) (why : RunStop) → IsAtLongHeader layout known why → IsAtHeader layout files known why
-at_long layout files known why at = record {
+at_long : (layout : Layout) (releases : Releases) (most : ℕ) (known : Option (List ℕ)) (why : RunStop) → IsAtLongHeader layout known why → IsAtHeader (by_of layout releases most None) known why
+at_long layout releases most known why at = record {
   kind = kinds.RowTooLong;
   is = at.is;
   fault = if_some known _ (λ bytes e.
-      ap (λ (n : ℕ). header_fault layout files (take n (records_read layout bytes))) at.header ∙ long_fault layout files (records_read layout bytes) (for_some known _ bytes at.long e));
+      ap (λ (n : ℕ). header_fault layout releases.zones (take n (records_read layout bytes))) at.header ∙ long_fault layout releases.zones (records_read layout bytes) (for_some known _ bytes at.long e));
 }
 
 module _ {W : Type 0} (contents : W → Option (List ℕ)) where
@@ -65,14 +66,14 @@ module _ {W : Type 0} (contents : W → Option (List ℕ)) where
   head_unchanged a b c head (Err why) wrote failed =
       rw failed.0 (subst (λ (l : List ℕ). FailsWithin contents a c l) (append-nil head) (fails_later contents a b c head [] wrote failed.1))
 
-  module _ (old new : Counts W) (layout : Layout) (files : List File) (known : Option (List ℕ)) where
+  module _ (old new : Counts W) (layout : Layout) (releases : Releases) (most : ℕ) (known : Option (List ℕ)) where
     -- a header was not written whole
-    pub halts_before : (own : List ℕ) → IfSome known (λ bytes. own ≡ header_read layout bytes) → IfSome known (λ bytes. fault_read layout files bytes ≡ None) → (why : RunStop)
-        → EndsAtHead contents old new (header_of layout.start (names_added layout) own) why → HaltsAtHead contents old new layout files known (halt.Stop why)
+    pub halts_before : (own : List ℕ) → IfSome known (λ bytes. own ≡ header_read layout bytes) → IfSome known (λ bytes. fault_read layout releases.zones bytes ≡ None) → (why : RunStop)
+        → EndsAtHead contents old new (header_of layout.start (names_added layout releases.old) own) why → HaltsAtHead contents old new (by_of layout releases most None) known (halt.Stop why)
     halts_before own is none stop.WriteFailed fails = (
       fails.failed,
       if_some known _ (λ column e. (
-        subst (λ (l : List ℕ). FailsWithin contents old new (header_of layout.start (names_added layout) l)) (for_some known _ column is e) fails,
+        subst (λ (l : List ℕ). FailsWithin contents old new (header_of layout.start (names_added layout releases.old) l)) (for_some known _ column is e) fails,
         for_some known _ column none e,
       )),
     )
@@ -85,9 +86,9 @@ module _ {W : Type 0} (contents : W → Option (List ℕ)) where
     halts_before own is none stop.LogFailed ends = absurd ends
 
     -- the column was not begun, and nothing was written
-    pub halts_begun : (why : Halt) → HaltsAtBegin layout known why → new ≡ old → HaltsAtHead contents old new layout files known why
+    pub halts_begun : (why : Halt) → HaltsAtBegin layout known why → new ≡ old → HaltsAtHead contents old new (by_of layout releases most None) known why
     halts_begun halt.Unread begun same = same
-    halts_begun (halt.Stop (stop.Row row kind)) begun same = (same, at_long layout files known (stop.Row row kind) begun)
+    halts_begun (halt.Stop (stop.Row row kind)) begun same = (same, at_long layout releases most known (stop.Row row kind) begun)
     halts_begun (halt.Stop (stop.Source fault)) begun same = absurd begun
     halts_begun (halt.Stop stop.ReadFailed) begun same = absurd begun
     halts_begun (halt.Stop stop.WriteFailed) begun same = absurd begun
@@ -97,7 +98,7 @@ module _ {W : Type 0} (contents : W → Option (List ℕ)) where
     halts_begun (halt.Stop stop.LogFailed) begun same = absurd begun
 
     -- the cause
-    pub cause_at_head : (why : Halt) → HaltsAtHead contents old new layout files known why → IsCauseOfHalt old new why
+    pub cause_at_head : (why : Halt) → HaltsAtHead contents old new (by_of layout releases most None) known why → IsCauseOfHalt old new why
     cause_at_head halt.Unread same = tt
     cause_at_head (halt.Stop stop.Memory) same = tt
     cause_at_head (halt.Stop stop.WriteFailed) failed = failed.0
@@ -127,10 +128,10 @@ header_halts layout known left mode d by delimiter bytes header (halt.Stop stop.
 header_halts layout known left mode d by delimiter bytes header (halt.Stop stop.LogFailed) is = absurd is
 
 -- not even a header was written whole
-no_line : FilesAnswerOnce → (layout : Layout) (releases : Releases) (most : ℕ) (limit : Option ℕ) → AreSoundReleases releases → (head : List ℕ) (row_records : List CsvRecord) (why : RunStop) (old new : Option (List ℕ)) (log : Option (List RowNote))
-    (part : List ℕ) → StartsWith head part → Appends old new part → ((part ≡ []) ⊎ (why ≡ stop.WriteFailed)) → EndsAfterLines layout releases most limit head row_records why (output old new log log)
-no_line once layout releases most limit sound head row_records why old new log part starts wrote exact =
-    let (texts, fault, come) = all_come layout releases most (both_known releases sound once) 1 row_records in
+no_line : FilesAnswerOnce → (by : By) → AreSoundReleases by.releases → (head : List ℕ) (row_records : List CsvRecord) (why : RunStop) (old new : Option (List ℕ)) (log : Option (List RowNote))
+    (part : List ℕ) → StartsWith head part → Appends old new part → ((part ≡ []) ⊎ (why ≡ stop.WriteFailed)) → EndsAfterLines by head row_records why (output old new log log)
+no_line once by sound head row_records why old new log part starts wrote exact =
+    let (texts, fault, come) = all_come by.layout by.releases by.most_rows (both_known by.releases sound once) 1 row_records in
     record {
       texts = texts;
       fault = fault;
@@ -143,8 +144,8 @@ no_line once layout releases most limit sound head row_records why old new log p
       exact = exact;
       wrote = wrote;
       noted = notes_none log;
-      few = none_few limit;
-      may = none_few limit;
+      few = none_few by.max_faults;
+      may = none_few by.max_faults;
     }
 
 -- a column was converted, of which these bytes are read
@@ -158,18 +159,18 @@ module _ (layout : Layout) (most : ℕ) (limit : Option ℕ) (known inside : Opt
   -- the rows of a column did not begin
   module _ {W : Type 0} (contents : W → Option (List ℕ)) (once : FilesAnswerOnce) (old new : Counts W) (log : Option (List RowNote)) (releases : Releases) (sound : AreSoundReleases releases) where
     none_written : (why : RunStop) → ((row : ℕ) (kind : RowKind) → why ≡ stop.Row row kind → ⊥)
-        → IfSome known (λ column. EndsAtHeader layout releases.zones column why [] (output (contents old.inner) (contents old.inner) log log)
-        ⊎ (PassesHeader layout releases.zones column why [] (output (contents old.inner) (contents old.inner) log log) × (row_records : List CsvRecord) × AreRowRecords layout column row_records
-        × EndsAfterLines layout releases most limit (own_line layout column) row_records why (output (contents old.inner) (contents old.inner) log log)))
+        → IfSome known (λ column. EndsAtHeader (by_of layout releases most limit) column why [] (output (contents old.inner) (contents old.inner) log log)
+        ⊎ (PassesHeader (by_of layout releases most limit) column why [] (output (contents old.inner) (contents old.inner) log log) × (row_records : List CsvRecord) × AreRowRecords layout column row_records
+        × EndsAfterLines (by_of layout releases most limit) (own_line (by_of layout releases most limit) column) row_records why (output (contents old.inner) (contents old.inner) log log)))
     none_written why at_no_row = if_some known _ (λ column e. inr (
       inr (record { at_no_row = at_no_row; wrote = appends-none (contents old.inner); noted = notes_none log }),
       rows_read column,
       refl,
-      no_line once layout releases most limit sound (own_line layout column) (rows_read column) why (contents old.inner) (contents old.inner) log [] refl (appends-none (contents old.inner)) (inl refl),
+      no_line once (by_of layout releases most limit) sound (own_line (by_of layout releases most limit) column) (rows_read column) why (contents old.inner) (contents old.inner) log [] refl (appends-none (contents old.inner)) (inl refl),
     ))
 
     -- the header has a fault
-    header_faulty : (why : RunStop) → IsAtHeader layout releases.zones inside why → EndsInColumn layout most limit known why (output (contents old.inner) (contents old.inner) log log) releases
+    header_faulty : (why : RunStop) → IsAtHeader (by_of layout releases most None) inside why → EndsInColumn (by_of layout releases most limit) known why (output (contents old.inner) (contents old.inner) log log)
     header_faulty why at = if_some known _ (λ column e.
         inl (record {
           kind = at.kind;
@@ -179,7 +180,7 @@ module _ (layout : Layout) (most : ℕ) (limit : Option ℕ) (known inside : Opt
           noted = notes_none log;
         }))
 
-    pub ends_at_head : (why : Halt) → HaltsAtHead contents old new layout releases.zones inside why → EndsInColumn layout most limit known (stop_of why) (output (contents old.inner) (contents new.inner) log log) releases
+    pub ends_at_head : (why : Halt) → HaltsAtHead contents old new (by_of layout releases most None) inside why → EndsInColumn (by_of layout releases most limit) known (stop_of why) (output (contents old.inner) (contents new.inner) log log)
     ends_at_head halt.Unread same = rw same (none_written stop.ReadFailed (λ row kind e. cc e))
     ends_at_head (halt.Stop stop.Memory) same = rw same (none_written stop.Memory (λ row kind e. cc e))
     ends_at_head (halt.Stop stop.WriteFailed) failed = if_some known _ (λ column e.
@@ -188,7 +189,7 @@ module _ (layout : Layout) (most : ℕ) (limit : Option ℕ) (known inside : Opt
           inl (sym none),
           rows_read column,
           refl,
-          no_line once layout releases most limit sound (own_line layout column) (rows_read column) stop.WriteFailed (contents old.inner) (contents new.inner) log fails.part fails.starts fails.wrote (inr refl),
+          no_line once (by_of layout releases most limit) sound (own_line (by_of layout releases most limit) column) (rows_read column) stop.WriteFailed (contents old.inner) (contents new.inner) log fails.part fails.starts fails.wrote (inr refl),
         ))
     ends_at_head (halt.Stop (stop.Row row kind)) ends = rw ends.0 (header_faulty (stop.Row row kind) ends.1)
     ends_at_head (halt.Stop (stop.Source fault)) ends = absurd ends
@@ -203,9 +204,9 @@ module _ (layout : Layout) (most : ℕ) (limit : Option ℕ) (known inside : Opt
 
   -- the rest of a column was converted, once its header was written
   module _ (releases : Releases) (left : Option (List ℕ)) (old mid new : Option (List ℕ)) (log last : Option (List RowNote))
-      (begins : IfSome inside (λ bytes. BeginsRows layout bytes left)) (head : IfSome inside (λ bytes. Appends old mid (header_of layout.start (names_added layout) (header_read layout bytes)))) where
+      (begins : IfSome inside (λ bytes. BeginsRows layout bytes left)) (head : IfSome inside (λ bytes. Appends old mid (header_of layout.start (names_added layout releases.old) (header_read layout bytes)))) where
     begun_as : (P : List CsvRecord → Type 0) (Q : List ℕ → List CsvRecord → Type 0)
-        → ((column : List ℕ) (row_records : List CsvRecord) → Appends old mid (own_line layout column) → P row_records → Q column row_records)
+        → ((column : List ℕ) (row_records : List CsvRecord) → Appends old mid (own_line (by_of layout releases most limit) column) → P row_records → Q column row_records)
         → IfSome left (λ bytes. P (records_left layout bytes)) → IfSome known (λ column. (row_records : List CsvRecord) × AreRowRecords layout column row_records × Q column row_records)
     begun_as P Q below p = if_some known _ (λ column e.
         let text = read_by layout column in
@@ -213,24 +214,24 @@ module _ (layout : Layout) (most : ℕ) (limit : Option ℕ) (known inside : Opt
         (rows_read column, refl, below column (rows_read column) (for_some inside _ text head (within column e)) (subst P same (for_some left _ rest p at))))
 
     -- the header has no fault
-    sound_header : IfSome inside (λ bytes. fault_read layout releases.zones bytes ≡ None) → (column : List ℕ) → known ≡ Some column → IsHeaderFault layout releases.zones column None
+    sound_header : IfSome inside (λ bytes. fault_read layout releases.zones bytes ≡ None) → (column : List ℕ) → known ≡ Some column → IsHeaderFault (by_of layout releases most limit) column None
     sound_header none column e = sym (for_some inside _ (read_by layout column) none (within column e))
 
-    pub converts_column : (n : ℕ) → IfSome inside (λ bytes. fault_read layout releases.zones bytes ≡ None) → ConvertsRest layout most limit left n (output mid new log last) releases
-        → ConvertsColumn layout most limit known n (output old new log last) releases
+    pub converts_column : (n : ℕ) → IfSome inside (λ bytes. fault_read layout releases.zones bytes ≡ None) → ConvertsRest (by_of layout releases most limit) left n (output mid new log last)
+        → ConvertsColumn (by_of layout releases most limit) known n (output old new log last)
     converts_column n none rest = if_some known _ (λ column e.
         let fault = sound_header none column e in
-        let rows = begun_as (λ row_records. WritesRows layout releases most limit [] row_records n (output mid new log last))
-        (λ column row_records. WritesRows layout releases most limit (own_line layout column) row_records n (output old new log last))
-        (λ column row_records line w. rows_below layout releases most limit row_records (own_line layout column) old mid new log last line n w) rest in
+        let rows = begun_as (λ row_records. WritesRows (by_of layout releases most limit) [] row_records n (output mid new log last))
+        (λ column row_records. WritesRows (by_of layout releases most limit) (own_line (by_of layout releases most limit) column) row_records n (output old new log last))
+        (λ column row_records line w. rows_below (by_of layout releases most limit) row_records (own_line (by_of layout releases most limit) column) old mid new log last line n w) rest in
         let (row_records, are, w) = for_some known _ column rows e in
         (fault, row_records, are, w))
 
-    pub ends_column : (why : RunStop) → IfSome inside (λ bytes. fault_read layout releases.zones bytes ≡ None) → EndsInRest layout most limit left why (output mid new log last) releases
-        → EndsInColumn layout most limit known why (output old new log last) releases
+    pub ends_column : (why : RunStop) → IfSome inside (λ bytes. fault_read layout releases.zones bytes ≡ None) → EndsInRest (by_of layout releases most limit) left why (output mid new log last)
+        → EndsInColumn (by_of layout releases most limit) known why (output old new log last)
     ends_column why none ends = if_some known _ (λ column e.
-        let rows = begun_as (λ row_records. EndsIn layout releases most limit [] row_records why (output mid new log last))
-        (λ column row_records. EndsIn layout releases most limit (own_line layout column) row_records why (output old new log last))
-        (λ column row_records line w. ends_below layout releases most limit row_records (own_line layout column) old mid new log last line why w) ends in
+        let rows = begun_as (λ row_records. EndsIn (by_of layout releases most limit) [] row_records why (output mid new log last))
+        (λ column row_records. EndsIn (by_of layout releases most limit) (own_line (by_of layout releases most limit) column) row_records why (output old new log last))
+        (λ column row_records line w. ends_below (by_of layout releases most limit) row_records (own_line (by_of layout releases most limit) column) old mid new log last line why w) ends in
         let (row_records, are, w) = for_some known _ column rows e in
         inr (inl (sound_header none column e), row_records, are, w))

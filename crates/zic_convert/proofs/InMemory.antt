@@ -6,19 +6,20 @@ use Rattle.std.specs.Io.KnownBytes.{Appends}
 use Rattle.csv.specs.Reading.{strip_bom}
 use Rattle.zic_base.specs.declared.row_fault.RowFault.{RowFault}
 use Rattle.zic_base.specs.declared.row_fault.RowKind.{RowKind}
-use Rattle.zic_base.specs.declared.run_stop.RunStop.TheVariants as stop
+use Rattle.zic_base.specs.declared.stops.RunStop.TheVariants as stop
 use Rattle.zic_columns.proofs.SomeRecords.{few_records}
 use Rattle.zic_columns.proofs.Taking.{unmarked_shorter}
 use Rattle.zic_columns.specs.Column.{column_records}
 use Rattle.zic_columns.specs.Laws.{ColumnRecordsAreRead, RecordsAreOne}
 use Rattle.zic_files.specs.File.{File}
-use Rattle.zic_plan.specs.Layout.{HasPlainRows}
-use Rattle.zic_plan.specs.Noted.{RowNote}
-use Rattle.zic_plan.specs.declared.layout.Header.TheVariants as header
-use Rattle.zic_plan.specs.declared.layout.Layout.{Layout}
+use Rattle.zic_layouts.specs.Layout.{HasPlainRows}
+use Rattle.zic_layouts.specs.Noted.{RowNote}
+use Rattle.zic_layouts.specs.declared.layout.Header.TheVariants as header
+use Rattle.zic_layouts.specs.declared.layout.Layout.{Layout}
 use Rattle.zic_zones.specs.Zones.{alone}
-use Rattle.zic_zones.specs.declared.releases.Releases.{Releases}
-use Rattle.zic_layout_rows.specs.Rows.{RecordsConvertTo}
+use Rattle.zic_zones.specs.declared.zones.Releases.{Releases}
+use Rattle.zic_piece_rows.specs.Rows.{RecordsConvertTo}
+use Rattle.zic_convert.specs.By.{by_of}
 use Rattle.zic_convert.specs.Column.{AreRowsOfColumn, ConvertsTo, names_line}
 use Rattle.zic_convert.specs.Header.{IsHeaderFault}
 use Rattle.zic_convert.specs.Laws.{PlainColumnsConvertAlike}
@@ -43,47 +44,47 @@ same_row row kind other same = cc same
 
 -- ---- what was written into memory, after the line of names, and what was noted
 
-module _ (layout : Layout) (releases : Releases) (most : ℕ) (column names text : List ℕ) (notes : List RowNote) (begun : Appends (Some []) (Some names) (names_line layout)) (made : LayoutRows) where
+module _ (layout : Layout) (releases : Releases) (most : ℕ) (column names text : List ℕ) (notes : List RowNote) (begun : Appends (Some []) (Some names) (names_line layout releases.old)) (made : LayoutRows) where
   abbrev out : Output
   out = output (Some names) (Some text) (Some []) (Some notes)
 
   -- all rows
-  made_all : (n : ℕ) → ConvertsColumn layout most None (Some column) n out releases → AreMade (Ok n) text notes made
-      → IsConvertedTo releases layout most column made.text.items made.count made.fault made.faults.items
+  made_all : (n : ℕ) → ConvertsColumn (by_of layout releases most None) (Some column) n out → AreMade (Ok n) text notes made
+      → IsConvertedTo (by_of layout releases most None) column made
   made_all n all is =
-      let (fault, row_records, are, w) = column_after_names layout most None (Some column) releases (Some []) (Some names) (Some text) (Some []) (Some notes) begun n all in
+      let (fault, row_records, are, w) = column_after_names (by_of layout releases most None) (Some column) (Some []) (Some names) (Some text) (Some []) (Some notes) begun n all in
       inl (record {
         header = fault;
         row_records = row_records;
         are = are;
         texts = w.0.texts;
         kind = None;
-        rows = w.0.converts;
-        text_is = is.0 ∙ w.0.wrote;
-        count_is = is.1 ∙ w.0.count;
-        fault_is = is.2;
-        faults_are = is.3 ∙ w.1;
+        come = w.0.converts;
+        text = is.0 ∙ w.0.wrote;
+        count = is.1 ∙ w.0.count;
+        fault = is.2;
+        faults = is.3 ∙ w.1;
       })
 
   -- a run that ended at a row passed over a header without a fault
-  passed : (row : ℕ) (kind : RowKind) (bytes : List ℕ) (run : Output) → PassesHeader layout releases.zones column (stop.Row row kind) bytes run → IsHeaderFault layout releases.zones column None
+  passed : (row : ℕ) (kind : RowKind) (bytes : List ℕ) (run : Output) → PassesHeader (by_of layout releases most None) column (stop.Row row kind) bytes run → IsHeaderFault (by_of layout releases most None) column None
   passed row kind bytes run (inl none) = none
   passed row kind bytes run (inr before) = absurd (before.at_no_row row kind refl)
 
   -- those before a row that ends the run, or none before a header that does
-  made_before : (row : ℕ) (kind : RowKind) → EndsInColumn layout most None (Some column) (stop.Row row kind) out releases → AreMade (Err (halt.Stop (stop.Row row kind))) text notes made
-      → IsConvertedTo releases layout most column made.text.items made.count made.fault made.faults.items
+  made_before : (row : ℕ) (kind : RowKind) → EndsInColumn (by_of layout releases most None) (Some column) (stop.Row row kind) out → AreMade (Err (halt.Stop (stop.Row row kind))) text notes made
+      → IsConvertedTo (by_of layout releases most None) column made
   made_before row kind ends is =
-      elim (column_ends_after_names layout most None (Some column) releases (Some []) (Some names) (Some text) (Some []) (Some notes) begun (stop.Row row kind) ends) [
+      elim (column_ends_after_names (by_of layout releases most None) (Some column) (Some []) (Some names) (Some text) (Some []) (Some notes) begun (stop.Row row kind) ends) [
         | inl h ↦
             let same = same_row row kind h.kind h.is in
             inr (record {
               kind = h.kind;
               header = h.fault;
-              text_is = is.0 ∙ h.wrote;
-              count_is = is.1 ∙ ap (λ (f : RowFault). f.row - 1) same;
-              fault_is = is.2 ∙ ap (λ (f : RowFault). Some f) same;
-              faults_are = is.3 ∙ h.noted;
+              text = is.0 ∙ h.wrote;
+              count = is.1 ∙ ap (λ (f : RowFault). f.row - 1) same;
+              fault = is.2 ∙ ap (λ (f : RowFault). Some f) same;
+              faults = is.3 ∙ h.noted;
             })
         | inr (passes, row_records, are, w, _) ↦
             elim w [
@@ -95,11 +96,11 @@ module _ (layout : Layout) (releases : Releases) (most : ℕ) (column names text
                     are = are;
                     texts = at.0.texts;
                     kind = Some kind;
-                    rows = at.0.converts;
-                    text_is = is.0 ∙ at.0.wrote;
-                    count_is = omega (arith, is.1, at.0.number);
-                    fault_is = is.2 ∙ ap (λ (n : ℕ). Some (record { row = n; kind = kind })) (number ∙ ap (λ (n : ℕ). n + 1) (sym is.1));
-                    faults_are = is.3 ∙ at.1;
+                    come = at.0.converts;
+                    text = is.0 ∙ at.0.wrote;
+                    count = omega (arith, is.1, at.0.number);
+                    fault = is.2 ∙ ap (λ (n : ℕ). Some (record { row = n; kind = kind })) (number ∙ ap (λ (n : ℕ). n + 1) (sym is.1));
+                    faults = is.3 ∙ at.1;
                   })
               | inr many ↦ absurd (cc many.too_many.full)
             ]
@@ -108,9 +109,9 @@ module _ (layout : Layout) (releases : Releases) (most : ℕ) (column names text
   -- either, by how the run ended
   pub made_by : {Z : Type 0} (grown broken : Z → Z → Type 0) (may_be : Z → Releases → Type 0) (old new : Z) → ((then : Z) → grown old then → may_be then releases)
       → (outcome : Result ℕ Halt) → IfOk outcome (λ _. grown old new)
-      → ((others : Releases) → may_be new others → IfOk outcome (λ n. ConvertsColumn layout most None (Some column) n out others))
-      → IfErr outcome (λ why. EndsByZones grown broken may_be old new (stop_of why) (EndsInColumn layout most None (Some column) (stop_of why) out))
-      → AreMade outcome text notes made → IsConvertedTo releases layout most column made.text.items made.count made.fault made.faults.items
+      → ((others : Releases) → may_be new others → IfOk outcome (λ n. ConvertsColumn (by_of layout others most None) (Some column) n out))
+      → IfErr outcome (λ why. EndsByZones grown broken may_be old new (stop_of why) (λ releases. EndsInColumn (by_of layout releases most None) (Some column) (stop_of why) out))
+      → AreMade outcome text notes made → IsConvertedTo (by_of layout releases most None) column made
   made_by grown broken may_be old new may (Ok n) grew all ends is = made_all n (all releases (may new grew)) is
   made_by grown broken may_be old new may (Err (halt.Stop (stop.Row row kind))) grew all ends is = made_before row kind (ends.by releases (may ends.then ends.grown)) is
   made_by grown broken may_be old new may (Err halt.Unread) grew all ends is = absurd is
@@ -129,7 +130,7 @@ kind_after count None = refl
 kind_after count (Some kind) = refl
 
 module _ (read : ColumnRecordsAreRead) (one : RecordsAreOne) (alike : PlainColumnsConvertAlike) (layout : Layout) (plain : HasPlainRows layout) (none : layout.header ≡ header.Absent)
-    (files : List File) (most : ℕ) (column text : List ℕ) (count : ℕ) (fault : Option RowFault) (faults : List RowNote) where
+    (files : List File) (most : ℕ) (column : List ℕ) (made : LayoutRows) where
   -- each row has a record
   few_converted : (number : ℕ) (records : List (List (List ℕ))) (texts : List (List ℕ)) (kind : Option RowKind) → RecordsConvertTo files most number records texts kind → length texts ≤ length records
   few_converted number [] texts kind come = omega (arith, ap length come.0)
@@ -137,21 +138,21 @@ module _ (read : ColumnRecordsAreRead) (one : RecordsAreOne) (alike : PlainColum
   few_converted number (fields ∷ records) (text ∷ texts) kind come = omega (arith, few_converted (number + 1) records texts kind come.2)
 
   abbrev Plain : Type 0
-  Plain = AreRowsOfColumn files most column text count (option_map (λ (f : RowFault). f.kind) fault) × (count ≤ length column + 1)
+  Plain = AreRowsOfColumn files most column made.text.items made.count (option_map (λ (f : RowFault). f.kind) made.fault) × (made.count ≤ length column + 1)
 
-  pub plain_in_memory : IsConvertedTo (alone files) layout most column text count fault faults → Plain
+  pub plain_in_memory : IsConvertedTo (by_of layout (alone files) most None) column made → Plain
   plain_in_memory (inr refused) =
       absurd (let no : Some refused.kind ≡ None = refused.header ∙ headless alike layout plain none files most column in cc no)
   plain_in_memory (inl rows) =
-      let kind = ap (option_map (λ (f : RowFault). f.kind)) rows.fault_is ∙ kind_after count rows.kind in
-      let to = (alike.all files layout most column rows.texts rows.kind plain none).0 (record { row_records = rows.row_records; are = rows.are; rows = rows.rows }) in
+      let kind = ap (option_map (λ (f : RowFault). f.kind)) rows.fault ∙ kind_after made.count rows.kind in
+      let to = (alike.all (by_of layout (alone files) most None) files column rows.texts rows.kind plain refl none).0 (record { row_records = rows.row_records; are = rows.are; rows = rows.come }) in
       let bytes = strip_bom column in
       let same = one 44 bytes to.records (column_records 44 bytes) to.are (read 44 bytes) in (
         record {
           texts = rows.texts;
           converts = subst (λ (k : Option RowKind). ConvertsTo files most column rows.texts k) (sym kind) to;
-          text_is = rows.text_is ∙ ap (λ (l : List ℕ). l ++ concat rows.texts) (no_header alike layout plain none files most column);
-          count_is = rows.count_is;
+          text_is = rows.text ∙ ap (λ (l : List ℕ). l ++ concat rows.texts) (no_header alike layout plain none files most column);
+          count_is = rows.count;
         },
-        omega (arith, rows.count_is, few_converted 1 to.records rows.texts rows.kind to.rows, ap length same, few_records 44 bytes, unmarked_shorter column),
+        omega (arith, rows.count, few_converted 1 to.records rows.texts rows.kind to.rows, ap length same, few_records 44 bytes, unmarked_shorter column),
       )

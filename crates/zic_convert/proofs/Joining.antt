@@ -11,21 +11,22 @@ use Rattle.zic_columns.specs.Own.{CsvRecord, csv_records}
 use Rattle.zic_columns.specs.declared.columns.Taken.{Taken}
 use Rattle.zic_columns.specs.declared.columns.Taken.TheVariants as taken
 use Rattle.zic_pieces.specs.Task.{AreValues}
-use Rattle.zic_zones.specs.declared.releases.Releases.{Releases}
-use Rattle.zic_layout_rows.specs.PieceRows.{AreRowsOf, RowsOf}
-use Rattle.zic_convert.specs.code.Written.{EndsInPieces, EndsInRound, EndsInRows, HasOneTooMany, WritesRound}
+use Rattle.zic_zones.specs.declared.zones.Releases.{Releases}
+use Rattle.zic_piece_rows.specs.PieceRows.{AreRowsOf, RowsOf}
+use Rattle.zic_convert.specs.By.{by_of}
+use Rattle.zic_convert.specs.code.Written.{EndsInPieces, EndsInRound, EndsInRows, HasOneTooMany, WritesRound, numbered, writing}
 use Rattle.zic_counted.specs.Counts.{Counts}
-use Rattle.zic_plan.specs.declared.layout.Layout.{Layout}
-use Rattle.zic_plan.specs.Noted.{RowNote}
-use Rattle.zic_base.specs.declared.run_stop.RunStop.{RunStop}
-use Rattle.zic_base.specs.declared.run_stop.RunStop.TheVariants as stop
+use Rattle.zic_layouts.specs.declared.layout.Layout.{Layout}
+use Rattle.zic_layouts.specs.Noted.{RowNote}
+use Rattle.zic_base.specs.declared.stops.RunStop.{RunStop}
+use Rattle.zic_base.specs.declared.stops.RunStop.TheVariants as stop
 use Rattle.zic_convert.specs.code.Pieces.{ArePieces, AreRowsOfPiece, IsOutcomeOf, Pieces, joined}
 use Rattle.zic_base.specs.declared.row_fault.RowFault.{RowFault}
 use Rattle.zic_base.specs.declared.row_fault.RowKind.{RowKind}
-use Rattle.zic_layout_rows.specs.LayoutRows.{RecordsConvertBy, faults_by}
+use Rattle.zic_piece_rows.specs.LayoutRows.{RecordsConvertBy, faults_by}
 use Rattle.zic_convert.specs.Run.{AreFew}
 use Rattle.zic_convert.specs.declared.tally.Tally.{Tally}
-use Rattle.zic_layout_rows.proofs.Coming.{come_more, faults_more, no_rows, rows_followed}
+use Rattle.zic_piece_rows.proofs.Coming.{come_more, faults_more, no_rows, rows_followed}
 use Rattle.zic_columns.proofs.PieceRecords.{wholes_counted}
 use Rattle.zic_convert.proofs.TooMany.{are_on, cut_ends, fails_before, few_of_front, row_within, rows_on, stops_before}
 
@@ -93,8 +94,8 @@ wholes_split d i pieces = ap (records_of_pieces d) (sym (take-append-drop i piec
 -- where pieces with few faults end, their rows do
 module _ {W : Type 0} (contents : W → Option (List ℕ)) (old new : Counts W) (log log' : Option (List RowNote)) (p : Pieces) (limit : Option ℕ) (values : List RowsOf) (sound : ArePieces p)
     (are : AreValues (IsOutcomeOf p) (length p.pieces) values) (few : AreFew limit (joined values).faults) where
-  pub pieces_end : (why : RunStop) → EndsInPieces contents old new log log' p.first values why
-      → EndsInRows contents old new log log' p.layout p.releases p.most limit p.first (records_of_pieces p.layout.delimiter p.pieces) (joined values) why
+  pub pieces_end : (why : RunStop) → EndsInPieces (writing contents old new log log') p.first values why
+      → EndsInRows (by_of p.layout p.releases p.most limit) (writing contents old new log log') (numbered p.first (records_of_pieces p.layout.delimiter p.pieces)) (joined values) why
   pieces_end (stop.Row row kind) h = inl (h, few)
   pieces_end stop.WriteFailed (i, fails, noted) =
       let done = records_of_pieces p.layout.delimiter (take i p.pieces) in
@@ -115,7 +116,7 @@ module _ {W : Type 0} (contents : W → Option (List ℕ)) (old new : Counts W) 
         fails = fails;
         noted = noted;
         may = few;
-        few = few_of_front p.layout p.releases p.most limit p.first (records_of_pieces p.layout.delimiter p.pieces) done more parts (joined values) (joined_round p values sound are) (joined (take i values)) are_front few;
+        few = few_of_front (by_of p.layout p.releases p.most limit) p.first (records_of_pieces p.layout.delimiter p.pieces) done more parts (joined values) (joined_round p values sound are) (joined (take i values)) are_front few;
       }
   pieces_end (stop.Source fault) h = absurd h
   pieces_end stop.ReadFailed h = absurd h
@@ -177,7 +178,7 @@ front_sound p i sound = record {
 -- a row with one fault too many has a number of its own
 pub row_positive : (p : Pieces) (limit : Option ℕ) (fault : RowFault) → ArePieces p → HasOneTooMany p limit fault → 1 ≤ fault.row
 row_positive p limit fault sound (rows, are, before, many) =
-    omega (arith, sound.least, (row_within p.layout p.releases p.most limit p.first (records_of_pieces p.layout.delimiter p.pieces) rows are fault.row fault.kind before many).0)
+    omega (arith, sound.least, (row_within (by_of p.layout p.releases p.most limit) p.first (records_of_pieces p.layout.delimiter p.pieces) rows are fault.row fault.kind before many).0)
 
 -- the records up to a piece, and its own
 front_records : (d size : ℕ) (pieces : List (List ℕ)) (i : ℕ) (piece : List ℕ) → ArePiecesOf d size pieces → slice_get pieces i ≡ Some piece
@@ -251,12 +252,12 @@ front_of_all p i rows kind are has =
 module _ (p : Pieces) (i : ℕ) (found : RowsOf) (sound : ArePieces p) (lt : i < length p.pieces) (of_piece : AreRowsOfPiece p i found) (has : IsSome found.fault) where
   module _ {W : Type 0} (limit : Option ℕ) (contents : W → Option (List ℕ)) (old new : Counts W) (log log' : Option (List RowNote)) where
     -- its rows are not all without a fault
-    pub again_ok : (tally : Tally) → WritesRound (record p { pieces = take (i + 1) p.pieces; stops = false }) limit contents old new log log' tally → ⊥
+    pub again_ok : (tally : Tally) → WritesRound (record p { pieces = take (i + 1) p.pieces; stops = false }) limit (writing contents old new log log') tally → ⊥
     again_ok tally wrote = front_faults p i wrote.0 found sound lt wrote.1 of_piece has wrote.2.0
 
     rows_again : (rows : RowsOf) (end : RowKind) → rows.fault ≡ Some end → (why : RunStop)
-        → EndsInRows contents old new log log' p.layout p.releases p.most limit p.first (records_of_pieces p.layout.delimiter (take (i + 1) p.pieces)) rows why
-        → EndsInRows contents old new log log' p.layout p.releases p.most limit p.first (records_of_pieces p.layout.delimiter p.pieces) rows why
+        → EndsInRows (by_of p.layout p.releases p.most limit) (writing contents old new log log') (numbered p.first (records_of_pieces p.layout.delimiter (take (i + 1) p.pieces))) rows why
+        → EndsInRows (by_of p.layout p.releases p.most limit) (writing contents old new log log') (numbered p.first (records_of_pieces p.layout.delimiter p.pieces)) rows why
     rows_again rows end e (stop.Row row kind) (inl h) = inl h
     rows_again rows end e (stop.Row row kind) (inr h) =
         let d = p.layout.delimiter in
@@ -300,13 +301,13 @@ module _ (p : Pieces) (i : ℕ) (found : RowsOf) (sound : ArePieces p) (lt : i <
     rows_again rows end e stop.LogFailed h = absurd (cc (sym h.0.0 ∙ e))
 
     by_fault : (rows : RowsOf) (fault : Option RowKind) → rows.fault ≡ fault → AreRowsOf p.layout p.releases p.most p.first (records_of_pieces p.layout.delimiter (take (i + 1) p.pieces)) rows → (why : RunStop)
-        → EndsInRows contents old new log log' p.layout p.releases p.most limit p.first (records_of_pieces p.layout.delimiter (take (i + 1) p.pieces)) rows why
-        → EndsInRound p limit contents old new log log' why
+        → EndsInRows (by_of p.layout p.releases p.most limit) (writing contents old new log log') (numbered p.first (records_of_pieces p.layout.delimiter (take (i + 1) p.pieces))) rows why
+        → EndsInRound p limit (writing contents old new log log') why
     by_fault rows None e are why ends = absurd (front_faults p i rows found sound lt are of_piece has e)
     by_fault rows (Some kind) e are why ends = inr (rows, front_of_all p i rows kind are e, rows_again rows kind e why ends)
 
     -- it ends as the whole does
-    pub again_err : (why : RunStop) → EndsInRound (record p { pieces = take (i + 1) p.pieces; stops = false }) limit contents old new log log' why → EndsInRound p limit contents old new log log' why
+    pub again_err : (why : RunStop) → EndsInRound (record p { pieces = take (i + 1) p.pieces; stops = false }) limit (writing contents old new log log') why → EndsInRound p limit (writing contents old new log log') why
     again_err why (inl memory) = inl memory
     again_err why (inr ends) = by_fault ends.0 ends.0.fault refl ends.1 why ends.2
 
@@ -339,30 +340,30 @@ module _ (p : Pieces) (sound : ArePieces p) (fault : RowFault) where
       pub low_ends : (joined values).fault ≡ None → ⊥
       low_ends none =
           let (rows, are_rows, before, one) = many in
-          cut_ends p.layout p.releases p.most limit p.first (records_of_pieces p.layout.delimiter p.pieces) rows are_rows fault.row fault.kind before one (fault.row - 1) at (joined values) joined_low none
+          cut_ends (by_of p.layout p.releases p.most limit) p.first (records_of_pieces p.layout.delimiter p.pieces) rows are_rows fault.row fault.kind before one (fault.row - 1) at (joined values) joined_low none
 
       module _ {W : Type 0} (contents : W → Option (List ℕ)) (old new : Counts W) (log log' : Option (List RowNote)) where
-        pub low_stops : (row : ℕ) (kind : RowKind) → EndsInPieces contents old new log log' p.first values (stop.Row row kind)
-            → EndsInRound p limit contents old new log log' (stop.Row fault.row fault.kind)
+        pub low_stops : (row : ℕ) (kind : RowKind) → EndsInPieces (writing contents old new log log') p.first values (stop.Row row kind)
+            → EndsInRound p limit (writing contents old new log log') (stop.Row fault.row fault.kind)
         low_stops row kind h =
             let (rows, are_rows, before, one) = many in
             let rs = records_of_pieces p.layout.delimiter p.pieces in
             inr (
-              rows_on p.layout p.releases p.most limit p.first rs rows are_rows fault.row fault.kind before one (fault.row - 1) at (joined values) joined_low,
-              are_on p.layout p.releases p.most limit p.first rs rows are_rows fault.row fault.kind before one (fault.row - 1) at (joined values) joined_low,
-              inr (stops_before p.layout p.releases p.most limit p.first rs rows are_rows fault.row fault.kind before one (fault.row - 1) at (joined values) joined_low contents old new log log' row kind h),
+              rows_on (by_of p.layout p.releases p.most limit) p.first rs rows are_rows fault.row fault.kind before one (fault.row - 1) at (joined values) joined_low,
+              are_on (by_of p.layout p.releases p.most limit) p.first rs rows are_rows fault.row fault.kind before one (fault.row - 1) at (joined values) joined_low,
+              inr (stops_before (by_of p.layout p.releases p.most limit) p.first rs rows are_rows fault.row fault.kind before one (fault.row - 1) at (joined values) joined_low contents old new log log' row kind h),
             )
 
         -- or the writer fails before it
-        pub low_fails : (why : RunStop) → ((row : ℕ) (kind : RowKind) → why ≡ stop.Row row kind → ⊥) → EndsInPieces contents old new log log' p.first values why → EndsInRound p limit contents old new log log' why
+        pub low_fails : (why : RunStop) → ((row : ℕ) (kind : RowKind) → why ≡ stop.Row row kind → ⊥) → EndsInPieces (writing contents old new log log') p.first values why → EndsInRound p limit (writing contents old new log log') why
         low_fails (stop.Row row kind) other h = absurd (other row kind refl)
         low_fails stop.WriteFailed other h =
             let (rows, are_rows, before, one) = many in
             let rs = records_of_pieces p.layout.delimiter p.pieces in
             inr (
-              rows_on p.layout p.releases p.most limit p.first rs rows are_rows fault.row fault.kind before one (fault.row - 1) at (joined values) joined_low,
-              are_on p.layout p.releases p.most limit p.first rs rows are_rows fault.row fault.kind before one (fault.row - 1) at (joined values) joined_low,
-              fails_before p.layout p.releases p.most limit p.first rs rows are_rows fault.row fault.kind before one (fault.row - 1) at (joined values) joined_low contents old new log log'
+              rows_on (by_of p.layout p.releases p.most limit) p.first rs rows are_rows fault.row fault.kind before one (fault.row - 1) at (joined values) joined_low,
+              are_on (by_of p.layout p.releases p.most limit) p.first rs rows are_rows fault.row fault.kind before one (fault.row - 1) at (joined values) joined_low,
+              fails_before (by_of p.layout p.releases p.most limit) p.first rs rows are_rows fault.row fault.kind before one (fault.row - 1) at (joined values) joined_low contents old new log log'
                   (pieces_end contents old new log log' low_of None values sound_low are tt stop.WriteFailed h),
             )
         low_fails (stop.Source fault) other h = absurd h

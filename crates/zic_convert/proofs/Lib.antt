@@ -9,6 +9,7 @@ pub mod Heads
 pub mod InMemory
 pub mod Joining
 pub mod Logs
+pub mod SameNames
 pub mod Once
 pub mod Options
 pub mod Plain

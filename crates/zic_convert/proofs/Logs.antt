@@ -2,7 +2,7 @@
 use Rattle.std.proofs.Common.{◌≡◌, ◌+◌, ◌<◌, ℕ, suc, List, [], ◌∷◌, ◌++◌, length, take, get_or, Option, None, Some, sym, ap, subst, ◌∙◌, append_assoc, arith}
 use Rattle.std.proofs.lemmas.List.{append-nil}
 use Rattle.std.proofs.Math.Seq.{take-suc}
-use Rattle.zic_plan.specs.Noted.{RowNote}
+use Rattle.zic_layouts.specs.Noted.{RowNote}
 use Rattle.zic_convert.specs.Run.{Notes}
 
 -- nothing

@@ -2,23 +2,22 @@
 use Rattle.std.proofs.Common.{◌≡◌, ◌+◌, ℕ, List, [], ◌∷◌, Option, Some, inl, inr, refl, sym, ap, subst, arith}
 use Rattle.zic_columns.specs.Own.{CsvRecord}
 use Rattle.zic_counted.specs.Counts.{Counts}
-use Rattle.zic_zones.specs.declared.releases.Releases.{Releases}
-use Rattle.zic_plan.specs.declared.layout.Layout.{Layout}
-use Rattle.zic_plan.specs.Noted.{RowNote}
+use Rattle.zic_layouts.specs.Noted.{RowNote}
 use Rattle.zic_base.specs.declared.row_fault.RowKind.{RowKind}
-use Rattle.zic_base.specs.declared.run_stop.RunStop.{RunStop}
-use Rattle.zic_base.specs.declared.run_stop.RunStop.TheVariants as stop
-use Rattle.zic_layout_rows.specs.LayoutRows.{ends_by}
+use Rattle.zic_base.specs.declared.stops.RunStop.{RunStop}
+use Rattle.zic_base.specs.declared.stops.RunStop.TheVariants as stop
+use Rattle.zic_piece_rows.specs.LayoutRows.{ends_by}
+use Rattle.zic_convert.specs.By.{By}
 use Rattle.zic_convert.specs.code.Halt.{IsCauseWith, IsOwnCause}
 use Rattle.zic_convert.specs.declared.halt.Halt.TheVariants as halt
-use Rattle.zic_layout_rows.specs.PieceRows.{AreRowsOf, RowsOf, empty_rows}
-use Rattle.zic_convert.specs.code.Written.{EndsInRecords, IsStopAt}
-use Rattle.zic_layout_rows.proofs.Coming.{no_rows, one_fault}
+use Rattle.zic_piece_rows.specs.PieceRows.{AreRowsOf, RowsOf, empty_rows}
+use Rattle.zic_convert.specs.code.Written.{EndsInRecords, IsStopAt, numbered, writing}
+use Rattle.zic_piece_rows.proofs.Coming.{no_rows, one_fault}
 use Rattle.zic_convert.proofs.Logs.{notes_none}
 use Rattle.zic_convert.proofs.TooMany.{none_few}
 
 -- a writer that failed, or a row that ends the run
-pub stop_cause : {W : Type 0} (contents : W → Option (List ℕ)) (old new : Counts W) (row : ℕ) (kind : RowKind) (why : RunStop) → IsStopAt contents old new row kind why → IsOwnCause old new why
+pub stop_cause : {W : Type 0} (contents : W → Option (List ℕ)) (old new : Counts W) (row : ℕ) (kind : RowKind) (why : RunStop) → IsStopAt contents old new (record { row = row; kind = kind }) why → IsOwnCause old new why
 stop_cause contents old new row kind (stop.Row at fault) is = is.2.1
 stop_cause contents old new row kind stop.WriteFailed is = is.failed
 stop_cause contents old new row kind (stop.Source fault) is = absurd is
@@ -28,20 +27,20 @@ stop_cause contents old new row kind stop.Memory is = absurd is
 stop_cause contents old new row kind stop.NoThread is = absurd is
 stop_cause contents old new row kind stop.LogFailed is = absurd is
 
-module _ {W : Type 0} (contents : W → Option (List ℕ)) (old new : Counts W) (layout : Layout) (releases : Releases) (most : ℕ) (limit : Option ℕ) (number : ℕ) (given : CsvRecord) (kind : RowKind)
-    (ends : ends_by layout releases.zones most number given ≡ Some kind) (log : Option (List RowNote)) where
+module _ {W : Type 0} (contents : W → Option (List ℕ)) (old new : Counts W) (by : By) (number : ℕ) (given : CsvRecord) (kind : RowKind)
+    (ends : ends_by by.layout by.releases.zones by.most_rows number given ≡ Some kind) (log : Option (List RowNote)) where
   rows : RowsOf
   rows = record { text = []; count = 0; fault = Some kind; faults = [] }
 
-  no_row : AreRowsOf layout releases most number (given ∷ []) rows
+  no_row : AreRowsOf by.layout by.releases by.most_rows number (given ∷ []) rows
   unfolding rows
   no_row =
       let at : number ≡ number + 0 = omega arith in
-      one_fault layout releases most number [] [] 0 [] (no_rows layout releases most number) given [] kind (subst (λ (n : ℕ). ends_by layout releases.zones most n given ≡ Some kind) at ends)
+      one_fault by.layout by.releases by.most_rows number [] [] 0 [] (no_rows by.layout by.releases by.most_rows number) given [] kind (subst (λ (n : ℕ). ends_by by.layout by.releases.zones by.most_rows n given ≡ Some kind) at ends)
 
-  pub long_stops : (why : RunStop) → IsStopAt contents old new number kind why → EndsInRecords layout releases most limit number (given ∷ []) contents old new log log why
+  pub long_stops : (why : RunStop) → IsStopAt contents old new (record { row = number; kind = kind }) why → EndsInRecords by (writing contents old new log log) (numbered number (given ∷ [])) why
   unfolding rows
-  long_stops (stop.Row at fault) is = inr (rows, no_row, inl ((ap Some (sym is.1), omega (arith, is.0), is.2, notes_none log), none_few limit))
+  long_stops (stop.Row at fault) is = inr (rows, no_row, inl ((ap Some (sym is.1), omega (arith, is.0), is.2, notes_none log), none_few by.max_faults))
   long_stops stop.WriteFailed is = inr (
     rows,
     no_row,
@@ -50,16 +49,16 @@ module _ {W : Type 0} (contents : W → Option (List ℕ)) (old new : Counts W) 
       more = given ∷ [];
       parts = refl;
       front = empty_rows;
-      are = no_rows layout releases most number;
+      are = no_rows by.layout by.releases by.most_rows number;
       reached = [];
       beyond = given ∷ [];
       within = refl;
       upto = empty_rows;
-      are_upto = no_rows layout releases most number;
+      are_upto = no_rows by.layout by.releases by.most_rows number;
       fails = record { part = is.part; starts = is.starts; least = refl; wrote = is.wrote; failed = is.failed };
       noted = notes_none log;
-      few = none_few limit;
-      may = none_few limit;
+      few = none_few by.max_faults;
+      may = none_few by.max_faults;
     },
   )
   long_stops (stop.Source fault) is = absurd is
@@ -70,9 +69,9 @@ module _ {W : Type 0} (contents : W → Option (List ℕ)) (old new : Counts W) 
   long_stops stop.LogFailed is = absurd is
 
 -- the cause of an end in some records, where the log has failed if the run ended for it
-module _ {W : Type 0} (contents : W → Option (List ℕ)) (old new : Counts W) (log log' : Option (List RowNote)) (layout : Layout) (releases : Releases) (most : ℕ) (limit : Option ℕ) (first : ℕ)
+module _ {W : Type 0} (contents : W → Option (List ℕ)) (old new : Counts W) (log log' : Option (List RowNote)) (by : By) (first : ℕ)
     (row_records : List CsvRecord) (LogFails : Type 0) where
-  pub records_cause : (why : RunStop) → (why ≡ stop.LogFailed → LogFails) → EndsInRecords layout releases most limit first row_records contents old new log log' why → IsCauseWith LogFails old new (halt.Stop why)
+  pub records_cause : (why : RunStop) → (why ≡ stop.LogFailed → LogFails) → EndsInRecords by (writing contents old new log log') (numbered first row_records) why → IsCauseWith LogFails old new (halt.Stop why)
   records_cause stop.LogFailed failed ends = inr (refl, failed refl)
   records_cause stop.Memory failed ends = inl tt
   records_cause (stop.Row row kind) failed (inl memory) = absurd (cc memory.0)

@@ -1,6 +1,6 @@
 -- That a column converts to one list of texts, and one fault or none.
 use Rattle.std.proofs.Common.{inl, inr, ◌≡◌, ◌≢◌, ◌+◌, ℕ, ℤ, List, [], ◌∷◌, ◌++◌, Option, Some, None, Result, Ok, refl, sym, ap, ap₂, subst, ◌∙◌}
-use Rattle.std.specs.Prelude.{Contains, IsSome, bytes_eq}
+use Rattle.std.specs.Prelude.{Contains, IfSome, IsSome, bytes_eq}
 use Rattle.std.specs.Cmp.Lexicographic.{bytes_decides}
 use Rattle.std.proofs.lemmas.Bool.{cases_Bool}
 use Rattle.std.proofs.lemmas.List.Elements.{All-contains}
@@ -9,20 +9,18 @@ use Rattle.zic_columns.specs.Own.{CsvRecord}
 use Rattle.zic_columns.specs.Laws.{RecordsAreOne}
 use Rattle.zic_tzif.specs.Answer.{Answers}
 use Rattle.zic_tzif.specs.Laws.{FilesAnswerOnce}
-use Rattle.zic_rows.specs.Count.{second_of}
-use Rattle.zic_rows.specs.Row.{row_text}
+use Rattle.zic_row_text.specs.Count.{second_of}
+use Rattle.zic_row_text.specs.Row.{row_text}
 use Rattle.zic_base.proofs.Elements.{get_contained}
 use Rattle.zic_base.proofs.OrderedLists.{one_by_key}
 use Rattle.zic_files.specs.File.{File}
 use Rattle.zic_files.specs.Sound.{AreSoundFiles, IsSoundFile}
-use Rattle.zic_plan.specs.declared.layout.Layout.{Layout}
-use Rattle.zic_plan.specs.declared.layout.Written.{Written}
-use Rattle.zic_plan.specs.declared.layout.Written.TheVariants as written
-use Rattle.zic_zones.specs.declared.releases.Releases.{Releases}
+use Rattle.zic_layouts.specs.declared.layout.Layout.{Layout}
+use Rattle.zic_zones.specs.declared.zones.Releases.{Releases}
 use Rattle.zic_base.specs.declared.row_fault.RowKind.{RowKind}
 use Rattle.zic_convert.specs.Laws.{AreSoundReleases, ColumnsConvertOnce}
-use Rattle.zic_layout_rows.specs.LayoutRows.{RecordsConvertBy, IsAnswerAt, IsAnswerBy, IsMovedRow, IsRowAt, IsTextBy, IsWrittenAt, old_files, with_answer, ends_by, fault_by, instant_by, rest_by, start_text}
-use Rattle.zic_layout_rows.specs.Rows.{RecordsConvertTo, IsTextOf, fault_of}
+use Rattle.zic_piece_rows.specs.LayoutRows.{RecordsConvertBy, IsAnswerAt, IsAnswerBy, IsMovedRow, IsRowAt, IsTextBy, IsWrittenWith, with_answer, ends_by, fault_by, instant_by, rest_by, start_text}
+use Rattle.zic_piece_rows.specs.Rows.{RecordsConvertTo, IsTextOf, fault_of}
 
 same_count : (a b : ℤ) → ◌≡◌ {A = Result ℤ RowKind} (Ok a) (Ok b) → a ≡ b
 same_count a b same = cc
@@ -107,14 +105,14 @@ module _ (answers : FilesAnswerOnce) (files : List File) (sound : AreSoundFiles 
 
 -- also where they are compared with those of another release
 module _ (answers : FilesAnswerOnce) (releases : Releases) (sound : AreSoundReleases releases) (most : ℕ) where
-  one_moved : (layout : Layout) (number : ℕ) (row_record : CsvRecord) (t u : List ℕ) → IsMovedRow layout releases.zones (old_files releases.old) most number row_record t
-      → IsMovedRow layout releases.zones (old_files releases.old) most number row_record u → t ≡ u
-  one_moved layout number row_record t u a b =
+  one_moved : (layout : Layout) (old : List File) → AreSoundFiles old → (number : ℕ) (row_record : CsvRecord) (t u : List ℕ) → IsMovedRow layout releases.zones old most number row_record t
+      → IsMovedRow layout releases.zones old most number row_record u → t ≡ u
+  one_moved layout old sound_old number row_record t u a b =
       let fault = fault_by layout releases.zones most number row_record in
-      let old_fault = fault_by layout (old_files releases.old) most number row_record in
+      let old_fault = fault_by layout old most number row_record in
       let row = one_row answers releases.zones sound.zones layout fault row_record a.row b.row a.by b.by in
       let answer = one_answer answers releases.zones sound.zones layout fault row_record a.answer b.answer a.answers b.answers in
-      let other = one_answer answers (old_files releases.old) sound.old layout old_fault row_record a.other b.other a.others b.others in
+      let other = one_answer answers old sound_old layout old_fault row_record a.other b.other a.others b.others in
       elim (cases_Bool (bytes_eq a.answer a.other)) [
         | inl is ↦
             let same = (bytes_decides a.answer a.other).0 is in
@@ -124,10 +122,10 @@ module _ (answers : FilesAnswerOnce) (releases : Releases) (sound : AreSoundRele
             a.moved differ ∙ ap₂ with_answer row other ∙ sym (b.moved (λ e. differ (answer ∙ e ∙ sym other)))
       ]
 
-  one_written : (layout : Layout) (by : Written) (number : ℕ) (row_record : CsvRecord) (t u : List ℕ) → IsWrittenAt by layout releases most number row_record t
-      → IsWrittenAt by layout releases most number row_record u → t ≡ u
-  one_written layout written.All number row_record t u a b = one_row answers releases.zones sound.zones layout (fault_by layout releases.zones most number row_record) row_record t u a b
-  one_written layout written.Moved number row_record t u a b = one_moved layout number row_record t u a b
+  one_written : (layout : Layout) (old : Option (List File)) → IfSome old AreSoundFiles → (number : ℕ) (row_record : CsvRecord) (t u : List ℕ)
+      → IsWrittenWith old layout releases.zones most number row_record t → IsWrittenWith old layout releases.zones most number row_record u → t ≡ u
+  one_written layout None sound_old number row_record t u a b = one_row answers releases.zones sound.zones layout (fault_by layout releases.zones most number row_record) row_record t u a b
+  one_written layout (Some old) sound_old number row_record t u a b = one_moved layout old sound_old number row_record t u a b
 
   pub once_by : (layout : Layout) (number : ℕ) (row_records : List CsvRecord) (a b : List (List ℕ)) (fault other : Option RowKind)
       → RecordsConvertBy layout releases most number row_records a fault → RecordsConvertBy layout releases most number row_records b other → (a ≡ b) × (fault ≡ other)
@@ -136,7 +134,7 @@ module _ (answers : FilesAnswerOnce) (releases : Releases) (sound : AreSoundRele
   once_by layout number (x ∷ xs) [] (u ∷ us) fault other come then = absurd (faultless fault (ends_by layout releases.zones most number x) come.0 come.1 then.0)
   once_by layout number (x ∷ xs) (t ∷ ts) [] fault other come then = absurd (faultless other (ends_by layout releases.zones most number x) then.0 then.1 come.0)
   once_by layout number (x ∷ xs) (t ∷ ts) (u ∷ us) fault other come then =
-      let first = one_written layout layout.written number x t u come.1 then.1 in
+      let first = one_written layout releases.old sound.old number x t u come.1 then.1 in
       let rest = once_by layout (number + 1) xs ts us fault other come.2 then.2 in
       (ap (λ (l : List ℕ). l ∷ ts) first ∙ ap (λ (l : List (List ℕ)). u ∷ l) rest.0, rest.1)
 
@@ -146,7 +144,7 @@ columns_once one answers = record {
   all = λ files most column a b fault other sound come then.
       (let same = one 44 _ come.records then.records come.are then.are in
       once answers files sound most 1 come.records a b fault other come.rows (rw same then.rows));
-  by = λ releases layout most column a b fault other sound come then.
+  by = λ by column a b fault other sound come then.
       (let row_records : come.row_records ≡ then.row_records = come.are ∙ sym then.are in
-      once_by answers releases sound most layout 1 come.row_records a b fault other come.rows (rw row_records then.rows));
+      once_by answers by.releases sound by.most_rows by.layout 1 come.row_records a b fault other come.rows (rw row_records then.rows));
 }

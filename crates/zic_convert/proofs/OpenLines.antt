@@ -7,24 +7,23 @@ use Rattle.zic_columns.specs.Own.{CsvRecord}
 use Rattle.zic_columns.specs.Round.{may_have}
 use Rattle.zic_counted.specs.Counts.{Counts}
 use Rattle.zic_files.specs.File.{File}
-use Rattle.zic_plan.specs.declared.layout.Written.{Written}
-use Rattle.zic_plan.specs.declared.layout.Written.TheVariants as written
-use Rattle.zic_zones.specs.declared.releases.Releases.{Releases}
-use Rattle.zic_plan.specs.declared.layout.Layout.{Layout}
-use Rattle.zic_plan.specs.Noted.{RowNote}
+use Rattle.zic_zones.specs.declared.zones.Releases.{Releases}
+use Rattle.zic_layouts.specs.declared.layout.Layout.{Layout}
+use Rattle.zic_layouts.specs.Noted.{RowNote}
 use Rattle.zic_base.specs.declared.row_fault.RowKind.{RowKind}
 use Rattle.zic_base.specs.declared.row_fault.RowKind.TheVariants as kinds
-use Rattle.zic_base.specs.declared.run_stop.RunStop.{RunStop}
-use Rattle.zic_base.specs.declared.run_stop.RunStop.TheVariants as stop
-use Rattle.zic_layout_rows.specs.LayoutRows.{IsAnswerAt, IsRowAt, IsWrittenAt, empty_fields, ending, ends_by, fault_by, faulty_text, if_rejected, noted, old_files, unless_rejected}
+use Rattle.zic_base.specs.declared.stops.RunStop.{RunStop}
+use Rattle.zic_base.specs.declared.stops.RunStop.TheVariants as stop
+use Rattle.zic_piece_rows.specs.LayoutRows.{IsAnswerAt, IsRowAt, IsWrittenWith, empty_fields, ending, ends_by, fault_by, faulty_text, if_rejected, noted, unless_rejected}
+use Rattle.zic_convert.specs.By.{By}
 use Rattle.zic_convert.specs.code.Pieces.{joined}
-use Rattle.zic_layout_rows.specs.PieceRows.{AreRowsOf, RowsOf, empty_rows}
+use Rattle.zic_piece_rows.specs.PieceRows.{AreRowsOf, RowsOf, empty_rows}
 use Rattle.zic_convert.specs.Run.{AreFew, IsOneTooMany}
-use Rattle.zic_convert.specs.code.Written.{EndsInPieces, EndsInRecords, EndsInRows, IsStopAt}
-use Rattle.zic_layout_rows.proofs.Coming.{no_rows, rows_followed, too_many_ends}
-use Rattle.zic_layout_rows.proofs.MoreRows.{end_added, row_added}
+use Rattle.zic_convert.specs.code.Written.{EndsInPieces, EndsInRecords, EndsInRows, IsStopAt, numbered, writing}
+use Rattle.zic_piece_rows.proofs.Coming.{no_rows, rows_followed, too_many_ends}
+use Rattle.zic_piece_rows.proofs.MoreRows.{end_added, row_added}
 use Rattle.zic_convert.proofs.Logs.{notes_none}
-use Rattle.zic_layout_rows.specs.code.Row.{IsNextBy}
+use Rattle.zic_piece_rows.specs.code.Row.{IsNextBy}
 use Rattle.zic_convert.specs.code.Row.{unless_compared}
 use Rattle.zic_convert.proofs.TooMany.{none_few, one_noted}
 
@@ -45,22 +44,22 @@ module _ (layout : Layout) (releases : Releases) (most number : ℕ) (given : Cs
       (subst (λ (end : Option RowKind). IsNextBy layout releases most (number + 0) given empty_rows rows end) (sym ended) refl) refl []
 
   -- what is written of a record whose row has a fault by any files
-  faulty_written : (by : Written) → IsWrittenAt by layout releases most (number + 0) given (unless_compared by (faulty_text layout kind given))
-  faulty_written written.All = subst (λ (o : Option RowKind). IsRowAt layout releases.zones o given (faulty_text layout kind given)) (sym (here releases.zones)) refl
-  faulty_written written.Moved = record {
+  faulty_written : (old : Option (List File)) → IsWrittenWith old layout releases.zones most (number + 0) given (unless_compared old (faulty_text layout kind given))
+  faulty_written None = subst (λ (o : Option RowKind). IsRowAt layout releases.zones o given (faulty_text layout kind given)) (sym (here releases.zones)) refl
+  faulty_written (Some old) = record {
     row = faulty_text layout kind given;
     by = subst (λ (o : Option RowKind). IsRowAt layout releases.zones o given (faulty_text layout kind given)) (sym (here releases.zones)) refl;
     answer = empty_fields layout;
     answers = subst (λ (o : Option RowKind). IsAnswerAt layout releases.zones o given (empty_fields layout)) (sym (here releases.zones)) refl;
     other = empty_fields layout;
-    others = subst (λ (o : Option RowKind). IsAnswerAt layout (old_files releases.old) o given (empty_fields layout)) (sym (here (old_files releases.old))) refl;
+    others = subst (λ (o : Option RowKind). IsAnswerAt layout old o given (empty_fields layout)) (sym (here old)) refl;
     same = λ e. refl;
     moved = λ differ. absurd (differ refl);
   }
 
   -- a record whose row has a fault
   pub one_faulty : ending layout.at_fault layout.records (Some kind) ≡ None
-      → AreRowsOf layout releases most number (given ∷ []) (record { text = unless_compared layout.written (faulty_text layout kind given); count = 1; fault = None; faults = record { fault = record { row = number; kind = kind }; own = if_rejected layout.at_fault given.own } ∷ [] })
+      → AreRowsOf layout releases most number (given ∷ []) (record { text = unless_compared releases.old (faulty_text layout kind given); count = 1; fault = None; faults = record { fault = record { row = number; kind = kind }; own = if_rejected layout.at_fault given.own } ∷ [] })
   one_faulty goes =
       let goes_on : ends_by layout releases.zones most (number + 0) given ≡ None = ap (ending layout.at_fault layout.records) (here releases.zones) ∙ goes in
       let noted_here : noted layout.at_fault (number + 0) given.own (fault_by layout releases.zones most (number + 0) given) ≡ noted layout.at_fault (number + 0) given.own (Some kind) =
@@ -69,10 +68,10 @@ module _ (layout : Layout) (releases : Releases) (most number : ℕ) (given : Cs
       ap (λ (n : ℕ). made n) (sym at) ∙ ap (λ (l : List RowNote). record (made number) { faults = l }) (sym noted_here) in
       row_added layout releases most number [] given empty_rows (made number) (no_rows layout releases most number) refl
       (subst (λ (end : Option RowKind). IsNextBy layout releases most (number + 0) given empty_rows (made number) end) (sym goes_on)
-      (unless_compared layout.written (faulty_text layout kind given), faulty_written layout.written, made_here)) refl
+      (unless_compared releases.old (faulty_text layout kind given), faulty_written releases.old, made_here)) refl
     where
       made : ℕ → RowsOf
-      made n = record { text = unless_compared layout.written (faulty_text layout kind given); count = 1; fault = None; faults = record { fault = record { row = n; kind = kind }; own = if_rejected layout.at_fault given.own } ∷ [] }
+      made n = record { text = unless_compared releases.old (faulty_text layout kind given); count = 1; fault = None; faults = record { fault = record { row = n; kind = kind }; own = if_rejected layout.at_fault given.own } ∷ [] }
 
 -- one row
 abbrev pub made_of : List ℕ → Option RowKind → List RowNote → RowsOf
@@ -84,25 +83,25 @@ pub alone : (layout : Layout) (releases : Releases) (most number : ℕ) (given :
 alone layout releases most number given rows are = rows_followed layout releases most number (given ∷ []) [] rows (joined []) rows.fault refl are (λ none. no_rows layout releases most (number + 1))
 
 -- and end as they do, where they have few faults
-module _ {W : Type 0} (contents : W → Option (List ℕ)) (old new : Counts W) (log log' : Option (List RowNote)) (layout : Layout) (releases : Releases) (most : ℕ) (limit : Option ℕ) (number : ℕ) (given : CsvRecord)
-    (rows : RowsOf) (are : AreRowsOf layout releases most number (given ∷ []) rows) where
-  pub alone_ends : (why : RunStop) → AreFew limit (joined (rows ∷ [])).faults → EndsInPieces contents old new log log' number (rows ∷ []) why
-      → EndsInRows contents old new log log' layout releases most limit number (given ∷ []) (joined (rows ∷ [])) why
+module _ {W : Type 0} (contents : W → Option (List ℕ)) (old new : Counts W) (log log' : Option (List RowNote)) (by : By) (number : ℕ) (given : CsvRecord)
+    (rows : RowsOf) (are : AreRowsOf by.layout by.releases by.most_rows number (given ∷ []) rows) where
+  pub alone_ends : (why : RunStop) → AreFew by.max_faults (joined (rows ∷ [])).faults → EndsInPieces (writing contents old new log log') number (rows ∷ []) why
+      → EndsInRows by (writing contents old new log log') (numbered number (given ∷ [])) (joined (rows ∷ [])) why
   alone_ends (stop.Row row kind) few h = inl (h, few)
   alone_ends stop.WriteFailed few (zero, fails, noted) = record {
     done = [];
     more = given ∷ [];
     parts = refl;
     front = joined [];
-    are = no_rows layout releases most number;
+    are = no_rows by.layout by.releases by.most_rows number;
     reached = given ∷ [];
     beyond = [];
     within = refl;
     upto = joined (rows ∷ []);
-    are_upto = alone layout releases most number given rows are;
+    are_upto = alone by.layout by.releases by.most_rows number given rows are;
     fails = fails;
     noted = noted;
-    few = none_few limit;
+    few = none_few by.max_faults;
     may = few;
   }
   alone_ends stop.WriteFailed few (suc zero, fails, noted) = record {
@@ -110,12 +109,12 @@ module _ {W : Type 0} (contents : W → Option (List ℕ)) (old new : Counts W) 
     more = [];
     parts = refl;
     front = joined (rows ∷ []);
-    are = alone layout releases most number given rows are;
+    are = alone by.layout by.releases by.most_rows number given rows are;
     reached = given ∷ [];
     beyond = [];
     within = refl;
     upto = joined (rows ∷ []);
-    are_upto = alone layout releases most number given rows are;
+    are_upto = alone by.layout by.releases by.most_rows number given rows are;
     fails = fails;
     noted = noted;
     few = few;
@@ -126,12 +125,12 @@ module _ {W : Type 0} (contents : W → Option (List ℕ)) (old new : Counts W) 
     more = [];
     parts = refl;
     front = joined (rows ∷ []);
-    are = alone layout releases most number given rows are;
+    are = alone by.layout by.releases by.most_rows number given rows are;
     reached = given ∷ [];
     beyond = [];
     within = refl;
     upto = joined (rows ∷ []);
-    are_upto = alone layout releases most number given rows are;
+    are_upto = alone by.layout by.releases by.most_rows number given rows are;
     fails = fails;
     noted = noted;
     few = few;
@@ -145,13 +144,13 @@ module _ {W : Type 0} (contents : W → Option (List ℕ)) (old new : Counts W) 
   alone_ends stop.LogFailed few h = (h, few)
 
   -- a row alone that has one fault too many is the first, and nothing is written
-  module _ (row : ℕ) (kind : RowKind) (before : List RowNote) (many : IsOneTooMany limit (joined (rows ∷ [])).faults row kind before) where
-    all : AreRowsOf layout releases most number (given ∷ []) (joined (rows ∷ []))
-    all = alone layout releases most number given rows are
+  module _ (row : ℕ) (kind : RowKind) (before : List RowNote) (many : IsOneTooMany by.max_faults (joined (rows ∷ [])).faults row kind before) where
+    all : AreRowsOf by.layout by.releases by.most_rows number (given ∷ []) (joined (rows ∷ []))
+    all = alone by.layout by.releases by.most_rows number given rows are
 
-    pub alone_stops : (why : RunStop) → IsStopAt contents old new row kind why → EndsInRecords layout releases most limit number (given ∷ []) contents old new log log why
+    pub alone_stops : (why : RunStop) → IsStopAt contents old new (record { row = row; kind = kind }) why → EndsInRecords by (writing contents old new log log) (numbered number (given ∷ [])) why
     alone_stops (stop.Row at fault) is =
-        let first = one_noted layout releases most number given before many.after _ (sym all.faults ∙ many.parts) in
+        let first = one_noted by.layout by.releases by.most_rows number given before many.after _ (sym all.faults ∙ many.parts) in
         inr (
           joined (rows ∷ []),
           all,
@@ -160,7 +159,7 @@ module _ {W : Type 0} (contents : W → Option (List ℕ)) (old new : Counts W) 
             rest = all.texts;
             come = all.come;
             before = [];
-            too_many = rw (is.0, is.1) (subst (λ (l : List RowNote). IsOneTooMany limit (joined (rows ∷ [])).faults row kind l) first.0 many);
+            too_many = rw (is.0, is.1) (subst (λ (l : List RowNote). IsOneTooMany by.max_faults (joined (rows ∷ [])).faults row kind l) first.0 many);
             number = omega (arith, is.0, first.1);
             wrote = is.2;
             noted = notes_none log;
@@ -174,12 +173,12 @@ module _ {W : Type 0} (contents : W → Option (List ℕ)) (old new : Counts W) 
         more = given ∷ [];
         parts = refl;
         front = joined [];
-        are = no_rows layout releases most number;
+        are = no_rows by.layout by.releases by.most_rows number;
         reached = [];
         beyond = given ∷ [];
         within = refl;
         upto = joined [];
-        are_upto = no_rows layout releases most number;
+        are_upto = no_rows by.layout by.releases by.most_rows number;
         fails = record {
           part = is.part;
           starts = is.starts;
@@ -188,8 +187,8 @@ module _ {W : Type 0} (contents : W → Option (List ℕ)) (old new : Counts W) 
           failed = is.failed;
         };
         noted = notes_none log;
-        few = none_few limit;
-        may = none_few limit;
+        few = none_few by.max_faults;
+        may = none_few by.max_faults;
       },
     )
     alone_stops (stop.Source fault) is = absurd is

@@ -14,23 +14,24 @@ use Rattle.zic_columns.specs.Column.{AreColumnRecords, column_records}
 use Rattle.zic_columns.specs.Laws.{ColumnRecordsAreRead, RecordsAreOne}
 use Rattle.zic_columns.specs.Own.{CsvRecord, csv_records}
 use Rattle.zic_files.specs.File.{File}
-use Rattle.zic_plan.specs.Layout.{HasPlainRows, records_before}
-use Rattle.zic_plan.specs.declared.layout.Header.TheVariants as header
-use Rattle.zic_plan.specs.declared.layout.Layout.{Layout}
-use Rattle.zic_plan.specs.declared.layout.Style.TheVariants as styles
-use Rattle.zic_plan.specs.declared.layout.Unit.{Unit}
-use Rattle.zic_plan.specs.declared.layout.Written.{Written}
-use Rattle.zic_plan.specs.declared.layout.Unit.TheVariants as unit
-use Rattle.zic_rows.proofs.Counts.{count_seconds, counted_seconds, second_one}
-use Rattle.zic_rows.specs.Count.{counted_rest_text, counted_row_text, second_of}
-use Rattle.zic_rows.specs.Instant.{instant_of}
-use Rattle.zic_rows.specs.Row.{row_text}
+use Rattle.zic_layouts.specs.Layout.{HasPlainRows, records_before}
+use Rattle.zic_layouts.specs.declared.layout.Header.TheVariants as header
+use Rattle.zic_layouts.specs.declared.layout.Layout.{Layout}
+use Rattle.zic_layouts.specs.declared.layout.Style.TheVariants as styles
+use Rattle.zic_layouts.specs.declared.layout.Unit.{Unit}
+use Rattle.zic_layouts.specs.declared.layout.Unit.TheVariants as unit
+use Rattle.zic_row_text.proofs.Counts.{count_seconds, counted_seconds, second_one}
+use Rattle.zic_row_text.specs.Count.{counted_rest_text, counted_row_text, second_of}
+use Rattle.zic_row_text.specs.Instant.{instant_of}
+use Rattle.zic_row_text.specs.Row.{row_text}
 use Rattle.zic_tzif.specs.Answer.{Answers}
 use Rattle.zic_zones.specs.Zones.{alone, is_named, zone_in}
+use Rattle.zic_zones.specs.declared.zones.Releases.{Releases}
+use Rattle.zic_convert.specs.By.{By}
 use Rattle.zic_convert.specs.Column.{AreRowRecords, ConvertsBodyTo, ConvertsBy, ConvertsTo, read_by, records_read}
 use Rattle.zic_convert.specs.Laws.{PlainColumnsConvertAlike}
-use Rattle.zic_layout_rows.specs.Rows.{RecordsConvertTo, IsTextOf, fault_of, instant_in, is_closed, is_row_instant, name_in}
-use Rattle.zic_layout_rows.specs.LayoutRows.{RecordsConvertBy, IsRowAt, IsTextBy, IsWrittenAt, count_in, ends_by, fault_by, file_named, rest_by, start_text, time_by, ok_count, err_fault}
+use Rattle.zic_piece_rows.specs.Rows.{RecordsConvertTo, IsTextOf, fault_of, instant_in, is_closed, is_row_instant, name_in}
+use Rattle.zic_piece_rows.specs.LayoutRows.{RecordsConvertBy, IsRowAt, IsTextBy, count_in, ends_by, fault_by, file_named, rest_by, start_text, time_by, ok_count, err_fault}
 use Rattle.zic_convert.specs.code.Row.{fields_of_all}
 
 same_seconds : (o : Option ℤ) → option_map (second_of unit.Second) o ≡ o
@@ -152,8 +153,7 @@ module _ (layout : Layout) (plain : HasPlainRows layout) (files : List File) whe
   come_plainly most number (row_record ∷ row_records) (text ∷ texts) fault come =
       let sound = sym (plain_ends most number row_record) ∙ come.0 in
       let two = two_of most number row_record.fields sound in
-      let written = subst (λ (w : Written). IsWrittenAt w layout (alone files) most number row_record text) plain.written come.1 in
-      let row = subst (λ (o : Option RowKind). IsRowAt layout files o row_record text) (plain_fault most number row_record ∙ sound) written in
+      let row = subst (λ (o : Option RowKind). IsRowAt layout files o row_record text) (plain_fault most number row_record ∙ sound) come.1 in
       (sound, text_plainly row_record two.0 two.1 text two.2 row, come_plainly most (number + 1) row_records texts fault come.2)
 
   -- and the other way round
@@ -165,8 +165,7 @@ module _ (layout : Layout) (plain : HasPlainRows layout) (files : List File) whe
       let two = two_of most number row_record.fields come.0 in
       let row = text_by row_record.own row_record.fields two.0 two.1 text two.2 come.1 in (
         plain_ends most number row_record ∙ come.0,
-        subst (λ (w : Written). IsWrittenAt w layout (alone files) most number row_record text) (sym plain.written)
-            (subst (λ (o : Option RowKind). IsRowAt layout files o row_record text) (sym (plain_fault most number row_record ∙ come.0)) row),
+        subst (λ (o : Option RowKind). IsRowAt layout files o row_record text) (sym (plain_fault most number row_record ∙ come.0)) row,
         come_by most (number + 1) row_records texts fault come.2,
       )
 
@@ -174,56 +173,57 @@ fields_after : (row_records : List CsvRecord) → fields_of_all (drop 1 row_reco
 fields_after [] = refl
 fields_after (row_record ∷ row_records) = refl
 
-module _ (read : ColumnRecordsAreRead) (one : RecordsAreOne) (files : List File) (layout : Layout) (most : ℕ) (column : List ℕ) (texts : List (List ℕ)) (fault : Option RowKind)
-    (plain : HasPlainRows layout) where
+module _ (read : ColumnRecordsAreRead) (one : RecordsAreOne) (by : By) (files : List File) (column : List ℕ) (texts : List (List ℕ)) (fault : Option RowKind)
+    (plain : HasPlainRows by.layout) (is : by.releases ≡ alone files) where
   -- the records of CSV with commas, of the whole column
-  plainly_read : records_read layout (read_by layout column) ≡ csv_records 44 (strip_bom column)
+  plainly_read : records_read by.layout (read_by by.layout column) ≡ csv_records 44 (strip_bom column)
   plainly_read = rw (plain.at_fault, plain.records, plain.delimiter) refl
 
-  rows_are : (row_records : List CsvRecord) → AreRowRecords layout column row_records → row_records ≡ drop (records_before layout.header) (csv_records 44 (strip_bom column))
-  rows_are row_records are = are ∙ ap (drop (records_before layout.header)) plainly_read
+  rows_are : (row_records : List CsvRecord) → AreRowRecords by.layout column row_records → row_records ≡ drop (records_before by.layout.header) (csv_records 44 (strip_bom column))
+  rows_are row_records are = are ∙ ap (drop (records_before by.layout.header)) plainly_read
 
   -- a column's records, by a reader
   records_are : (records : List (List (List ℕ))) → AreColumnRecords 44 (strip_bom column) records → records ≡ column_records 44 (strip_bom column)
   records_are records are = one 44 (strip_bom column) records (column_records 44 (strip_bom column)) are (read 44 (strip_bom column))
 
   -- the rows of a column are those of its records after the header, if it has one, without a layout
-  plainly : ConvertsBy (alone files) layout most column texts fault → RecordsConvertTo files most 1 (fields_of_all (drop (records_before layout.header) (csv_records 44 (strip_bom column)))) texts fault
+  plainly : ConvertsBy by column texts fault → RecordsConvertTo files by.most_rows 1 (fields_of_all (drop (records_before by.layout.header) (csv_records 44 (strip_bom column)))) texts fault
   plainly come =
-      subst (λ (l : List CsvRecord). RecordsConvertTo files most 1 (fields_of_all l) texts fault) (rows_are come.row_records come.are) (come_plainly layout plain files most 1 come.row_records texts fault come.rows)
+      subst (λ (l : List CsvRecord). RecordsConvertTo files by.most_rows 1 (fields_of_all l) texts fault) (rows_are come.row_records come.are) (come_plainly by.layout plain files by.most_rows 1 come.row_records texts fault
+      (subst (λ (r : Releases). RecordsConvertBy by.layout r by.most_rows 1 come.row_records texts fault) is come.rows))
 
-  by_layout : RecordsConvertTo files most 1 (fields_of_all (drop (records_before layout.header) (csv_records 44 (strip_bom column)))) texts fault → ConvertsBy (alone files) layout most column texts fault
+  by_layout : RecordsConvertTo files by.most_rows 1 (fields_of_all (drop (records_before by.layout.header) (csv_records 44 (strip_bom column)))) texts fault → ConvertsBy by column texts fault
   by_layout come =
-      let row_records = drop (records_before layout.header) (csv_records 44 (strip_bom column)) in
-      record { row_records = row_records; are = ap (drop (records_before layout.header)) (sym plainly_read); rows = come_by layout plain files most 1 row_records texts fault come }
+      let row_records = drop (records_before by.layout.header) (csv_records 44 (strip_bom column)) in
+      record { row_records = row_records; are = ap (drop (records_before by.layout.header)) (sym plainly_read); rows = subst (λ (r : Releases). RecordsConvertBy by.layout r by.most_rows 1 row_records texts fault) (sym is) (come_by by.layout plain files by.most_rows 1 row_records texts fault come) }
 
-  without_header : layout.header ≡ header.Absent → ConvertsBy (alone files) layout most column texts fault ↔ ConvertsTo files most column texts fault
+  without_header : by.layout.header ≡ header.Absent → ConvertsBy by column texts fault ↔ ConvertsTo files by.most_rows column texts fault
   without_header none =
       let bytes = strip_bom column in
-      let same : fields_of_all (drop (records_before layout.header) (csv_records 44 bytes)) ≡ column_records 44 bytes = rw none (wholes_fields 44 bytes) in (
-        λ by. record {
+      let same : fields_of_all (drop (records_before by.layout.header) (csv_records 44 bytes)) ≡ column_records 44 bytes = rw none (wholes_fields 44 bytes) in (
+        λ come. record {
           records = column_records 44 bytes;
           are = read 44 bytes;
-          rows = subst (λ (l : List (List (List ℕ))). RecordsConvertTo files most 1 l texts fault) same (plainly by);
+          rows = subst (λ (l : List (List (List ℕ))). RecordsConvertTo files by.most_rows 1 l texts fault) same (plainly come);
         },
         λ to.
-            let is = records_are to.records to.are ∙ sym same in
-            by_layout (subst (λ (l : List (List (List ℕ))). RecordsConvertTo files most 1 l texts fault) is to.rows),
+            let same_records = records_are to.records to.are ∙ sym same in
+            by_layout (subst (λ (l : List (List (List ℕ))). RecordsConvertTo files by.most_rows 1 l texts fault) same_records to.rows),
       )
 
-  with_header : records_before layout.header ≡ 1 → ConvertsBy (alone files) layout most column texts fault ↔ ConvertsBodyTo files most column texts fault
+  with_header : records_before by.layout.header ≡ 1 → ConvertsBy by column texts fault ↔ ConvertsBodyTo files by.most_rows column texts fault
   with_header one_before =
       let bytes = strip_bom column in
-      let same : fields_of_all (drop (records_before layout.header) (csv_records 44 bytes)) ≡ drop 1 (column_records 44 bytes) =
+      let same : fields_of_all (drop (records_before by.layout.header) (csv_records 44 bytes)) ≡ drop 1 (column_records 44 bytes) =
       rw one_before (fields_after (csv_records 44 bytes) ∙ ap (λ (l : List (List (List ℕ))). drop 1 l) (wholes_fields 44 bytes)) in (
-        λ by. record {
+        λ come. record {
           records = column_records 44 bytes;
           are = read 44 bytes;
-          rows = subst (λ (l : List (List (List ℕ))). RecordsConvertTo files most 1 l texts fault) same (plainly by);
+          rows = subst (λ (l : List (List (List ℕ))). RecordsConvertTo files by.most_rows 1 l texts fault) same (plainly come);
         },
         λ to.
-            let is = ap (λ (l : List (List (List ℕ))). drop 1 l) (records_are to.records to.are) ∙ sym same in
-            by_layout (subst (λ (l : List (List (List ℕ))). RecordsConvertTo files most 1 l texts fault) is to.rows),
+            let same_records = ap (λ (l : List (List (List ℕ))). drop 1 l) (records_are to.records to.are) ∙ sym same in
+            by_layout (subst (λ (l : List (List (List ℕ))). RecordsConvertTo files by.most_rows 1 l texts fault) same_records to.rows),
       )
 
 -- A column of plain rows converts as it does without a layout.

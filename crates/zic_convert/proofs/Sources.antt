@@ -8,10 +8,10 @@ use Rattle.std.specs.List.{concat}
 use Rattle.std.specs.Prelude.{IfOk, IfSome, Result, Ok, Err}
 use Rattle.csv.specs.Reading.{strip_bom}
 use Rattle.csv.proofs.WriteFacts.{appends-none}
-use Rattle.zic_plan.specs.Noted.{RowNote}
+use Rattle.zic_layouts.specs.Noted.{RowNote}
 use Rattle.zic_base.specs.declared.row_fault.RowKind.{RowKind}
-use Rattle.zic_base.specs.declared.run_stop.RunStop.{RunStop}
-use Rattle.zic_base.specs.declared.run_stop.RunStop.TheVariants as stop
+use Rattle.zic_base.specs.declared.stops.RunStop.{RunStop}
+use Rattle.zic_base.specs.declared.stops.RunStop.TheVariants as stop
 use Rattle.zic_columns.specs.Column.{column_records}
 use Rattle.zic_columns.specs.Laws.{ColumnRecordsAreRead}
 use Rattle.zic_columns.specs.Own.{CsvRecord, csv_records}
@@ -19,14 +19,15 @@ use Rattle.zic_columns.proofs.PieceRecords.{wholes_fields}
 use Rattle.zic_tzif.specs.Laws.{FilesAnswerOnce}
 use Rattle.zic_files.specs.File.{File}
 use Rattle.zic_files.specs.Sound.{AreSoundFiles}
-use Rattle.zic_plan.specs.Layout.{HasPlainRows, records_before}
-use Rattle.zic_plan.specs.declared.layout.Header.TheVariants as header
-use Rattle.zic_plan.specs.declared.layout.Layout.{Layout}
+use Rattle.zic_layouts.specs.Layout.{HasPlainRows, records_before}
+use Rattle.zic_layouts.specs.declared.layout.Header.TheVariants as header
+use Rattle.zic_layouts.specs.declared.layout.Layout.{Layout}
+use Rattle.zic_convert.specs.By.{by_of}
 use Rattle.zic_convert.specs.Column.{AreRowRecords, ConvertsTo, header_text, names_line, read_by, records_read}
 use Rattle.zic_convert.specs.Convert.{WritesAll, WritesAt, WritesPartOf}
 use Rattle.zic_convert.specs.Laws.{PlainColumnsConvertAlike}
-use Rattle.zic_layout_rows.specs.LayoutRows.{RecordsConvertBy}
-use Rattle.zic_layout_rows.specs.Rows.{RecordsConvertTo}
+use Rattle.zic_piece_rows.specs.LayoutRows.{RecordsConvertBy}
+use Rattle.zic_piece_rows.specs.Rows.{RecordsConvertTo}
 use Rattle.zic_convert.specs.Header.{IsHeaderFault, fault_read, header_fault}
 use Rattle.zic_convert.specs.Run.{EndsAfterLines, EndsAtNames, EndsBy, EndsByZones, EndsIn, Run, WritesRows}
 use Rattle.zic_convert.specs.code.Progress.{output}
@@ -34,16 +35,16 @@ use Rattle.zic_convert.proofs.Bytes.{starts_later}
 use Rattle.zic_convert.proofs.Options.{for_some, if_some}
 use Rattle.zic_convert.proofs.Plain.{come_plainly}
 use Rattle.zic_zones.specs.Zones.{alone}
-use Rattle.zic_zones.specs.declared.releases.Releases.{Releases}
+use Rattle.zic_zones.specs.declared.zones.Releases.{Releases}
 use Rattle.zic_convert.proofs.Sounds.{alone_sound, both_known}
 use Rattle.zic_convert.proofs.TooMany.{none_too_many}
 use Rattle.zic_convert.proofs.Totals.{all_come}
 
 module _ (alike : PlainColumnsConvertAlike) (layout : Layout) (plain : HasPlainRows layout) (none : layout.header ≡ header.Absent) (files : List File) (most : ℕ) where
-  pub no_header : (column : List ℕ) → header_text layout column ≡ []
+  pub no_header : (column : List ℕ) → header_text (by_of layout (alone files) most None) column ≡ []
   no_header column = rw (plain.start, none) refl
 
-  no_names : names_line layout ≡ []
+  no_names : names_line layout None ≡ []
   no_names = rw (plain.start, none) refl
 
   -- a column without a header has no fault there
@@ -52,16 +53,16 @@ module _ (alike : PlainColumnsConvertAlike) (layout : Layout) (plain : HasPlainR
 
   module _ (column : List ℕ) (row_records : List CsvRecord) (are : AreRowRecords layout column row_records) where
     converts : (texts : List (List ℕ)) (fault : Option RowKind) → RecordsConvertBy layout (alone files) most 1 row_records texts fault → ConvertsTo files most column texts fault
-    converts texts fault come = (alike.all files layout most column texts fault plain none).0 (record { row_records = row_records; are = are; rows = come })
+    converts texts fault come = (alike.all (by_of layout (alone files) most None) files column texts fault plain refl none).0 (record { row_records = row_records; are = are; rows = come })
 
     module _ (held held' : Option (List ℕ)) where
-      same_text : (texts : List (List ℕ)) → Appends held held' (header_text layout column ++ concat texts) → Appends held held' (concat texts)
+      same_text : (texts : List (List ℕ)) → Appends held held' (header_text (by_of layout (alone files) most None) column ++ concat texts) → Appends held held' (concat texts)
       same_text texts wrote = subst (λ (l : List ℕ). Appends held held' (l ++ concat texts)) (no_header column) wrote
 
   -- all of a column was converted
   pub source_converts : (known : Option (List ℕ)) (held held' : Option (List ℕ)) (log log' : Option (List RowNote)) (n : ℕ)
-      → IfSome known (λ column. IsHeaderFault layout files column None
-      × (row_records : List CsvRecord) × AreRowRecords layout column row_records × WritesRows layout (alone files) most None (header_text layout column) row_records n (output held held' log log'))
+      → IfSome known (λ column. IsHeaderFault (by_of layout (alone files) most None) column None
+      × (row_records : List CsvRecord) × AreRowRecords layout column row_records × WritesRows (by_of layout (alone files) most None) (header_text (by_of layout (alone files) most None) column) row_records n (output held held' log log'))
       → IfSome known (λ column. WritesAll files most column n held held')
   source_converts known held held' log log' n all = if_some known _ (λ column e.
       let (_, row_records, are, w) = for_some known _ column all e in
@@ -73,12 +74,12 @@ module _ (alike : PlainColumnsConvertAlike) (layout : Layout) (plain : HasPlainR
       })
 
   lines_part : (column : List ℕ) (row_records : List CsvRecord) → AreRowRecords layout column row_records → (why : RunStop) {R W : Type 0} (run : Run R W)
-      → EndsAfterLines layout (alone files) most None (header_text layout column) row_records why run.output → WritesPartOf [] (ConvertsTo files most column) run.output.held run.output.held'
+      → EndsAfterLines (by_of layout (alone files) most None) (header_text (by_of layout (alone files) most None) column) row_records why run.output → WritesPartOf [] (ConvertsTo files most column) run.output.held run.output.held'
   lines_part column row_records are why run w =
-      let lines : List (List ℕ) = header_text layout column ∷ w.texts in
+      let lines : List (List ℕ) = header_text (by_of layout (alone files) most None) column ∷ w.texts in
       let first = concat (take w.upto lines) in
       let rest = concat (drop w.upto lines) in
-      let all : first ++ rest ≡ header_text layout column ++ concat w.texts = sym (concat-append (take w.upto lines) (drop w.upto lines)) ∙ ap concat (take-append-drop w.upto lines) in
+      let all : first ++ rest ≡ header_text (by_of layout (alone files) most None) column ++ concat w.texts = sym (concat-append (take w.upto lines) (drop w.upto lines)) ∙ ap concat (take-append-drop w.upto lines) in
       record {
         texts = w.texts;
         fault = w.fault;
@@ -90,7 +91,7 @@ module _ (alike : PlainColumnsConvertAlike) (layout : Layout) (plain : HasPlainR
       }
 
   ends_in : {R W : Type 0} (run : Run R W) (column : List ℕ) (row_records : List CsvRecord) → AreRowRecords layout column row_records → (why : RunStop)
-      → EndsIn layout (alone files) most None (header_text layout column) row_records why run.output → WritesAt files most column why run.output.held run.output.held'
+      → EndsIn (by_of layout (alone files) most None) (header_text (by_of layout (alone files) most None) column) row_records why run.output → WritesAt files most column why run.output.held run.output.held'
   ends_in run column row_records are (stop.Row row kind) (inl w) = record {
     texts = w.0.texts;
     converts = converts column row_records are w.0.texts (Some kind) w.0.converts;
@@ -132,8 +133,8 @@ module _ (alike : PlainColumnsConvertAlike) (layout : Layout) (plain : HasPlainR
 
     -- the conversion ended early
     pub source_ends : {R W : Type 0} (run : Run R W) (why : RunStop) (zones zones' : List File) → zones ≡ files
-        → (EndsAtNames layout why run × (zones' ≡ zones))
-        ⊎ EndsByZones (λ (a b : List File). b ≡ a) (λ (a b : List File). b ≡ a) (λ (z : List File) (rs : Releases). (rs ≡ alone z) × AreSoundFiles z) zones zones' why (EndsBy layout most None why run)
+        → (EndsAtNames (names_line layout None) why run × (zones' ≡ zones))
+        ⊎ EndsByZones (λ (a b : List File). b ≡ a) (λ (a b : List File). b ≡ a) (λ (z : List File) (rs : Releases). (rs ≡ alone z) × AreSoundFiles z) zones zones' why (λ releases. EndsBy (by_of layout releases most None) why run)
         → IfSome run.column (λ column. WritesAt files most column why run.output.held run.output.held')
     source_ends run why zones zones' are (inl (ends, same_zones)) = rw ends.is (if_some run.column _ (λ column e.
         no_part column run.output.held run.output.held' ends.part (subst (λ (l : List ℕ). StartsWith l ends.part) no_names ends.starts) ends.wrote))

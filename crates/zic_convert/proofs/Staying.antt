@@ -16,24 +16,21 @@ use Rattle.zic_columns.specs.declared.columns.Taken.TheVariants as taken
 use Rattle.zic_columns.specs.Round.{records_of, records_of_pieces, taken_records}
 use Rattle.zic_columns.proofs.PieceRecords.{pieces_fields}
 use Rattle.zic_files.specs.File.{File}
-use Rattle.zic_plan.specs.Layout.{has_count}
-use Rattle.zic_plan.specs.declared.layout.Layout.{Layout}
-use Rattle.zic_plan.specs.declared.layout.ZoneFrom.{ZoneFrom}
-use Rattle.zic_plan.specs.Noted.{RowNote}
+use Rattle.zic_layouts.specs.Layout.{has_count}
+use Rattle.zic_layouts.specs.declared.layout.Layout.{Layout}
+use Rattle.zic_layouts.specs.declared.layout.ZoneFrom.{ZoneFrom}
+use Rattle.zic_layouts.specs.Noted.{RowNote}
 use Rattle.zic_base.specs.declared.row_fault.RowKind.{RowKind}
 use Rattle.zic_base.specs.declared.row_fault.RowKind.TheVariants as kind
-use Rattle.zic_rows.specs.Count.{second_of}
-use Rattle.zic_plan.specs.declared.layout.Written.{Written}
-use Rattle.zic_plan.specs.declared.layout.Written.TheVariants as written
-use Rattle.zic_zones.specs.declared.releases.Releases.{Releases}
-use Rattle.zic_convert.proofs.Sounds.{old_agree}
-use Rattle.zic_zones.specs.Zones.{Agree, ReleasesAgree, is_named, number_of, zone_in}
-use Rattle.zic_layout_rows.specs.Rows.{is_closed, is_row_instant}
-use Rattle.zic_layout_rows.specs.LayoutRows.{RecordsConvertBy, IsAnswer, IsAnswerAt, IsAnswerBy, IsRowAt, IsRowBy, IsTextBy, IsWrittenAt, admits_stray, old_files, count_in, ending, ends_by, fault_by, faults_by, file_at, file_named, noted, time_by, ok_count, err_fault}
+use Rattle.zic_row_text.specs.Count.{second_of}
+use Rattle.zic_zones.specs.declared.zones.Releases.{Releases}
+use Rattle.zic_zones.specs.Zones.{Agree, OldAgree, ReleasesAgree, is_named, number_of, zone_in}
+use Rattle.zic_piece_rows.specs.Rows.{is_closed, is_row_instant}
+use Rattle.zic_piece_rows.specs.LayoutRows.{RecordsConvertBy, IsAnswer, IsAnswerAt, IsAnswerBy, IsRowAt, IsRowBy, IsTextBy, IsWrittenWith, admits_stray, count_in, ending, ends_by, fault_by, faults_by, file_at, file_named, noted, time_by, ok_count, err_fault}
 use Rattle.zic_convert.specs.code.Row.{fields_of_all}
-use Rattle.zic_layout_rows.specs.PieceRows.{AreRowsOf, RowsOf}
-use Rattle.zic_layout_rows.proofs.MadeTexts.{among}
-use Rattle.zic_layout_rows.proofs.RowFaults.{found, named, unnamed}
+use Rattle.zic_piece_rows.specs.PieceRows.{AreRowsOf, RowsOf}
+use Rattle.zic_piece_rows.proofs.MadeTexts.{among}
+use Rattle.zic_piece_rows.proofs.RowFaults.{found, named, unnamed}
 
 both_or_none : (a b : Bool) → (a ≡ true → b ≡ true) → (b ≡ true → a ≡ true) → a ≡ b
 both_or_none true b to from = sym (to refl)
@@ -159,38 +156,55 @@ pub record Keeps (known files : List File) : Type 0 where
   pub still : (file : File) → Contains known file → Contains files file
   pub differ : AllPairs (λ (file other : File). file.name ≢ other.name) files
 
+-- so it is in the other release, where both have one
+abbrev pub OldKeeps : Option (List File) → Option (List File) → Type 0
+OldKeeps None None = Unit {0}
+OldKeeps None (Some files) = ⊥
+OldKeeps (Some known) None = ⊥
+OldKeeps (Some known) (Some files) = Keeps known files
+
 pub record KeepsBoth (known releases : Releases) : Type 0 where
   pub zones : Keeps known.zones releases.zones
-  pub old : Keeps (old_files known.old) (old_files releases.old)
+  pub old : OldKeeps known.old releases.old
 
 -- files that agree with those that are known keep them
+agree_keep : {settled : List ℕ → Type 0} {known files : List File} → Agree settled known files → Keeps known files
+agree_keep are = record { still = are.still; differ = are.sound.names_differ }
+
+old_keep : (settled : List ℕ → Type 0) (known old : Option (List File)) → OldAgree settled known old → OldKeeps known old
+old_keep settled None None are = tt
+old_keep settled None (Some files) are = absurd are
+old_keep settled (Some known) None are = absurd are
+old_keep settled (Some known) (Some files) are = agree_keep are
+
 pub kept : {settled : List ℕ → Type 0} {known releases : Releases} → ReleasesAgree settled known releases → KeepsBoth known releases
-kept {settled} {known} {releases} are =
-    let old = old_agree settled known.old releases.old are.old in
-    record {
-      zones = record { still = are.zones.still; differ = are.zones.sound.names_differ };
-      old = record { still = old.still; differ = old.sound.names_differ };
-    }
+kept {settled} {known} {releases} are = record { zones = agree_keep are.zones; old = old_keep settled known.old releases.old are.old }
 
 -- each release knows the zone of the record
+abbrev pub IsKnownToOld : ZoneFrom → Option (List File) → Option (List File) → CsvRecord → Type 0
+IsKnownToOld from (Some known) (Some files) w = IsKnownZone from known files w
+IsKnownToOld from _ _ w = Unit {0}
+
 abbrev pub AreKnownZones : ZoneFrom → Releases → Releases → CsvRecord → Type 0
-AreKnownZones from known releases w = IsKnownZone from known.zones releases.zones w × IsKnownZone from (old_files known.old) (old_files releases.old) w
+AreKnownZones from known releases w = IsKnownZone from known.zones releases.zones w × IsKnownToOld from known.old releases.old w
 
 module _ (known releases : Releases) (keeps : KeepsBoth known releases) (layout : Layout) (most : ℕ) where
   first_same : (number : ℕ) (w : CsvRecord) → AreKnownZones layout.zone known releases w → fault_by layout known.zones most number w ≡ fault_by layout releases.zones most number w
   first_same number w only = fault_same known.zones releases.zones keeps.zones.still keeps.zones.differ layout most number w only.0
 
   -- what is written of a record
-  written_same : (by : Written) (number : ℕ) (w : CsvRecord) (text : List ℕ) → AreKnownZones layout.zone known releases w
-      → IsWrittenAt by layout known most number w text → IsWrittenAt by layout releases most number w text
-  written_same written.All number w text only is = row_by_same known.zones releases.zones keeps.zones.still keeps.zones.differ layout most number w text only.0 is
-  written_same written.Moved number w text only is = record {
+  written_same : (known_old old : Option (List File)) → OldKeeps known_old old → (number : ℕ) (w : CsvRecord) (text : List ℕ) → IsKnownZone layout.zone known.zones releases.zones w
+      → IsKnownToOld layout.zone known_old old w → IsWrittenWith known_old layout known.zones most number w text → IsWrittenWith old layout releases.zones most number w text
+  written_same None None keep number w text only only_old is = row_by_same known.zones releases.zones keeps.zones.still keeps.zones.differ layout most number w text only is
+  written_same None (Some files) keep number w text only only_old is = absurd keep
+  written_same (Some files) None keep number w text only only_old is = absurd keep
+  written_same (Some first) (Some files) keep number w text only only_old is = record {
     row = is.row;
-    by = row_by_same known.zones releases.zones keeps.zones.still keeps.zones.differ layout most number w is.row only.0 is.by;
+    by = row_by_same known.zones releases.zones keeps.zones.still keeps.zones.differ layout most number w is.row only is.by;
     answer = is.answer;
-    answers = answer_same known.zones releases.zones keeps.zones.still keeps.zones.differ layout most number w is.answer only.0 is.answers;
+    answers = answer_same known.zones releases.zones keeps.zones.still keeps.zones.differ layout most number w is.answer only is.answers;
     other = is.other;
-    others = answer_same (old_files known.old) (old_files releases.old) keeps.old.still keeps.old.differ layout most number w is.other only.1 is.others;
+    others = answer_same first files keep.still keep.differ layout most number w is.other only_old is.others;
     same = is.same;
     moved = is.moved;
   }
@@ -206,7 +220,7 @@ module _ (known releases : Releases) (keeps : KeepsBoth known releases) (layout 
       let here = All-head (AreKnownZones layout.zone known releases) w row_records only in
       let same = first_same number w here in (
         ap (ending layout.at_fault layout.records) (sym same) ∙ come.0,
-        written_same layout.written number w text here come.1,
+        written_same known.old releases.old keeps.old number w text here.0 here.1 come.1,
         come_same (number + 1) row_records texts fault (All-tail (AreKnownZones layout.zone known releases) w row_records only) come.2,
       )
 
@@ -257,10 +271,16 @@ module _ (settled : List ℕ → Type 0) (known files : List File) (agree : Agre
   taken_known d taken.End pieces all = λ k dflt lt. absurd (omega (arith, lt))
 
 -- those of a round, and of a release that it is compared with
+old_taken_known : (settled : List ℕ → Type 0) (known old : Option (List File)) → OldAgree settled known old → (from : ZoneFrom) (d : ℕ) (taken : Taken) (pieces : List (List ℕ))
+    → All settled (map (zone_in from) (records_of d pieces)) → All (IsKnownToOld from known old) (taken_records d taken pieces)
+old_taken_known settled None None are from d taken pieces all = λ k dflt lt. tt
+old_taken_known settled None (Some files) are from d taken pieces all = absurd are
+old_taken_known settled (Some known) None are from d taken pieces all = absurd are
+old_taken_known settled (Some known) (Some files) are from d taken pieces all = taken_known settled known files are from d taken pieces all
+
 pub takens_known : (settled : List ℕ → Type 0) (known releases : Releases) → ReleasesAgree settled known releases → (from : ZoneFrom) (d : ℕ) (taken : Taken) (pieces : List (List ℕ))
     → All settled (map (zone_in from) (records_of d pieces)) → All (AreKnownZones from known releases) (taken_records d taken pieces)
 takens_known settled known releases agree from d taken pieces all =
-    let old = old_agree settled known.old releases.old agree.old in
     let first = taken_known settled known.zones releases.zones agree.zones from d taken pieces all in
-    let second = taken_known settled (old_files known.old) (old_files releases.old) old from d taken pieces all in
+    let second = old_taken_known settled known.old releases.old agree.old from d taken pieces all in
     λ k dflt lt. (first k dflt lt, second k dflt lt)

@@ -2,21 +2,21 @@
 use Rattle.std.proofs.Common.{◌≡◌, ◌+◌, ◌++◌, ℕ, List, [], take, Option, Some, sym, ap, subst, ◌∙◌}
 use Rattle.std.proofs.lemmas.List.{append-nil}
 use Rattle.zic_counted.specs.Counts.{Counts}
-use Rattle.zic_plan.specs.Noted.{RowNote}
+use Rattle.zic_layouts.specs.Noted.{RowNote}
 use Rattle.zic_base.specs.declared.row_fault.RowKind.{RowKind}
-use Rattle.zic_base.specs.declared.run_stop.RunStop.{RunStop}
-use Rattle.zic_base.specs.declared.run_stop.RunStop.TheVariants as stop
+use Rattle.zic_base.specs.declared.stops.RunStop.{RunStop}
+use Rattle.zic_base.specs.declared.stops.RunStop.TheVariants as stop
 use Rattle.zic_convert.specs.Run.{Notes}
-use Rattle.zic_layout_rows.specs.PieceRows.{RowsOf}
+use Rattle.zic_piece_rows.specs.PieceRows.{RowsOf}
 use Rattle.zic_convert.specs.code.Pieces.{joined}
-use Rattle.zic_convert.specs.code.Written.{EndsInPieces, IsStopAt, Wrote}
+use Rattle.zic_convert.specs.code.Written.{EndsInPieces, IsStopAt, Wrote, writing}
 use Rattle.zic_convert.proofs.Bytes.{fails_after, wrote_both}
 use Rattle.zic_convert.proofs.Writings.{front_more}
 
 -- the first pieces were written, of which the last has a row that ends the run, and then what the writer held back, or the writer failed
 pub stops_at : {W : Type 0} (contents : W → Option (List ℕ)) (old mid new : Counts W) (log last : Option (List RowNote)) (pieces : List RowsOf) (i : ℕ) → joined pieces ≡ joined (take i pieces)
     → (first : ℕ) (kind : RowKind) → (joined (take i pieces)).fault ≡ Some kind → Wrote contents old mid (joined (take i pieces)).text → Notes log last (joined (take i pieces)).faults
-    → (why : RunStop) → IsStopAt contents mid new (first + (joined (take i pieces)).count) kind why → EndsInPieces contents old new log last first pieces why
+    → (why : RunStop) → IsStopAt contents mid new (record { row = (first + (joined (take i pieces)).count); kind = kind }) why → EndsInPieces (writing contents old new log last) first pieces why
 stops_at contents old mid new log last pieces i all first kind some wrote notes (stop.Row row fault) is =
     let front = joined (take i pieces) in
     rw all (

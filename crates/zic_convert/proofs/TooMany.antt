@@ -8,19 +8,18 @@ use Rattle.std.proofs.lemmas.List.{length-append, take-append-drop}
 use Rattle.zic_columns.specs.Own.{CsvRecord}
 use Rattle.zic_counted.specs.Counts.{Counts}
 use Rattle.zic_files.specs.File.{File}
-use Rattle.zic_plan.specs.declared.layout.Written.{Written}
-use Rattle.zic_plan.specs.declared.layout.Written.TheVariants as written
-use Rattle.zic_zones.specs.declared.releases.Releases.{Releases}
-use Rattle.zic_plan.specs.declared.layout.Layout.{Layout}
-use Rattle.zic_plan.specs.Noted.{RowNote}
+use Rattle.zic_zones.specs.declared.zones.Releases.{Releases}
+use Rattle.zic_layouts.specs.declared.layout.Layout.{Layout}
+use Rattle.zic_layouts.specs.Noted.{RowNote}
 use Rattle.zic_base.specs.declared.row_fault.RowFault.{RowFault}
 use Rattle.zic_base.specs.declared.row_fault.RowKind.{RowKind}
 use Rattle.zic_base.specs.declared.row_fault.RowKind.TheVariants as kinds
-use Rattle.zic_layout_rows.specs.LayoutRows.{RecordsConvertBy, IsAnswerAt, IsRowAt, IsWrittenAt, old_files, ending, ends_by, fault_by, faults_by, if_rejected, noted}
+use Rattle.zic_piece_rows.specs.LayoutRows.{RecordsConvertBy, IsAnswerAt, IsRowAt, IsWrittenWith, ending, ends_by, fault_by, faults_by, if_rejected, noted}
+use Rattle.zic_convert.specs.By.{By, by_of}
 use Rattle.zic_convert.specs.Run.{AreFew, IsOneTooMany, Notes}
-use Rattle.zic_layout_rows.specs.PieceRows.{AreRowsOf, RowsOf}
-use Rattle.zic_convert.specs.code.Written.{FailsInRows, IsLeft, StopsAtFault, StopsAtRow, Wrote}
-use Rattle.zic_layout_rows.proofs.Coming.{too_many_ends, within}
+use Rattle.zic_piece_rows.specs.PieceRows.{AreRowsOf, RowsOf}
+use Rattle.zic_convert.specs.code.Written.{FailsInRows, IsLeft, StopsAtFault, StopsAtRow, Wrote, numbered, writing}
+use Rattle.zic_piece_rows.proofs.Coming.{too_many_ends, within}
 
 -- ---- how many faults are few
 
@@ -144,15 +143,16 @@ module _ (layout : Layout) (releases : Releases) where
   fault_low most low number x may less = low_alike releases.zones most low number x may less
 
   -- and what is written of it
-  written_low : (most low number : ℕ) (x : CsvRecord) (t : List ℕ) → number ≤ low → low ≤ most → (by : Written) → IsWrittenAt by layout releases low number x t → IsWrittenAt by layout releases most number x t
-  written_low most low number x t may less written.All is = subst (λ (f : Option RowKind). IsRowAt layout releases.zones f x t) (fault_low most low number x may less) is
-  written_low most low number x t may less written.Moved is = record {
+  written_low : (most low number : ℕ) (x : CsvRecord) (t : List ℕ) → number ≤ low → low ≤ most → (old : Option (List File)) → IsWrittenWith old layout releases.zones low number x t
+      → IsWrittenWith old layout releases.zones most number x t
+  written_low most low number x t may less None is = subst (λ (f : Option RowKind). IsRowAt layout releases.zones f x t) (fault_low most low number x may less) is
+  written_low most low number x t may less (Some old) is = record {
     row = is.row;
     by = subst (λ (f : Option RowKind). IsRowAt layout releases.zones f x is.row) (fault_low most low number x may less) is.by;
     answer = is.answer;
     answers = subst (λ (f : Option RowKind). IsAnswerAt layout releases.zones f x is.answer) (fault_low most low number x may less) is.answers;
     other = is.other;
-    others = subst (λ (f : Option RowKind). IsAnswerAt layout (old_files releases.old) f x is.other) (low_alike (old_files releases.old) most low number x may less) is.others;
+    others = subst (λ (f : Option RowKind). IsAnswerAt layout old f x is.other) (low_alike old most low number x may less) is.others;
     same = is.same;
     moved = is.moved;
   }
@@ -173,7 +173,7 @@ module _ (layout : Layout) (releases : Releases) where
   come_low most low number (x ∷ xs) (t ∷ texts) fault less come =
       let may = within layout releases low number x come.0 in (
         sym (ends_low most low number x may less) ∙ come.0,
-        written_low most low number x t may less layout.written come.1,
+        written_low most low number x t may less releases.old come.1,
         come_low most low (number + 1) xs texts fault less come.2,
       )
 
@@ -283,7 +283,7 @@ module _ (layout : Layout) (releases : Releases) where
             ended = cut_rest.ended;
             long = omega (arith, cut_rest.long);
             noted = rw low_come.0 (ap₂ (λ (f : Option RowKind) (l : List RowNote). noted layout.at_fault number x.own f ++ l) same cut_rest.noted ∙ sym then.is);
-            come = (come.0, written_low most low number x c may less layout.written low_come.1, cut_rest.come);
+            come = (come.0, written_low most low number x c may less releases.old low_come.1, cut_rest.come);
           }
 
       -- there are such rows
@@ -302,32 +302,32 @@ module _ (layout : Layout) (releases : Releases) where
       ]
 
 -- rows of the first of some records have few faults where all have
-pub few_of_front : (layout : Layout) (releases : Releases) (most : ℕ) (limit : Option ℕ) (first : ℕ) (rs done more : List CsvRecord) → rs ≡ done ++ more → (rows : RowsOf)
-    → AreRowsOf layout releases most first rs rows → (front : RowsOf) → AreRowsOf layout releases most first done front → AreFew limit rows.faults → AreFew limit front.faults
-few_of_front layout releases most limit first rs done more parts rows are front are_front few =
-    let all : rows.faults ≡ faults_by layout releases.zones most first (done ++ more) = are.faults ∙ ap (faults_by layout releases.zones most first) parts in
-    fewer limit front.faults rows.faults (omega (arith, ap (length {A = RowNote}) are_front.faults, front_fewer layout releases most first done more, ap (length {A = RowNote}) all)) few
+pub few_of_front : (by : By) (first : ℕ) (rs done more : List CsvRecord) → rs ≡ done ++ more → (rows : RowsOf)
+    → AreRowsOf by.layout by.releases by.most_rows first rs rows → (front : RowsOf) → AreRowsOf by.layout by.releases by.most_rows first done front → AreFew by.max_faults rows.faults → AreFew by.max_faults front.faults
+few_of_front by first rs done more parts rows are front are_front few =
+    let all : rows.faults ≡ faults_by by.layout by.releases.zones by.most_rows first (done ++ more) = are.faults ∙ ap (faults_by by.layout by.releases.zones by.most_rows first) parts in
+    fewer by.max_faults front.faults rows.faults (omega (arith, ap (length {A = RowNote}) are_front.faults, front_fewer by.layout by.releases by.most_rows first done more, ap (length {A = RowNote}) all)) few
 
 -- ---- rows that are made once more, up to one with one fault too many
 
-module _ (layout : Layout) (releases : Releases) (most : ℕ) (limit : Option ℕ) (first : ℕ) (rs : List CsvRecord) (rows : RowsOf) (are : AreRowsOf layout releases most first rs rows)
-    (row : ℕ) (kind : RowKind) (before : List RowNote) (many : IsOneTooMany limit rows.faults row kind before) where
+module _ (by : By) (first : ℕ) (rs : List CsvRecord) (rows : RowsOf) (are : AreRowsOf by.layout by.releases by.most_rows first rs rows)
+    (row : ℕ) (kind : RowKind) (before : List RowNote) (many : IsOneTooMany by.max_faults rows.faults row kind before) where
   abbrev note : RowNote
   note = record { fault = record { row = row; kind = kind }; own = many.own }
 
-  among : faults_by layout releases.zones most first rs ≡ before ++ note ∷ many.after
+  among : faults_by by.layout by.releases.zones by.most_rows first rs ≡ before ++ note ∷ many.after
   among = sym are.faults ∙ many.parts
 
   -- its number is one of theirs
-  pub row_within : (first ≤ row) × (row ≤ most)
-  row_within = noted_within layout releases most first rs before many.after note among
+  pub row_within : (first ≤ row) × (row ≤ by.most_rows)
+  row_within = noted_within by.layout by.releases by.most_rows first rs before many.after note among
 
-  module _ (low : ℕ) (at : low + 1 ≡ row) (cut : RowsOf) (are_cut : AreRowsOf layout releases low first rs cut) where
-    less : low ≤ most
+  module _ (low : ℕ) (at : low + 1 ≡ row) (cut : RowsOf) (are_cut : AreRowsOf by.layout by.releases low first rs cut) where
+    less : low ≤ by.most_rows
     less = omega (arith, at, row_within.1)
 
-    is : IsCut layout releases most low first rs are.texts are_cut.texts rows.fault cut.fault before
-    is = is_cut layout releases most low less rows.fault cut.fault many.after note at first rs are.texts are_cut.texts before are.come are_cut.come among
+    is : IsCut by.layout by.releases by.most_rows low first rs are.texts are_cut.texts rows.fault cut.fault before
+    is = is_cut by.layout by.releases by.most_rows low less rows.fault cut.fault many.after note at first rs are.texts are_cut.texts before are.come are_cut.come among
 
     -- they are ended
     pub cut_ends : cut.fault ≡ None → ⊥
@@ -340,13 +340,13 @@ module _ (layout : Layout) (releases : Releases) (most : ℕ) (limit : Option �
     abbrev pub rows_on : RowsOf
     rows_on = record { text = concat texts_on; count = length texts_on; fault = rows.fault; faults = rows.faults }
 
-    pub are_on : AreRowsOf layout releases most first rs rows_on
+    pub are_on : AreRowsOf by.layout by.releases by.most_rows first rs rows_on
     are_on = record { texts = texts_on; come = is.come; text = refl; count = refl; faults = are.faults }
 
     module _ {W : Type 0} (contents : W → Option (List ℕ)) (old new : Counts W) (log log' : Option (List RowNote)) where
       -- the rows before it were written
-      pub stops_before : (at_row : ℕ) (end : RowKind) → StopsAtRow contents old new log log' first cut at_row end
-          → StopsAtFault contents old new log log' layout releases most limit first rs rows_on row kind
+      pub stops_before : (at_row : ℕ) (end : RowKind) → StopsAtRow (writing contents old new log log') first cut (record { row = at_row; kind = end })
+          → StopsAtFault by (writing contents old new log log') (numbered first rs) rows_on (record { row = row; kind = kind })
       stops_before at_row end h = record {
         front = are_cut.texts;
         rest = drop (length are_cut.texts) are.texts;
@@ -358,10 +358,10 @@ module _ (layout : Layout) (releases : Releases) (most : ℕ) (limit : Option �
         noted = subst (λ (l : List RowNote). Notes log log' l) (are_cut.faults ∙ is.noted) h.3;
       }
 
-      few_before : (done more : List CsvRecord) → rs ≡ done ++ more → (faults : List RowNote) → faults ≡ faults_by layout releases.zones low first done → AreFew limit faults
+      few_before : (done more : List CsvRecord) → rs ≡ done ++ more → (faults : List RowNote) → faults ≡ faults_by by.layout by.releases.zones low first done → AreFew by.max_faults faults
       few_before done more parts faults same =
-          let all : faults_by layout releases.zones low first (done ++ more) ≡ before = ap (faults_by layout releases.zones low first) (sym parts) ∙ is.noted in
-          let less : length faults ≤ length before = omega (arith, ap (length {A = RowNote}) same, front_fewer layout releases low first done more, ap (length {A = RowNote}) all) in
+          let all : faults_by by.layout by.releases.zones low first (done ++ more) ≡ before = ap (faults_by by.layout by.releases.zones low first) (sym parts) ∙ is.noted in
+          let less : length faults ≤ length before = omega (arith, ap (length {A = RowNote}) same, front_fewer by.layout by.releases low first done more, ap (length {A = RowNote}) all) in
           subst (λ (l : Option ℕ). AreFew l faults) (sym many.full) less
 
       -- the first of some records are those of their rows
@@ -370,18 +370,18 @@ module _ (layout : Layout) (releases : Releases) (most : ℕ) (limit : Option �
           parts ∙ ap (λ (l : List CsvRecord). l ++ more) (sym (take-append-drop n done)) ∙ append_assoc (take n done) (drop n done) more
 
       -- their rows are the same by the higher greatest number
-      are_higher : (done : List CsvRecord) (front : RowsOf) (of : AreRowsOf layout releases low first done front)
-          → AreRowsOf layout releases most first (take (length of.texts) done) (record front { fault = None })
+      are_higher : (done : List CsvRecord) (front : RowsOf) (of : AreRowsOf by.layout by.releases low first done front)
+          → AreRowsOf by.layout by.releases by.most_rows first (take (length of.texts) done) (record front { fault = None })
       are_higher done front of = record {
         texts = of.texts;
-        come = come_low layout releases most low first done of.texts front.fault less of.come;
+        come = come_low by.layout by.releases by.most_rows low first done of.texts front.fault less of.come;
         text = of.text;
         count = of.count;
-        faults = of.faults ∙ faults_low layout releases most low first done of.texts front.fault less of.come;
+        faults = of.faults ∙ faults_low by.layout by.releases by.most_rows low first done of.texts front.fault less of.come;
       }
 
       -- or the writer failed
-      pub fails_before : FailsInRows contents old new log log' layout releases low None first rs → FailsInRows contents old new log log' layout releases most limit first rs
+      pub fails_before : FailsInRows (by_of by.layout by.releases low None) (writing contents old new log log') (numbered first rs) → FailsInRows by (writing contents old new log log') (numbered first rs)
       fails_before h =
           let n = length h.are.texts in
           let m = length h.are_upto.texts in

@@ -1,29 +1,27 @@
 -- That all records come to rows, up to the first fault.
 use Rattle.std.proofs.Common.{◌∙◌, ◌≡◌, ◌+◌, ℕ, ℤ, suc, Bool, true, false, List, [], ◌∷◌, ◌++◌, length, Option, Some, None, Result, Ok, Err, inl, inr, refl, sym}
-use Rattle.std.specs.Prelude.{All, bytes_eq, is_some, nat_le, option_map, slice_get}
+use Rattle.std.specs.Prelude.{All, IfSome, bytes_eq, is_some, nat_le, option_map, slice_get}
 use Rattle.std.specs.Cmp.Lexicographic.{bytes_decides}
 use Rattle.std.proofs.lemmas.Bool.{cases_Bool}
 use Rattle.std.proofs.lemmas.List.{append-nil}
 use Rattle.std.proofs.lemmas.List.Elements.{All-contains}
 use Rattle.zic_base.specs.Check.{check, first_failed}
-use Rattle.zic_rows.specs.Count.{second_of}
+use Rattle.zic_row_text.specs.Count.{second_of}
 use Rattle.zic_columns.specs.Own.{CsvRecord}
 use Rattle.zic_columns.specs.Round.{may_have}
 use Rattle.zic_files.specs.File.{File}
-use Rattle.zic_plan.specs.Layout.{has_count}
-use Rattle.zic_plan.specs.declared.layout.Layout.{Layout}
-use Rattle.zic_plan.specs.declared.layout.Written.{Written}
-use Rattle.zic_plan.specs.declared.layout.Written.TheVariants as written
-use Rattle.zic_zones.specs.declared.releases.Releases.{Releases}
+use Rattle.zic_layouts.specs.Layout.{has_count}
+use Rattle.zic_layouts.specs.declared.layout.Layout.{Layout}
+use Rattle.zic_zones.specs.declared.zones.Releases.{Releases}
 use Rattle.zic_base.specs.declared.row_fault.RowKind.{RowKind}
 use Rattle.zic_base.specs.declared.row_fault.RowKind.TheVariants as kind
 use Rattle.zic_zones.specs.Zones.{is_named, number_of, zone_in}
-use Rattle.zic_layout_rows.specs.Rows.{is_row_instant}
-use Rattle.zic_layout_rows.specs.LayoutRows.{RecordsConvertBy, IsAnswer, IsAnswerAt, IsRowAt, IsRowBy, IsTextBy, IsWrittenAt, empty_fields, old_files, with_answer, count_in, ends_by, fault_by, faulty_text, has_right_quotes, instant_by, rest_by, start_text, time_by, time_in, ok_count, err_fault}
-use Rattle.zic_layout_rows.specs.PieceRows.{AreRowsOf, RowsOf}
-use Rattle.zic_layout_rows.proofs.Coming.{come_after, come_more}
-use Rattle.zic_layout_rows.proofs.MadeTexts.{among}
-use Rattle.zic_layout_rows.proofs.RowFaults.{found}
+use Rattle.zic_piece_rows.specs.Rows.{is_row_instant}
+use Rattle.zic_piece_rows.specs.LayoutRows.{RecordsConvertBy, IsAnswer, IsAnswerAt, IsRowAt, IsRowBy, IsTextBy, IsWrittenWith, empty_fields, with_answer, count_in, ends_by, fault_by, faulty_text, has_right_quotes, instant_by, rest_by, start_text, time_by, time_in, ok_count, err_fault}
+use Rattle.zic_piece_rows.specs.PieceRows.{AreRowsOf, RowsOf}
+use Rattle.zic_piece_rows.proofs.Coming.{come_after, come_more}
+use Rattle.zic_piece_rows.proofs.MadeTexts.{among}
+use Rattle.zic_piece_rows.proofs.RowFaults.{found}
 use Rattle.zic_convert.proofs.Sounds.{IsKnown}
 
 -- checks that all pass
@@ -118,14 +116,14 @@ module _ (layout : Layout) (files : List File) (most : ℕ) (known : All IsKnown
         )
     by_fault (Some fault) e = (empty_fields layout, refl)
 
-module _ (layout : Layout) (releases : Releases) (most : ℕ) (known : All IsKnown releases.zones × All IsKnown (old_files releases.old)) where
+module _ (layout : Layout) (releases : Releases) (most : ℕ) (known : All IsKnown releases.zones × IfSome releases.old (All IsKnown)) where
   -- what is written of a record
-  have_written : (number : ℕ) (row_record : CsvRecord) (by : Written) → (text : List ℕ) × IsWrittenAt by layout releases most number row_record text
-  have_written number row_record written.All = have_row layout releases.zones most known.0 number row_record
-  have_written number row_record written.Moved =
+  have_written : (number : ℕ) (row_record : CsvRecord) (old : Option (List File)) → IfSome old (All IsKnown) → (text : List ℕ) × IsWrittenWith old layout releases.zones most number row_record text
+  have_written number row_record None all = have_row layout releases.zones most known.0 number row_record
+  have_written number row_record (Some old) all =
       let (row, is_row) = have_row layout releases.zones most known.0 number row_record in
       let (answer, answers) = have_answer layout releases.zones most known.0 number row_record in
-      let (other, others) = have_answer layout (old_files releases.old) most known.1 number row_record in
+      let (other, others) = have_answer layout old most all number row_record in
       elim (cases_Bool (bytes_eq answer other)) [
         | inl is ↦
             let same = (bytes_decides answer other).0 is in
@@ -140,7 +138,7 @@ module _ (layout : Layout) (releases : Releases) (most : ℕ) (known : All IsKno
       → (texts : List (List ℕ)) × (last : Option RowKind) × RecordsConvertBy layout releases most number (row_record ∷ row_records) texts last
   row_first number row_record row_records (Some k) e rest = ([], Some k, (sym e, refl))
   row_first number row_record row_records None e rest =
-      let (text, is) = have_written number row_record layout.written in
+      let (text, is) = have_written number row_record releases.old known.1 in
       (text ∷ rest.0, rest.1, (e, is, rest.2))
 
   -- what all records come to

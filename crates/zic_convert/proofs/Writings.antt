@@ -3,10 +3,10 @@ use Rattle.std.proofs.Common.{◌≡◌, ◌<◌, ◌≤◌, ◌+◌, ℕ, suc, 
 use Rattle.std.specs.Prelude.{IsSome}
 use Rattle.std.proofs.Math.Seq.{take-suc}
 use Rattle.std.proofs.lemmas.List.{append-nil, take-append-drop}
-use Rattle.zic_plan.specs.Noted.{RowNote}
+use Rattle.zic_layouts.specs.Noted.{RowNote}
 use Rattle.zic_base.specs.declared.row_fault.RowKind.{RowKind}
-use Rattle.zic_layout_rows.specs.PieceRows.{RowsOf, empty_rows}
-use Rattle.zic_layout_rows.specs.code.Row.{followed_by}
+use Rattle.zic_piece_rows.specs.PieceRows.{RowsOf, empty_rows}
+use Rattle.zic_piece_rows.specs.code.Row.{followed_by}
 use Rattle.zic_convert.specs.code.Pieces.{joined}
 
 -- rows after none

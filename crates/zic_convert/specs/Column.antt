@@ -1,5 +1,5 @@
 -- The rows of a column.
-use Rattle.std.specs.Prelude.{◌≡◌, ℕ, ◌+◌, min, codes, List, [], ◌∷◌, ◌++◌, drop, length, map, Option, None, option_map}
+use Rattle.std.specs.Prelude.{◌≡◌, ℕ, ◌+◌, min, codes, List, [], ◌∷◌, ◌++◌, drop, length, map, Option, None, Some, option_map}
 use Rattle.std.specs.List.{concat, flat_map}
 use Rattle.csv.specs.Reading.{strip_bom}
 use Rattle.zic_columns.specs.Column.{AreColumnRecords}
@@ -7,27 +7,25 @@ use Rattle.zic_columns.specs.Lines.{records_by, texts_by}
 use Rattle.zic_columns.specs.Own.{CsvRecord, first_text}
 use Rattle.zic_columns.specs.Truncated.{truncated}
 use Rattle.zic_files.specs.File.{File}
-use Rattle.zic_plan.specs.Layout.{records_before}
-use Rattle.zic_plan.specs.declared.layout.AtFault.{AtFault}
-use Rattle.zic_plan.specs.declared.layout.AtFault.TheVariants as at
-use Rattle.zic_plan.specs.declared.layout.Header.{Header}
-use Rattle.zic_plan.specs.declared.layout.Header.TheVariants as header
-use Rattle.zic_plan.specs.declared.layout.Layout.{Layout}
-use Rattle.zic_plan.specs.declared.layout.Records.{Records}
-use Rattle.zic_plan.specs.declared.layout.Records.TheVariants as by
-use Rattle.zic_plan.specs.declared.plan.TheConstants.{MAX_BYTES}
-use Rattle.zic_plan.specs.declared.layout.RowStart.{RowStart}
-use Rattle.zic_plan.specs.declared.layout.RowStart.TheVariants as start
-use Rattle.zic_plan.specs.declared.layout.Style.{Style}
-use Rattle.zic_plan.specs.declared.layout.Style.TheVariants as styles
-use Rattle.zic_plan.specs.declared.layout.TimeFrom.{TimeFrom}
-use Rattle.zic_plan.specs.declared.layout.TimeFrom.TheVariants as from
-use Rattle.zic_plan.specs.declared.layout.Written.{Written}
-use Rattle.zic_plan.specs.declared.layout.Written.TheVariants as written
+use Rattle.zic_layouts.specs.Layout.{records_before}
+use Rattle.zic_layouts.specs.declared.layout.AtFault.{AtFault}
+use Rattle.zic_layouts.specs.declared.layout.AtFault.TheVariants as at
+use Rattle.zic_layouts.specs.declared.layout.Header.{Header}
+use Rattle.zic_layouts.specs.declared.layout.Header.TheVariants as header
+use Rattle.zic_layouts.specs.declared.layout.Layout.{Layout}
+use Rattle.zic_layouts.specs.declared.layout.Records.{Records}
+use Rattle.zic_layouts.specs.declared.layout.Records.TheVariants as records
+use Rattle.zic_layouts.specs.declared.plan.TheConstants.{MAX_BYTES}
+use Rattle.zic_layouts.specs.declared.layout.RowStart.{RowStart}
+use Rattle.zic_layouts.specs.declared.layout.RowStart.TheVariants as start
+use Rattle.zic_layouts.specs.declared.layout.Style.{Style}
+use Rattle.zic_layouts.specs.declared.layout.Style.TheVariants as styles
+use Rattle.zic_layouts.specs.declared.layout.TimeFrom.{TimeFrom}
+use Rattle.zic_layouts.specs.declared.layout.TimeFrom.TheVariants as from
 use Rattle.zic_base.specs.declared.row_fault.RowKind.{RowKind}
-use Rattle.zic_layout_rows.specs.Rows.{RecordsConvertTo}
-use Rattle.zic_zones.specs.declared.releases.Releases.{Releases}
-use Rattle.zic_layout_rows.specs.LayoutRows.{RecordsConvertBy, if_rejected}
+use Rattle.zic_piece_rows.specs.Rows.{RecordsConvertTo}
+use Rattle.zic_piece_rows.specs.LayoutRows.{RecordsConvertBy, if_rejected}
+use Rattle.zic_convert.specs.By.{By}
 
 -- The texts of a column's rows up to the first that has a fault, and that fault, or none. Rows count from 1, and there may be at most
 -- this number. The records are those of CSV with commas and double quotes, without a header row. A byte order mark at the start is none
@@ -47,10 +45,10 @@ pub record ConvertsBodyTo (files : List File) (most : ℕ) (column : List ℕ) (
 -- line that is too long stays too long, also the first, of which a byte order mark may take three bytes.
 abbrev pub read_of_lines : AtFault → Records → Option ℕ → Option ℕ
 read_of_lines at.End mode most = None
-read_of_lines at.GoOn by.Csv most = None
-read_of_lines at.GoOn by.Lines most = option_map (λ most. min most MAX_BYTES + 4) most
-read_of_lines at.Reject by.Csv most = None
-read_of_lines at.Reject by.Lines most = option_map (λ most. min most MAX_BYTES + 4) most
+read_of_lines at.GoOn records.Csv most = None
+read_of_lines at.GoOn records.Lines most = option_map (λ most. min most MAX_BYTES + 4) most
+read_of_lines at.Reject records.Csv most = None
+read_of_lines at.Reject records.Lines most = option_map (λ most. min most MAX_BYTES + 4) most
 
 -- the column as it is read by a layout: whole, or its lines truncated
 abbrev pub read_by : Layout → List ℕ → List ℕ
@@ -70,12 +68,11 @@ texts_read layout bytes = texts_by layout.records layout.delimiter (strip_bom by
 abbrev pub AreRowRecords : Layout → List ℕ → List CsvRecord → Type 0
 AreRowRecords layout column row_records = row_records ≡ drop (records_before layout.header) (records_read layout (read_by layout column))
 
--- The texts of a column's rows by a layout, up to the first that ends the run, and its fault, or none. Rows count from 1, and there may be
--- at most this number.
-pub record ConvertsBy (releases : Releases) (layout : Layout) (most : ℕ) (column : List ℕ) (texts : List (List ℕ)) (fault : Option RowKind) : Type 0 where
+-- The texts of a column's rows, up to the first that ends the run, and its fault, or none. Rows count from 1.
+pub record ConvertsBy (by : By) (column : List ℕ) (texts : List (List ℕ)) (fault : Option RowKind) : Type 0 where
   pub row_records : List CsvRecord
-  pub are : AreRowRecords layout column row_records
-  pub rows : RecordsConvertBy layout releases most 1 row_records texts fault
+  pub are : AreRowRecords by.layout column row_records
+  pub rows : RecordsConvertBy by.layout by.releases by.most_rows 1 row_records texts fault
 
 -- these names, each after a delimiter
 abbrev pub delimited : ℕ → List (List ℕ) → List ℕ
@@ -96,18 +93,18 @@ added_names styles.Iso from.Count = codes "local" ∷ codes "daylight" ∷ codes
 added_names styles.Iso from.Rfc3339 = codes "local" ∷ codes "daylight" ∷ codes "abbreviation" ∷ []
 added_names styles.Iso (from.Local choice) = codes "instant" ∷ codes "time" ∷ codes "daylight" ∷ codes "abbreviation" ∷ []
 
--- the names of the fields that another release answers, after all others, where rows are compared: own choice
-abbrev pub names_after : Written → Style → TimeFrom → List (List ℕ)
-names_after written.All style time = []
-names_after written.Moved style time = map (λ name. codes "old_" ++ name) (added_names style time)
+-- the names of the fields that another release answers, after all others, where there is one: own choice
+abbrev pub names_after : Option (List File) → Style → TimeFrom → List (List ℕ)
+names_after None style time = []
+names_after (Some old) style time = map (λ name. codes "old_" ++ name) (added_names style time)
 
 -- the names of all fields that a row by a layout adds to its record, each after the delimiter
-abbrev pub names_added : Layout → List ℕ
-names_added layout = delimited layout.delimiter (added_names layout.style layout.from ++ names_after layout.written layout.style layout.from)
+abbrev pub names_added : Layout → Option (List File) → List ℕ
+names_added layout old = delimited layout.delimiter (added_names layout.style layout.from ++ names_after old layout.style layout.from)
 
 -- the line of the names of all fields of rows that begin with a zone's name
-abbrev pub row_names : Layout → List ℕ
-row_names layout = codes "zone" ++ layout.delimiter ∷ (time_name layout.from ++ (names_added layout ++ 10 ∷ []))
+abbrev pub row_names : Layout → Option (List File) → List ℕ
+row_names layout old = codes "zone" ++ layout.delimiter ∷ (time_name layout.from ++ (names_added layout old ++ 10 ∷ []))
 
 -- the line, where a header is written and rows begin with names, and else nothing
 abbrev pub names_of : RowStart → Header → List ℕ → List ℕ
@@ -130,12 +127,12 @@ header_of start.Record names (byte ∷ own) = (byte ∷ own) ++ (names ++ 10 ∷
 header_of _ names _ = []
 
 -- what is written before a column is read: the line of names, or nothing
-abbrev pub names_line : Layout → List ℕ
-names_line layout = names_of layout.start layout.header (row_names layout)
+abbrev pub names_line : Layout → Option (List File) → List ℕ
+names_line layout old = names_of layout.start layout.header (row_names layout old)
 
 -- and once its header was read
-abbrev pub own_line : Layout → List ℕ → List ℕ
-own_line layout column = header_of layout.start (names_added layout) (header_read layout (read_by layout column))
+abbrev pub own_line : By → List ℕ → List ℕ
+own_line by column = header_of by.layout.start (names_added by.layout by.releases.old) (header_read by.layout (read_by by.layout column))
 
 -- the own bytes of the column's header, where there is one that is written and records are rejected, for the log of these
 abbrev pub rejects_header : Layout → List ℕ → List ℕ
@@ -143,8 +140,8 @@ rejects_header layout column = if_rejected layout.at_fault (header_read layout (
 
 -- The header that is written before the rows of a column: own choice. It is the line of names where rows begin with names,
 -- and else the column's own header, with the names of the fields that rows add. It is nothing where the column has none, or it is skipped.
-abbrev pub header_text : Layout → List ℕ → List ℕ
-header_text layout column = names_line layout ++ own_line layout column
+abbrev pub header_text : By → List ℕ → List ℕ
+header_text by column = names_line by.layout by.releases.old ++ own_line by column
 
 -- The text of a column's rows up to the first that has a fault, how many there are, and that fault, or none.
 pub record AreRowsOfColumn (files : List File) (most : ℕ) (column text : List ℕ) (count : ℕ) (fault : Option RowKind) : Type 0 where

@@ -6,8 +6,8 @@ use Rattle.std.specs.Io.KnownBytes.{Appends}
 use Rattle.zic_counted.specs.Counts.{Counts, HasFailedSince, HasTakenAbove}
 use Rattle.zic_files.specs.File.{File}
 use Rattle.zic_base.specs.declared.row_fault.RowKind.{RowKind}
-use Rattle.zic_base.specs.declared.run_stop.RunStop.{RunStop}
-use Rattle.zic_base.specs.declared.run_stop.RunStop.TheVariants as stop
+use Rattle.zic_base.specs.declared.stops.RunStop.{RunStop}
+use Rattle.zic_base.specs.declared.stops.RunStop.TheVariants as stop
 use Rattle.zic_convert.specs.Column.{ConvertsTo}
 
 -- the outcome of a conversion: the texts of rows, and a fault, or none

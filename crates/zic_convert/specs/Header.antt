@@ -4,10 +4,11 @@ use Rattle.zic_base.specs.declared.row_fault.RowKind.{RowKind}
 use Rattle.zic_base.specs.declared.row_fault.RowKind.TheVariants as kind
 use Rattle.zic_columns.specs.Own.{CsvRecord}
 use Rattle.zic_files.specs.File.{File}
-use Rattle.zic_plan.specs.Layout.{records_before}
-use Rattle.zic_plan.specs.declared.layout.Layout.{Layout}
+use Rattle.zic_layouts.specs.Layout.{records_before}
+use Rattle.zic_layouts.specs.declared.layout.Layout.{Layout}
+use Rattle.zic_convert.specs.By.{By}
 use Rattle.zic_convert.specs.Column.{read_by, records_read}
-use Rattle.zic_layout_rows.specs.LayoutRows.{fault_by}
+use Rattle.zic_piece_rows.specs.LayoutRows.{fault_by}
 
 -- Why a record is no header, if it is none, by the fault that it would have as a row. Without a fault it is a row, since it names a zone and
 -- has a time; so it is where only the time can't be answered. A header may not have more bytes than a record either, nor double quotes that a
@@ -31,5 +32,5 @@ abbrev pub fault_read : Layout → List File → List ℕ → Option RowKind
 fault_read layout files bytes = header_fault layout files (take (records_before layout.header) (records_read layout bytes))
 
 -- and of a column
-abbrev pub IsHeaderFault : Layout → List File → List ℕ → Option RowKind → Type 0
-IsHeaderFault layout files column fault = fault ≡ fault_read layout files (read_by layout column)
+abbrev pub IsHeaderFault : By → List ℕ → Option RowKind → Type 0
+IsHeaderFault by column fault = fault ≡ fault_read by.layout by.releases.zones (read_by by.layout column)

@@ -1,11 +1,12 @@
 pub mod code
+pub mod By
 pub mod Column
 pub mod Convert
 pub mod Header
 pub mod Memory
 pub mod Run
 pub mod Laws
-pub use Rattle.zic_rows.specs.Instant
-pub use Rattle.zic_rows.specs.Row
+pub use Rattle.zic_row_text.specs.Instant
+pub use Rattle.zic_row_text.specs.Row
 pub use Rattle.zic_files.specs.File
 pub use Rattle.zic_files.specs.Sound

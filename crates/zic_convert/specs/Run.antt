@@ -5,18 +5,18 @@ use Rattle.std.specs.Io.{StartsWith}
 use Rattle.std.specs.Io.KnownBytes.{Appends}
 use Rattle.zic_columns.specs.Own.{CsvRecord}
 use Rattle.zic_counted.specs.Counts.{Counts}
-use Rattle.zic_zones.specs.declared.releases.Releases.{Releases}
-use Rattle.zic_plan.specs.declared.layout.Layout.{Layout}
+use Rattle.zic_zones.specs.declared.zones.Releases.{Releases}
 use Rattle.zic_base.specs.Growth.{Gains}
-use Rattle.zic_plan.specs.Noted.{RowNote}
+use Rattle.zic_layouts.specs.Noted.{RowNote}
+use Rattle.zic_base.specs.declared.row_fault.RowFault.{RowFault}
 use Rattle.zic_base.specs.declared.row_fault.RowKind.{RowKind}
-use Rattle.zic_base.specs.declared.run_stop.RunStop.{RunStop}
-use Rattle.zic_base.specs.declared.run_stop.RunStop.TheVariants as stop
+use Rattle.zic_base.specs.declared.stops.RunStop.{RunStop}
+use Rattle.zic_base.specs.declared.stops.RunStop.TheVariants as stop
+use Rattle.zic_convert.specs.By.{By}
 use Rattle.zic_convert.specs.Column.{AreRowRecords, header_text, names_line}
 use Rattle.zic_convert.specs.Convert.{WritesAllOf, WritesUpToOf}
 use Rattle.zic_convert.specs.Header.{IsHeaderFault}
-use Rattle.zic_files.specs.File.{File}
-use Rattle.zic_layout_rows.specs.LayoutRows.{RecordsConvertBy, faults_by}
+use Rattle.zic_piece_rows.specs.LayoutRows.{RecordsConvertBy, faults_by}
 
 -- what the writer held and holds, and what the log had noted of rows with a fault and has noted, where these are known
 pub record Output : Type 0 where
@@ -65,35 +65,37 @@ pub record IsOneTooMany (limit : Option ℕ) (faults : List RowNote) (row : ℕ)
   pub full : limit ≡ Some (length before)
 
 -- A header and all rows of these records were written, there are n rows, and their faults, which are few, were noted.
-abbrev pub WritesRows : Layout → Releases → ℕ → Option ℕ → List ℕ → List CsvRecord → ℕ → Output → Type 0
-WritesRows layout releases most limit header row_records n out =
-    WritesAllOf header (RecordsConvertBy layout releases most 1 row_records) n out.held out.held' × Notes out.log out.log' (faults_by layout releases.zones most 1 row_records)
-    × AreFew limit (faults_by layout releases.zones most 1 row_records)
+abbrev pub WritesRows : By → List ℕ → List CsvRecord → ℕ → Output → Type 0
+WritesRows by header row_records n out =
+    WritesAllOf header (RecordsConvertBy by.layout by.releases by.most_rows 1 row_records) n out.held out.held'
+    × Notes out.log out.log' (faults_by by.layout by.releases.zones by.most_rows 1 row_records)
+    × AreFew by.max_faults (faults_by by.layout by.releases.zones by.most_rows 1 row_records)
 
 -- A header and the rows before one that ends the conversion were written, and their faults, which are few, were noted.
-abbrev pub EndsAtRow : Layout → Releases → ℕ → Option ℕ → List ℕ → List CsvRecord → ℕ → RowKind → Output → Type 0
-EndsAtRow layout releases most limit header row_records row kind out =
-    WritesUpToOf header (RecordsConvertBy layout releases most 1 row_records) row kind out.held out.held' × Notes out.log out.log' (faults_by layout releases.zones most 1 row_records)
-    × AreFew limit (faults_by layout releases.zones most 1 row_records)
+abbrev pub EndsAtRow : By → List ℕ → List CsvRecord → RowFault → Output → Type 0
+EndsAtRow by header row_records fault out =
+    WritesUpToOf header (RecordsConvertBy by.layout by.releases by.most_rows 1 row_records) fault.row fault.kind out.held out.held'
+    × Notes out.log out.log' (faults_by by.layout by.releases.zones by.most_rows 1 row_records)
+    × AreFew by.max_faults (faults_by by.layout by.releases.zones by.most_rows 1 row_records)
 
 -- The conversion ends at a row with one fault too many: a header and the rows before it were written, and the faults before it were noted.
 -- Without a limit the records come to these texts, and to one fault that ends the run, or to none.
-pub record EndsAtFaults (layout : Layout) (releases : Releases) (most : ℕ) (limit : Option ℕ) (header : List ℕ) (row_records : List CsvRecord) (row : ℕ) (kind : RowKind) (out : Output) : Type 0 where
+pub record EndsAtFaults (by : By) (header : List ℕ) (row_records : List CsvRecord) (at : RowFault) (out : Output) : Type 0 where
   pub texts : List (List ℕ)
   pub fault : Option RowKind
-  pub come : RecordsConvertBy layout releases most 1 row_records texts fault
+  pub come : RecordsConvertBy by.layout by.releases by.most_rows 1 row_records texts fault
   pub before : List RowNote
-  pub too_many : IsOneTooMany limit (faults_by layout releases.zones most 1 row_records) row kind before
-  pub wrote : Appends out.held out.held' (header ++ concat (take (row - 1) texts))
+  pub too_many : IsOneTooMany by.max_faults (faults_by by.layout by.releases.zones by.most_rows 1 row_records) at.row at.kind before
+  pub wrote : Appends out.held out.held' (header ++ concat (take (at.row - 1) texts))
   pub noted : Notes out.log out.log' before
 
 -- Some lines were written, of the header and the first rows, and the faults of these rows, which are few, were noted, and no others. Nothing
 -- was written after these lines, unless a failure of the writer ended the run: then perhaps a beginning of those that come next, up to some
 -- line; the rows up to there have few faults too.
-pub record EndsAfterLines (layout : Layout) (releases : Releases) (most : ℕ) (limit : Option ℕ) (header : List ℕ) (row_records : List CsvRecord) (why : RunStop) (out : Output) : Type 0 where
+pub record EndsAfterLines (by : By) (header : List ℕ) (row_records : List CsvRecord) (why : RunStop) (out : Output) : Type 0 where
   pub texts : List (List ℕ)
   pub fault : Option RowKind
-  pub come : RecordsConvertBy layout releases most 1 row_records texts fault
+  pub come : RecordsConvertBy by.layout by.releases by.most_rows 1 row_records texts fault
   pub lines : ℕ
   pub upto : ℕ
   pub part : List ℕ
@@ -101,32 +103,31 @@ pub record EndsAfterLines (layout : Layout) (releases : Releases) (most : ℕ) (
   pub least : StartsWith part (concat (take lines (header ∷ texts)))
   pub exact : (part ≡ concat (take lines (header ∷ texts))) ⊎ (why ≡ stop.WriteFailed)
   pub wrote : Appends out.held out.held' part
-  pub noted : Notes out.log out.log' (faults_by layout releases.zones most 1 (take (lines - 1) row_records))
-  pub few : AreFew limit (faults_by layout releases.zones most 1 (take (lines - 1) row_records))
-  pub may : AreFew limit (faults_by layout releases.zones most 1 (take (upto - 1) row_records))
+  pub noted : Notes out.log out.log' (faults_by by.layout by.releases.zones by.most_rows 1 (take (lines - 1) row_records))
+  pub few : AreFew by.max_faults (faults_by by.layout by.releases.zones by.most_rows 1 (take (lines - 1) row_records))
+  pub may : AreFew by.max_faults (faults_by by.layout by.releases.zones by.most_rows 1 (take (upto - 1) row_records))
 
 -- how a conversion ends early: at a row that ends it or has one fault too many, or for another cause, but never for a fault of a source
-abbrev pub EndsIn : Layout → Releases → ℕ → Option ℕ → List ℕ → List CsvRecord → RunStop → Output → Type 0
-EndsIn layout releases most limit header row_records (stop.Row row kind) out =
-    EndsAtRow layout releases most limit header row_records row kind out
-    ⊎ EndsAtFaults layout releases most limit header row_records row kind out
-EndsIn layout releases most limit header row_records (stop.Source fault) out = ⊥
-EndsIn layout releases most limit header row_records why out = EndsAfterLines layout releases most limit header row_records why out
+abbrev pub EndsIn : By → List ℕ → List CsvRecord → RunStop → Output → Type 0
+EndsIn by header row_records (stop.Row row kind) out =
+    EndsAtRow by header row_records (record { row = row; kind = kind }) out ⊎ EndsAtFaults by header row_records (record { row = row; kind = kind }) out
+EndsIn by header row_records (stop.Source fault) out = ⊥
+EndsIn by header row_records why out = EndsAfterLines by header row_records why out
 
--- by these releases, the column's header has no fault, all rows were written, there are n, and their faults, which are few, were noted
-abbrev pub ConvertsAllBy : {R W : Type 0} → Layout → ℕ → Option ℕ → ℕ → Run R W → Releases → Type 0
-ConvertsAllBy layout most limit n run releases = IfSome run.column (λ column. IsHeaderFault layout releases.zones column None
-    × (row_records : List CsvRecord) × AreRowRecords layout column row_records × WritesRows layout releases most limit (header_text layout column) row_records n run.output)
+-- the column's header has no fault, all rows were written, there are n, and their faults, which are few, were noted
+abbrev pub ConvertsAllBy : {R W : Type 0} → By → ℕ → Run R W → Type 0
+ConvertsAllBy by n run = IfSome run.column (λ column. IsHeaderFault by column None
+    × (row_records : List CsvRecord) × AreRowRecords by.layout column row_records × WritesRows by (header_text by column) row_records n run.output)
 
 -- all of the line of names was written, if there is to be one, and perhaps more
-abbrev pub HasNames : Layout → Output → Type 0
-HasNames layout out = (rest : List ℕ) × Appends out.held out.held' (names_line layout ++ rest)
+abbrev pub HasNames : By → Output → Type 0
+HasNames by out = (rest : List ℕ) × Appends out.held out.held' (names_line by.layout by.releases.old ++ rest)
 
 -- The header has a fault, as row 0: the conversion ends there. Nothing was written but these bytes, and no fault was noted.
-pub record EndsAtHeader (layout : Layout) (files : List File) (column : List ℕ) (why : RunStop) (bytes : List ℕ) (out : Output) : Type 0 where
+pub record EndsAtHeader (by : By) (column : List ℕ) (why : RunStop) (bytes : List ℕ) (out : Output) : Type 0 where
   pub kind : RowKind
   pub is : why ≡ stop.Row 0 kind
-  pub fault : IsHeaderFault layout files column (Some kind)
+  pub fault : IsHeaderFault by column (Some kind)
   pub wrote : Appends out.held out.held' bytes
   pub noted : Notes out.log out.log' []
 
@@ -137,27 +138,27 @@ pub record EndsBeforeRows (why : RunStop) (bytes : List ℕ) (out : Output) : Ty
   pub noted : Notes out.log out.log' []
 
 -- the column's header has no fault, or the run ended before its rows, when only these bytes were written
-abbrev pub PassesHeader : Layout → List File → List ℕ → RunStop → List ℕ → Output → Type 0
-PassesHeader layout files column why bytes out = IsHeaderFault layout files column None ⊎ EndsBeforeRows why bytes out
+abbrev pub PassesHeader : By → List ℕ → RunStop → List ℕ → Output → Type 0
+PassesHeader by column why bytes out = IsHeaderFault by column None ⊎ EndsBeforeRows why bytes out
 
--- by these releases, the conversion of the column ended early, after the line of names: at the header, or later
-abbrev pub EndsBy : {R W : Type 0} → Layout → ℕ → Option ℕ → RunStop → Run R W → Releases → Type 0
-EndsBy layout most limit why run releases = IfSome run.column (λ column.
-    EndsAtHeader layout releases.zones column why (names_line layout) run.output
-    ⊎ (PassesHeader layout releases.zones column why (names_line layout) run.output
-    × (row_records : List CsvRecord) × AreRowRecords layout column row_records × EndsIn layout releases most limit (header_text layout column) row_records why run.output × HasNames layout run.output))
+-- the conversion of the column ended early, after the line of names: at the header, or later
+abbrev pub EndsBy : {R W : Type 0} → By → RunStop → Run R W → Type 0
+EndsBy by why run = IfSome run.column (λ column.
+    EndsAtHeader by column why (names_line by.layout by.releases.old) run.output
+    ⊎ (PassesHeader by column why (names_line by.layout by.releases.old) run.output
+    × (row_records : List CsvRecord) × AreRowRecords by.layout column row_records × EndsIn by (header_text by column) row_records why run.output × HasNames by run.output))
 
 -- the log began with the own bytes of such a header of the column, where both are known
 abbrev pub LogBegan : (List ℕ → List ℕ) → Option (List ℕ) → Option (List ℕ) → Type 0
 LogBegan header known began = IfSome known (λ column. IfSome began (λ own. own ≡ header column))
 
--- The line of names could not be written: nothing was read of the column, and no fault was noted.
-pub record EndsAtNames {R W : Type 0} (layout : Layout) (why : RunStop) (run : Run R W) : Type 0 where
+-- This line of names could not be written: nothing was read of the column, and no fault was noted.
+pub record EndsAtNames {R W : Type 0} (line : List ℕ) (why : RunStop) (run : Run R W) : Type 0 where
   pub is : why ≡ stop.WriteFailed
   pub unread : run.reader' ≡ run.reader
   pub unnoted : run.output.log' ≡ run.output.log
   pub part : List ℕ
-  pub starts : StartsWith (names_line layout) part
+  pub starts : StartsWith line part
   pub wrote : Appends run.output.held run.output.held' part
 
 -- The zones grew as names were requested, until the end or until memory was refused. By all releases that rows may be made by then, `Ends`

@@ -10,7 +10,7 @@ use std::alloc::{AllocError, Global};
 use zic_base::{RowFault, RowKind};
 use zic_columns::laws::{column_records_are_read, records_are_one};
 use zic_files::Files;
-use zic_plan::{Header, Layout, MAX_BYTES, MAX_OF_PIECE, Plan};
+use zic_layouts::{Header, Layout, MAX_BYTES, MAX_OF_PIECE, Plan};
 
 /// The rows of a column up to the first that has a fault: their text, their number, and that fault.
 #[derive(Drop)]

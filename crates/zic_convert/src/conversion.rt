@@ -8,21 +8,22 @@ ghost use Rattle.zic_columns.specs.Own.{first_text};
 ghost use Rattle.zic_columns.specs.Round.{ArePiecesOf, PassesRecord, records_of, taken_records, unread};
 ghost use Rattle.zic_columns.specs.declared.pieces.TheConstants.{MAX_ROUND_PIECES};
 ghost use Rattle.zic_counted.specs.Counts.{HasFailedSince};
-ghost use Rattle.zic_plan.specs.declared.plan.TheConstants.{MAX_ROWS};
+ghost use Rattle.zic_layouts.specs.declared.plan.TheConstants.{MAX_ROWS};
 ghost use Rattle.zic_zones.specs.Zones.{zone_in};
-ghost use Rattle.zic_zones.specs.declared.releases.Releases.{Releases};
-ghost use Rattle.zic_layout_rows.specs.LayoutRows.{if_rejected};
-ghost use Rattle.zic_convert.specs.Column.{header_of, header_read, names_added, rejects_header};
+ghost use Rattle.zic_zones.specs.declared.zones.Releases.{Releases};
+ghost use Rattle.zic_piece_rows.specs.LayoutRows.{if_rejected};
+ghost use Rattle.zic_convert.specs.By.{by_of};
+ghost use Rattle.zic_convert.specs.Column.{header_of, header_read, names_added, names_line, rejects_header};
 ghost use Rattle.zic_convert.specs.Header.{fault_read};
 ghost use Rattle.zic_convert.specs.Convert.{IsCauseOf, IsCauseWithLog, WritesAll, WritesAt};
 ghost use Rattle.zic_convert.specs.Run.{ConvertsAllBy, EndsAtNames, EndsBy, EndsByZones, LogBegan};
 ghost use Rattle.zic_convert.specs.Run.{output_of, run_of};
 ghost use Rattle.zic_convert.specs.code.Halt.{IsCauseOfHalt, IsCauseWith, IsEnd, IsReadingStop, stop_of};
-ghost use Rattle.zic_convert.specs.code.Progress.{BeginsRows, ConvertsColumn, ConvertsRest};
+ghost use Rattle.zic_convert.specs.code.Progress.{BeginsRows, ConvertsColumn, ConvertsRest, taken_rows};
 ghost use Rattle.zic_convert.specs.code.Progress.{EndsInColumn, EndsInRest, HaltsAtBegin, HaltsAtHead, HaltsAtHeader};
 ghost use Rattle.zic_convert.specs.code.Progress.{EndsAtTaking, EndsInTaken, TakesNext, WritesTaken, header_passed, longest_of};
 ghost use Rattle.zic_convert.specs.code.Pieces.{AreConverted, IsCrew};
-ghost use Rattle.zic_convert.specs.code.Written.{EndsInRecords, WritesRecords};
+ghost use Rattle.zic_convert.specs.code.Written.{EndsInRecords, WritesRecords, numbered, writing};
 
 use crate::crew::{Converting, PieceRows};
 use crate::halt::Halt;
@@ -44,9 +45,9 @@ use zic_columns::laws::{column_records_are_read, first_record_is_alone};
 use zic_columns::{Column, PassStop, Round, Taken, Truncated};
 use zic_counted::Counted;
 use zic_files::Files;
-use zic_layout_rows::rejected_bytes;
+use zic_layouts::{Header, Layout, Plan, RowLog, Unnoted};
+use zic_piece_rows::rejected_bytes;
 use zic_pieces::{Gate, run_task};
-use zic_plan::{Header, Layout, Plan, RowLog, Unnoted};
 use zic_tzif::laws::files_answer_once;
 use zic_zones::{SourceZones, Zones};
 
@@ -160,21 +161,29 @@ fn convert_ready<
     requires few { length round ≤ MAX_ROUND_PIECES }
     requires cut { ArePiecesOf conversion.now.by.layout.now.delimiter
         conversion.now.by.plan.now.row_piece round }
-    ensures ok { IfOk result (WritesRecords conversion.now.by.layout.now (Z.known zones.now)
-        conversion.now.by.plan.now.max_rows next.now.left next.now.first
-        (taken_records conversion.now.by.layout.now.delimiter next.now.taken.now round.entry)
-        W.contents writer.old writer.new (L.noted log.old) (L.noted log.new)) }
-    ensures stop { IfErr result (EndsInRecords conversion.now.by.layout.now (Z.known zones.now)
-        conversion.now.by.plan.now.max_rows next.now.left next.now.first
-        (taken_records conversion.now.by.layout.now.delimiter next.now.taken.now round.entry)
-        W.contents writer.old writer.new (L.noted log.old) (L.noted log.new)) }
+    ensures ok { IfOk result (WritesRecords (by_of conversion.now.by.layout.now (Z.known zones.now)
+        conversion.now.by.plan.now.max_rows next.now.left) (writing W.contents writer.old writer.new
+        (L.noted log.old) (L.noted log.new)) (numbered next.now.first (taken_records
+        conversion.now.by.layout.now.delimiter next.now.taken.now round.entry))) }
+    ensures stop { IfErr result (EndsInRecords (by_of conversion.now.by.layout.now (Z.known
+        zones.now) conversion.now.by.plan.now.max_rows next.now.left) (writing W.contents writer.old
+        writer.new (L.noted log.old) (L.noted log.new)) (numbered next.now.first (taken_records
+        conversion.now.by.layout.now.delimiter next.now.taken.now round.entry))) }
     ensures began { L.began log.new ≡ L.began log.old }
     ensures log { IsErrOf result RunStop.LogFailed → L.failed log.new }
 {
-    if let Taken::OpenLine(line) = next.taken {
-        return write_open_line(&conversion.by, line, next.first, next.left, writer, log);
-    }
     let ready = zones.ready();
+    if let Taken::OpenLine(line) = next.taken {
+        return write_open_line(
+            &conversion.by,
+            &ready,
+            line,
+            next.first,
+            next.left,
+            writer,
+            log,
+        );
+    }
     let pieces = RowPieces::new(
         conversion.by.layout,
         &ready,
@@ -211,12 +220,14 @@ fn convert_taken<
     requires few { length round ≤ MAX_ROUND_PIECES }
     requires cut { ArePiecesOf conversion.now.by.layout.now.delimiter
         conversion.now.by.plan.now.row_piece round }
-    ensures ok { IfOk result (WritesTaken conversion.now.by.layout.now (Z.known zones.now)
-        conversion.now.by.plan.now.max_rows next.now.left next.now.first next.now.taken.now round.entry
-        W.contents writer.old writer.new (L.noted log.old) (L.noted log.new)) }
-    ensures stop { IfErr result (EndsInTaken conversion.now.by.layout.now (Z.known zones.now)
-        conversion.now.by.plan.now.max_rows next.now.left next.now.first next.now.taken.now round.entry
-        W.contents writer.old writer.new (L.noted log.old) (L.noted log.new)) }
+    ensures ok { IfOk result (WritesTaken (by_of conversion.now.by.layout.now (Z.known zones.now)
+        conversion.now.by.plan.now.max_rows next.now.left) (writing W.contents writer.old writer.new
+        (L.noted log.old) (L.noted log.new)) (taken_rows next.now.first next.now.taken.now
+        round.entry)) }
+    ensures stop { IfErr result (EndsInTaken (by_of conversion.now.by.layout.now (Z.known zones.now)
+        conversion.now.by.plan.now.max_rows next.now.left) (writing W.contents writer.old writer.new
+        (L.noted log.old) (L.noted log.new)) (taken_rows next.now.first next.now.taken.now
+        round.entry)) }
     ensures began { L.began log.new ≡ L.began log.old }
     ensures cause { IfErr result (λ stop.
         IsCauseWith (L.failed log.new) writer.old writer.new (Halt.Stop stop)) }
@@ -261,15 +272,17 @@ fn convert_rounds<
     requires by { column.old.by ≡ conversion.now.by.layout.now.records }
     requires delimiter { column.old.delimiter ≡ conversion.now.by.layout.now.delimiter }
     ensures grown { IfOk result (λ _. Z.grown zones.old zones.new) }
-    ensures all { (releases : Releases) → Z.may_be zones.new releases → IfOk result (λ n. ConvertsRest
-        conversion.now.by.layout.now conversion.now.by.plan.now.max_rows conversion.now.max_faults
-        (unread R.remaining column.old) n (output_of W.contents L.noted writer.old writer.new
-        log.old log.new) releases) }
+    ensures all { (releases : Releases) → Z.may_be zones.new releases → IfOk result (λ n.
+        ConvertsRest (by_of conversion.now.by.layout.now releases
+        conversion.now.by.plan.now.max_rows conversion.now.max_faults) (unread R.remaining
+        column.old) n (output_of W.contents L.noted writer.old writer.new
+        log.old log.new)) }
     ensures flushed { IfOk result (λ _. writer.new.failures ≡ writer.old.failures) }
     ensures halt { IfErr result (λ halt. EndsByZones Z.grown Z.broken Z.may_be zones.old zones.new
-        (stop_of halt) (EndsInRest conversion.now.by.layout.now conversion.now.by.plan.now.max_rows
-        conversion.now.max_faults (unread R.remaining column.old) (stop_of halt)
-        (output_of W.contents L.noted writer.old writer.new log.old log.new))) }
+        (stop_of halt) (λ releases. EndsInRest (by_of conversion.now.by.layout.now releases
+        conversion.now.by.plan.now.max_rows conversion.now.max_faults) (unread R.remaining
+        column.old) (stop_of halt) (output_of W.contents L.noted writer.old writer.new log.old
+        log.new))) }
     ensures began { L.began log.new ≡ L.began log.old }
     ensures cause { IfErr result (IsCauseWith (L.failed log.new) writer.old writer.new) }
 {
@@ -389,9 +402,10 @@ fn begin_rows<Z: Zones, R: Read + Drop, W: Write, L: RowLog>(
     ensures delimiter { IfOk result (λ column. column.delimiter ≡ by.now.layout.now.delimiter) }
     ensures begins { IfOk result (λ column. IfSome (R.remaining reader)
         (λ bytes. BeginsRows by.now.layout.now bytes (unread R.remaining column))) }
-    ensures head { IfOk result (λ _. IfSome (R.remaining reader) (λ bytes.
+    ensures head { IfOk result (λ _. (releases : Releases) → Z.may_be zones.new releases
+        → IfSome (R.remaining reader) (λ bytes.
         Appends (W.contents writer.old.inner) (W.contents writer.new.inner)
-        (header_of by.now.layout.now.start (names_added by.now.layout.now)
+        (header_of by.now.layout.now.start (names_added by.now.layout.now releases.old)
         (header_read by.now.layout.now bytes)))) }
     ensures grown { IfOk result (λ _. Z.grown zones.old zones.new) }
     ensures none { IfOk result (λ _. (releases : Releases) → Z.may_be zones.new releases
@@ -399,8 +413,8 @@ fn begin_rows<Z: Zones, R: Read + Drop, W: Write, L: RowLog>(
         (λ bytes. fault_read by.now.layout.now releases.zones bytes ≡ None)) }
     ensures flushed { IfOk result (λ _. writer.new.failures ≡ writer.old.failures) }
     ensures halt { IfErr result (λ halt. EndsByZones Z.grown Z.broken Z.may_be zones.old zones.new
-        (stop_of halt) (λ releases. HaltsAtHead W.contents writer.old writer.new
-        by.now.layout.now releases.zones (R.remaining reader) halt)) }
+        (stop_of halt) (λ releases. HaltsAtHead W.contents writer.old writer.new (by_of
+        by.now.layout.now releases by.now.plan.now.max_rows None) (R.remaining reader) halt)) }
     ensures cause { IfErr result (IsCauseOfHalt writer.old writer.new) }
 {
     // The delimiter is no double quote and ends no line.
@@ -411,7 +425,8 @@ fn begin_rows<Z: Zones, R: Read + Drop, W: Write, L: RowLog>(
     let header = kept_of(by.layout.header, header);
     let own = rejected_bytes(by.alloc, by.layout, &header)?;
     log.begin(&own);
-    write_header(writer, by.layout, header)?;
+    let releases = zones.ready();
+    write_header(writer, by.layout, &releases.old, header)?;
     Ok(column)
 }
 
@@ -436,15 +451,15 @@ pub(crate) fn convert_rows<
 ) -> Result<u64, Halt>
     requires crew { IsCrew (F.pre conversion.now.crew.now) (F.post conversion.now.crew.now) }
     ensures grown { IfOk result (λ _. Z.grown zones.old zones.new) }
-    ensures all { (releases : Releases) → Z.may_be zones.new releases → IfOk result (λ n. ConvertsColumn
-        conversion.now.by.layout.now conversion.now.by.plan.now.max_rows conversion.now.max_faults
-        (R.remaining reader) n (output_of W.contents L.noted writer.old writer.new log.old log.new)
-        releases) }
+    ensures all { (releases : Releases) → Z.may_be zones.new releases → IfOk result (λ n.
+        ConvertsColumn (by_of conversion.now.by.layout.now releases
+        conversion.now.by.plan.now.max_rows conversion.now.max_faults) (R.remaining reader) n
+        (output_of W.contents L.noted writer.old writer.new log.old log.new)) }
     ensures flushed { IfOk result (λ _. writer.new.failures ≡ writer.old.failures) }
     ensures halt { IfErr result (λ halt. EndsByZones Z.grown Z.broken Z.may_be zones.old zones.new
-        (stop_of halt) (EndsInColumn conversion.now.by.layout.now conversion.now.by.plan.now.max_rows
-        conversion.now.max_faults (R.remaining reader) (stop_of halt)
-        (output_of W.contents L.noted writer.old writer.new log.old log.new))) }
+        (stop_of halt) (λ releases. EndsInColumn (by_of conversion.now.by.layout.now releases
+        conversion.now.by.plan.now.max_rows conversion.now.max_faults) (R.remaining reader) (stop_of
+        halt) (output_of W.contents L.noted writer.old writer.new log.old log.new))) }
     ensures began { LogBegan (rejects_header conversion.now.by.layout.now) (R.remaining reader)
         (L.began log.new)
         ⊎ (IsErr result × (L.began log.new ≡ L.began log.old) × (L.noted log.new ≡ L.noted log.old)) }
@@ -530,7 +545,7 @@ fn ended<R>(
 /// `max_faults` is a number, it goes on after this many rows with a fault. The next ends the conversion,
 /// and is neither written nor noted.
 ///
-/// Where the layout's `written` says so, only the rows are written that another release answers
+/// Where the zones are compared with those of another release, only the rows are written that it answers
 /// differently. What it answers stands at the end of the row, in fields whose names begin with `old_`,
 /// which are empty where the row has a fault by that release. Faults are those by the first release.
 ///
@@ -585,20 +600,23 @@ pub fn convert_column<
     log: &mut L,
 ) -> Result<u64, RunStop>
     ensures grown { IfOk result (λ _. Z.grown zones.old zones.new) }
-    ensures ok { (releases : Releases) → Z.may_be zones.new releases → IfOk result (λ n. ConvertsAllBy
-        conversion.now.layout.now conversion.now.plan.now.max_rows conversion.now.max_faults n
-        (run_of R.remaining W.contents L.noted reader.old reader.new writer.old writer.new log.old
-        log.new) releases) }
+    ensures ok { (releases : Releases) → Z.may_be zones.new releases → IfOk result (λ n.
+        ConvertsAllBy (by_of conversion.now.layout.now releases conversion.now.plan.now.max_rows
+        conversion.now.max_faults) n (run_of R.remaining W.contents L.noted reader.old reader.new
+        writer.old writer.new log.old
+        log.new)) }
     ensures within { IfOk result
         (λ _. reader.new.taken ≤ reader.old.taken + conversion.now.plan.now.max_bytes) }
     ensures unfailed { IfOk result (λ _. HasFailedSince reader.new reader.old.failures → ⊥) }
     ensures flushed { IfOk result (λ _. writer.new.failures ≡ writer.old.failures) }
     ensures err { IfErr result (λ stop.
-        (EndsAtNames conversion.now.layout.now stop (run_of R.remaining W.contents L.noted
-        reader.old reader.new writer.old writer.new log.old log.new) × (zones.new ≡ zones.old))
+        (EndsAtNames (names_line conversion.now.layout.now (Z.known zones.old).old) stop
+        (run_of R.remaining W.contents L.noted reader.old reader.new writer.old writer.new log.old
+        log.new) × (zones.new ≡ zones.old))
         ⊎ EndsByZones Z.grown Z.broken Z.may_be zones.old zones.new stop
-        (EndsBy conversion.now.layout.now conversion.now.plan.now.max_rows conversion.now.max_faults
-        stop (run_of R.remaining W.contents L.noted reader.old reader.new writer.old writer.new log.old
+        (λ releases. EndsBy (by_of conversion.now.layout.now releases
+        conversion.now.plan.now.max_rows conversion.now.max_faults) stop (run_of R.remaining
+        W.contents L.noted reader.old reader.new writer.old writer.new log.old
         log.new))) }
     ensures began { LogBegan (rejects_header conversion.now.layout.now)
         (R.remaining reader.old.inner) (L.began log.new)
@@ -608,7 +626,7 @@ pub fn convert_column<
 {
     let failures = reader.failures();
     let taken = reader.taken();
-    write_names(writer, conversion.layout)?;
+    write_names(writer, conversion.layout, &*zones)?;
     let crew = |pieces: &RowPieces<'_, '_, SpareTexts>| -> PieceRows
         requires { length pieces.now.pieces ≤ MAX_ROUND_PIECES }
         ensures { AreConverted pieces.entry.now result }

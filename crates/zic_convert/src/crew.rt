@@ -5,7 +5,7 @@ ghost use Rattle.zic_pieces.specs.Task.{AreValues, IsStop};
 
 use crate::header::ReadBy;
 use std::alloc::Global;
-use zic_layout_rows::Rows;
+use zic_piece_rows::Rows;
 use zic_pieces::{PieceStop, Task, TaskStop};
 
 /// The rows of the pieces of a round, or the least piece that has none, and why.

@@ -37,7 +37,7 @@ impl From<RunStop> for Halt {
 impl From<AllocError> for Halt {
     ghost use Rattle.std.specs.Prelude.{◌≡◌};
     ghost use Rattle.zic_convert.specs.declared.halt.Halt.TheVariants as halt;
-    ghost use Rattle.zic_base.specs.declared.run_stop.RunStop.TheVariants as stop;
+    ghost use Rattle.zic_base.specs.declared.stops.RunStop.TheVariants as stop;
 
     ghost from_gives = { λ _ e. e ≡ halt.Stop stop.Memory };
 

@@ -2,8 +2,8 @@
 
 ghost use Rattle.std.specs.Prelude.{◌≡◌, ◌∷◌, [], None, IfErr, IfOk, OnOk};
 ghost use Rattle.zic_columns.specs.Own.{CsvRecord, csv_records};
-ghost use Rattle.zic_layout_rows.specs.LayoutRows.{fault_by};
-ghost use Rattle.zic_zones.specs.declared.releases.Releases.{Releases};
+ghost use Rattle.zic_piece_rows.specs.LayoutRows.{fault_by};
+ghost use Rattle.zic_zones.specs.declared.zones.Releases.{Releases};
 ghost use Rattle.zic_convert.specs.Header.{header_kind};
 ghost use Rattle.zic_convert.specs.code.Progress.{EndsNoLine, HaltsAtCheck, IsOwnFault, is_open_by, kept_of};
 
@@ -13,9 +13,9 @@ use std::alloc::{AllocError, Global};
 use zic_base::{RowKind, RunStop};
 use zic_columns::laws::first_record_is_alone;
 use zic_columns::{OnePiece, is_open_line};
-use zic_layout_rows::{Piece, rows_of_piece};
-use zic_plan::{Header, Layout, Plan, Records};
-use zic_rows::RowText;
+use zic_layouts::{Header, Layout, Plan, Records};
+use zic_piece_rows::{Piece, rows_of_piece};
+use zic_row_text::RowText;
 use zic_zones::{Releases, Zones};
 
 /// What a column is read by.

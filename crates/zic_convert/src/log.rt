@@ -13,4 +13,4 @@ pub(crate) fn note_all<L: RowLog>(log: &mut L, faults: &[FaultyRow])
     }
 }
 
-use zic_plan::{FaultyRow, RowLog};
+use zic_layouts::{FaultyRow, RowLog};

@@ -4,20 +4,21 @@ ghost use Rattle.std.specs.Prelude.{◌≡◌, ◌∷◌, [], false, ℕ, List, 
 ghost use Rattle.zic_columns.specs.Own.{CsvRecord};
 ghost use Rattle.zic_columns.specs.Round.{may_have};
 ghost use Rattle.zic_files.specs.File.{File};
-ghost use Rattle.zic_plan.specs.Noted.{RowNote};
-ghost use Rattle.zic_zones.specs.declared.releases.Releases.{Releases};
-ghost use Rattle.zic_layout_rows.specs.LayoutRows.{ends_by};
-ghost use Rattle.zic_plan.specs.declared.plan.TheConstants.{MAX_BYTES};
+ghost use Rattle.zic_layouts.specs.Noted.{RowNote};
+ghost use Rattle.zic_zones.specs.declared.zones.Releases.{Releases};
+ghost use Rattle.zic_piece_rows.specs.LayoutRows.{ends_by};
+ghost use Rattle.zic_layouts.specs.declared.plan.TheConstants.{MAX_BYTES};
+ghost use Rattle.zic_convert.specs.By.{by_of};
 ghost use Rattle.zic_convert.specs.Column.{read_of_lines};
 ghost use Rattle.zic_convert.specs.code.Halt.{IsOwnCause};
 ghost use Rattle.zic_convert.specs.code.Progress.{longest_of};
-ghost use Rattle.zic_convert.specs.code.Written.{EndsInRecords};
+ghost use Rattle.zic_convert.specs.code.Written.{EndsInRecords, numbered, writing};
 
 use crate::output::stop_at;
 use std::io::Write;
 use zic_base::{RowKind, RunStop};
 use zic_counted::Counted;
-use zic_plan::{AtFault, Layout, MAX_BYTES, Records};
+use zic_layouts::{AtFault, Layout, MAX_BYTES, Records};
 
 /// How many bytes more than a record may have are read of a line: one, and the three of a byte order mark
 /// before it.
@@ -64,8 +65,8 @@ fn long_kind(most: u64, number: u64) -> RowKind
 pub(crate) fn end_at_long<W: Write>(writer: &mut Counted<W>, most: u64, number: u64) -> RunStop
     ensures stop { (layout : Layout) (releases : Releases) (limit : Option ℕ) (given : CsvRecord)
         (log : Option (List RowNote)) → may_have (longest_of layout) (length given.own) ≡ false
-        → EndsInRecords layout releases most limit number (given ∷ []) W.contents writer.old writer.new
-        log log result }
+        → EndsInRecords (by_of layout releases most limit) (writing W.contents writer.old writer.new
+        log log) (numbered number (given ∷ [])) result }
     ensures cause { IsOwnCause writer.old writer.new result }
 {
     stop_at(writer, number, long_kind(most, number))

@@ -1,7 +1,8 @@
 //! Converts columns in memory, on the calling thread.
 
-ghost use Rattle.std.specs.Prelude.{◌≡◌, ◌≤◌, IfOk, length};
+ghost use Rattle.std.specs.Prelude.{◌≡◌, ◌≤◌, IfOk, None, length};
 ghost use Rattle.zic_files.specs.Sound.{AreSoundFiles};
+ghost use Rattle.zic_convert.specs.By.{by_of};
 ghost use Rattle.zic_convert.specs.Memory.{IsConvertedTo};
 ghost use Rattle.zic_convert.specs.code.Memory.{AreMade};
 ghost use Rattle.zic_convert.specs.code.Pieces.{AreConverted};
@@ -19,7 +20,7 @@ use std::alloc::{AllocError, Global};
 use zic_base::{RowFault, RunStop};
 use zic_counted::Counted;
 use zic_files::Files;
-use zic_plan::{FaultyRow, Layout, Plan};
+use zic_layouts::{FaultyRow, Layout, Plan};
 use zic_zones::SourceZones;
 
 /// The rows of a column by a layout, up to the first that ends the run: the text of the header and of
@@ -69,13 +70,13 @@ fn rows_by_zones(
     column: &[u8],
 ) -> Result<LayoutRows, AllocError>
     requires sound { AreSoundFiles zones.old }
-    ensures { IfOk result (λ rows. IsConvertedTo (alone zones.old) by.now.layout.now
-        by.now.plan.now.max_rows column.now rows.text.items rows.count rows.fault rows.faults.items) }
+    ensures { IfOk result (IsConvertedTo (by_of by.now.layout.now (alone zones.old)
+        by.now.plan.now.max_rows None) column.now) }
 {
     let alloc = by.alloc;
     let mut writer = Counted::new(Vec::new(alloc));
     let mut notes = Notes::new(alloc);
-    if write_names(&mut writer, by.layout).is_err() {
+    if write_names(&mut writer, by.layout, &*zones).is_err() {
         return Err(AllocError);
     }
     let crew = |pieces: &RowPieces<'_, '_, NewTexts>| -> PieceRows
@@ -94,8 +95,7 @@ fn rows_by_zones(
 /// Converts a column in memory by a layout, on the calling thread, to the header and the rows of
 /// [`crate::convert_column`]. Returns those up to the first that ends the run, and the faults; the header is
 /// the row 0. The plan says how many rows and bytes the column may have; its workers and pieces change
-/// nothing. There is no other release: where the layout compares, it answers nothing, and its fields are
-/// empty.
+/// nothing. There is no other release.
 ///
 /// # Errors
 ///
@@ -107,8 +107,8 @@ pub fn rows_by_layout(
     layout: &Layout,
     column: &[u8],
 ) -> Result<LayoutRows, AllocError>
-    ensures rows { IfOk result (λ rows. IsConvertedTo (alone files.now) layout.now plan.now.max_rows
-        column.now rows.text.items rows.count rows.fault rows.faults.items) }
+    ensures rows { IfOk result (IsConvertedTo (by_of layout.now (alone files.now) plan.now.max_rows
+        None) column.now) }
     ensures within { IfOk result (λ _. length column.now ≤ plan.now.max_bytes) }
 {
     // Each file of a release is sound.

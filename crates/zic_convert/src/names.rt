@@ -5,7 +5,8 @@ ghost use Rattle.arrayvec.specs.ArrayVec.{array_vec_len};
 ghost use Rattle.zic_convert.specs.Column.{added_names, delimited, names_added, row_names, time_name};
 
 use arrayvec::ArrayVec;
-use zic_plan::{Layout, Style, TimeFrom, Written};
+use zic_layouts::{Layout, Style, TimeFrom};
+use zic_zones::RowZones;
 
 /// The room for a line of names, in bytes. The longest line has 101.
 const NAMES_ROOM: usize = 160;
@@ -71,24 +72,24 @@ fn push_names(text: &mut Names, delimiter: u8, prefix: &[u8], names: &[&[u8]])
 }
 
 /// Appends the names of the fields that a row adds to its record, each after the layout's delimiter:
-/// also those of another release's fields, where rows are compared.
-pub(crate) fn push_added(text: &mut Names, layout: &Layout)
+/// also those of another release's fields, where there is one.
+pub(crate) fn push_added(text: &mut Names, layout: &Layout, old: &Option<RowZones<'_>>)
     requires { array_vec_len text.old + 136 ≤ NAMES_ROOM }
-    ensures items { text.new.items ≡ text.old.items ++ names_added layout.now }
+    ensures items { text.new.items ≡ text.old.items ++ names_added layout.now old.now }
     ensures len { array_vec_len text.new ≤ array_vec_len text.old + 136 }
 {
     let delimiter = layout.delimiter.byte();
     let names = added_names(layout.style, layout.from);
     push_names(text, delimiter, b"", names);
-    match layout.written {
-        Written::All => {}
-        Written::Moved => push_names(text, delimiter, b"old_", names),
+    match old {
+        None => {}
+        Some(_) => push_names(text, delimiter, b"old_", names),
     }
 }
 
 /// Returns the line of the names of all fields of rows that begin with a zone's name.
-pub(crate) fn row_names(layout: &Layout) -> Names
-    ensures { result.items ≡ row_names layout.now }
+pub(crate) fn row_names(layout: &Layout, old: &Option<RowZones<'_>>) -> Names
+    ensures { result.items ≡ row_names layout.now old.now }
 {
     let mut text = Names::new();
     text.try_extend_from_slice(b"zone").unwrap();
@@ -98,7 +99,7 @@ pub(crate) fn row_names(layout: &Layout) -> Names
         b"",
         time_name(layout.from),
     );
-    push_added(&mut text, layout);
+    push_added(&mut text, layout, old);
     text.push(b'\n');
     text
 }

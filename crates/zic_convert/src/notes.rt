@@ -4,7 +4,7 @@ ghost use Rattle.std.specs.Prelude.{◌≡◌, ◌++◌, ◌∷◌, [], IfOk, On
 
 use std::alloc::{AllocError, Global};
 use std::marker::Model;
-use zic_plan::{FaultDetail, FaultyRow, Noted, RowLog};
+use zic_layouts::{FaultDetail, FaultyRow, Noted, RowLog};
 
 /// A log that keeps rows with a fault. Clauses see what was noted, also where memory to keep it was refused.
 #[derive(Drop)]
@@ -18,7 +18,7 @@ pub(crate) struct Notes {
 
 impl Model for Notes {
     ghost use Rattle.std.specs.Prelude.{◌≡◌, false, List};
-    ghost use Rattle.zic_plan.specs.Noted.{RowNote};
+    ghost use Rattle.zic_layouts.specs.Noted.{RowNote};
 
     ghost Value = { List RowNote };
 

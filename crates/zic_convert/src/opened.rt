@@ -3,12 +3,12 @@
 ghost use Rattle.std.specs.Prelude.{◌≡◌, ◌+◌, ◌≤◌, ◌∷◌, ◌++◌, [], List, IfOk, IfErr, IsErrOf, Some};
 ghost use Rattle.zic_columns.specs.Lines.{open_record};
 ghost use Rattle.zic_files.specs.File.{File};
-ghost use Rattle.zic_plan.specs.declared.plan.TheConstants.{MAX_ROWS};
-ghost use Rattle.zic_zones.specs.declared.releases.Releases.{Releases};
+ghost use Rattle.zic_layouts.specs.declared.plan.TheConstants.{MAX_ROWS};
+ghost use Rattle.zic_convert.specs.By.{by_of};
 ghost use Rattle.zic_convert.specs.code.Row.{unless_compared};
-ghost use Rattle.zic_layout_rows.specs.LayoutRows.{fault_by, if_rejected, unless_rejected};
-ghost use Rattle.zic_layout_rows.specs.PieceRows.{AreRowsOf};
-ghost use Rattle.zic_convert.specs.code.Written.{EndsInRecords, WritesRecords};
+ghost use Rattle.zic_piece_rows.specs.LayoutRows.{fault_by, if_rejected, unless_rejected};
+ghost use Rattle.zic_piece_rows.specs.PieceRows.{AreRowsOf};
+ghost use Rattle.zic_convert.specs.code.Written.{EndsInRecords, WritesRecords, numbered, writing};
 
 use crate::header::ReadBy;
 use crate::output::{stop_at, write_rows};
@@ -18,9 +18,10 @@ use std::io::Write;
 use zic_base::{RowFault, RowKind, RunStop};
 use zic_columns::{TakenLine, may_have};
 use zic_counted::Counted;
-use zic_layout_rows::{Rows, ends_run, push_own, rejected_bytes};
-use zic_plan::{AtFault, FaultDetail, FaultyRow, Layout, RowLog, Written};
-use zic_rows::RowText;
+use zic_layouts::{AtFault, FaultDetail, FaultyRow, Layout, RowLog};
+use zic_piece_rows::{Rows, ends_run, push_own, rejected_bytes};
+use zic_row_text::RowText;
+use zic_zones::{Releases, RowZones};
 
 /// Returns the fault of an open line, the row of this number: `TooManyRows` if that is above `most`, else
 /// `RowTooLong` if the line is too long, else `RowQuote`.
@@ -37,16 +38,21 @@ pub(crate) fn open_kind(layout: &Layout, most: u64, number: u64, line: &[u8]) ->
     RowKind::RowQuote
 }
 
-/// Returns what an open line adds to the text of rows: its own bytes, unless it is rejected, or only
-/// rows are written that another release answers differently.
-fn open_text(alloc: Global, layout: &Layout, line: &[u8]) -> Result<Vec<u8>, AllocError>
-    ensures { IfOk result (λ text. text.items ≡ unless_compared layout.now.written
+/// Returns what an open line adds to the text of rows: its own bytes, unless it is rejected, or there is
+/// another release, which doesn't answer it differently.
+fn open_text(
+    alloc: Global,
+    layout: &Layout,
+    old: &Option<RowZones<'_>>,
+    line: &[u8],
+) -> Result<Vec<u8>, AllocError>
+    ensures { IfOk result (λ text. text.items ≡ unless_compared old.now
         (unless_rejected layout.now.at_fault (line.now ++ 10 ∷ []))) }
 {
     let mut text = Vec::new(alloc);
-    match (layout.at_fault, layout.written) {
-        (AtFault::Reject, _) | (_, Written::Moved) => {}
-        (AtFault::End | AtFault::GoOn, Written::All) => push_own(&mut text, line, b"")?,
+    match (layout.at_fault, old) {
+        (AtFault::Reject, _) | (_, Some(_)) => {}
+        (AtFault::End | AtFault::GoOn, None) => push_own(&mut text, line, b"")?,
     }
     Ok(text)
 }
@@ -85,12 +91,13 @@ fn open_note(
 fn open_row(
     alloc: Global,
     layout: &Layout,
+    releases: &Releases<'_>,
     most: u64,
     number: u64,
     line: &TakenLine,
 ) -> Result<Rows, AllocError>
-    ensures { IfOk result (λ rows. (releases : Releases) → AreRowsOf layout.now releases most number
-        (open_record line.now.own.items ∷ []) rows) }
+    ensures { IfOk result (AreRowsOf layout.now releases.now most number
+        (open_record line.now.own.items ∷ [])) }
 {
     let mut rows = Rows::new(alloc, RowText::new(alloc));
     let own: &[u8] = &line.own;
@@ -99,7 +106,7 @@ fn open_row(
         rows.fault = Some(kind);
         return Ok(rows);
     }
-    let text = open_text(alloc, layout, own)?;
+    let text = open_text(alloc, layout, &releases.old, own)?;
     rows.text.push(&text)?;
     rows.count = 1;
     let fault = RowFault { row: number, kind };
@@ -117,6 +124,7 @@ fn open_row(
 /// the row is written.
 pub(crate) fn write_open_line<W: Write, L: RowLog>(
     by: &ReadBy<'_>,
+    releases: &Releases<'_>,
     line: &TakenLine,
     number: u64,
     left: Option<u64>,
@@ -124,19 +132,17 @@ pub(crate) fn write_open_line<W: Write, L: RowLog>(
     log: &mut L,
 ) -> Result<Tally, RunStop>
     requires { number ≤ MAX_ROWS + 1 }
-    ensures ok { IfOk result (λ tally. (releases : Releases) → WritesRecords
-        by.now.layout.now releases by.now.plan.now.max_rows left number
-        (open_record line.now.own.items ∷ [])
-        W.contents writer.old writer.new (L.noted log.old) (L.noted log.new) tally) }
-    ensures stop { IfErr result (λ why. (releases : Releases) → EndsInRecords
-        by.now.layout.now releases by.now.plan.now.max_rows left number
-        (open_record line.now.own.items ∷ [])
-        W.contents writer.old writer.new (L.noted log.old) (L.noted log.new) why) }
+    ensures ok { IfOk result (WritesRecords (by_of by.now.layout.now releases.now
+        by.now.plan.now.max_rows left) (writing W.contents writer.old writer.new (L.noted log.old)
+        (L.noted log.new)) (numbered number (open_record line.now.own.items ∷ []))) }
+    ensures stop { IfErr result (EndsInRecords (by_of by.now.layout.now releases.now
+        by.now.plan.now.max_rows left) (writing W.contents writer.old writer.new (L.noted log.old)
+        (L.noted log.new)) (numbered number (open_record line.now.own.items ∷ []))) }
     ensures began { L.began log.new ≡ L.began log.old }
     ensures log { IsErrOf result RunStop.LogFailed → L.failed log.new }
 {
     let most = by.plan.max_rows();
-    let Ok(row) = open_row(by.alloc, by.layout, most, number, line) else {
+    let Ok(row) = open_row(by.alloc, by.layout, releases, most, number, line) else {
         return Err(RunStop::Memory);
     };
     let rows = [row];

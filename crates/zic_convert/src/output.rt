@@ -2,10 +2,11 @@
 
 ghost use Rattle.std.specs.Prelude.{◌≡◌, ◌+◌, ◌^◌, ◌<◌, [], IfOk, OnOk, IfErr, IsErrOf};
 ghost use Rattle.zic_counted.specs.Written.{FailsWithin};
-ghost use Rattle.zic_plan.specs.declared.layout.RowStart.TheVariants as start;
+ghost use Rattle.zic_layouts.specs.declared.layout.RowStart.TheVariants as start;
+ghost use Rattle.zic_convert.specs.By.{by_of};
 ghost use Rattle.zic_convert.specs.Column.{header_of, names_added, names_line, names_of};
 ghost use Rattle.zic_convert.specs.code.Pieces.{joined};
-ghost use Rattle.zic_convert.specs.code.Written.{EndsAtHead, EndsInPieces, IsStopAt, Wrote, WroteRows};
+ghost use Rattle.zic_convert.specs.code.Written.{EndsAtHead, EndsInPieces, IsStopAt, Wrote, WroteRows, writing};
 
 use crate::log::note_all;
 use crate::names::{Names, push_added, row_names};
@@ -13,20 +14,25 @@ use std::alloc::AllocError;
 use std::io::Write;
 use zic_base::{RowKind, RunStop};
 use zic_counted::{Counted, WriteFailed};
-use zic_layout_rows::Rows;
-use zic_plan::{Header, Layout, RowLog, RowStart};
+use zic_layouts::{Header, Layout, RowLog, RowStart};
+use zic_piece_rows::Rows;
+use zic_zones::{RowZones, Zones};
 
 /// Adds the names of the fields that a row adds to its record, and a newline, to the own bytes of a
 /// header. Does nothing where there is no header.
-fn add_names(line: &mut Vec<u8>, layout: &Layout) -> Result<(), AllocError>
+fn add_names(
+    line: &mut Vec<u8>,
+    layout: &Layout,
+    old: &Option<RowZones<'_>>,
+) -> Result<(), AllocError>
     ensures { OnOk result (line.new.items
-        ≡ header_of start.Record (names_added layout.now) line.old.items) }
+        ≡ header_of start.Record (names_added layout.now old.now) line.old.items) }
 {
     if line.is_empty() {
         return Ok(());
     }
     let mut names = Names::new();
-    push_added(&mut names, layout);
+    push_added(&mut names, layout, old);
     line.extend_from_slice(names.as_slice())?;
     line.push(b'\n')?;
     Ok(())
@@ -38,9 +44,13 @@ fn add_names(line: &mut Vec<u8>, layout: &Layout) -> Result<(), AllocError>
 /// # Errors
 ///
 /// Fails where memory is refused.
-fn header_line(layout: &Layout, own: Vec<u8>) -> Result<Vec<u8>, AllocError>
+fn header_line(
+    layout: &Layout,
+    old: &Option<RowZones<'_>>,
+    own: Vec<u8>,
+) -> Result<Vec<u8>, AllocError>
     ensures { IfOk result (λ line. line.items
-        ≡ header_of layout.now.start (names_added layout.now) own.items) }
+        ≡ header_of layout.now.start (names_added layout.now old.now) own.items) }
 {
     let mut line = own;
     match layout.start {
@@ -49,7 +59,7 @@ fn header_line(layout: &Layout, own: Vec<u8>) -> Result<Vec<u8>, AllocError>
             Ok(line)
         }
         RowStart::Record => {
-            add_names(&mut line, layout)?;
+            add_names(&mut line, layout, old)?;
             Ok(line)
         }
     }
@@ -90,17 +100,24 @@ fn names_of(start: RowStart, header: Header, line: &[u8]) -> &[u8]
 }
 
 /// Writes the line of names before rows that begin with a name and an instant, or a local time, where
-/// the layout has a header. Doesn't flush.
+/// the layout has a header: of the rows that these zones give. Doesn't flush.
 ///
 /// # Errors
 ///
 /// `WriteFailed`.
-pub(crate) fn write_names<W: Write>(writer: &mut Counted<W>, layout: &Layout) -> Result<(), RunStop>
-    ensures ok { OnOk result (Wrote W.contents writer.old writer.new (names_line layout.now)) }
+pub(crate) fn write_names<W: Write, Z: Zones>(
+    writer: &mut Counted<W>,
+    layout: &Layout,
+    zones: &Z,
+) -> Result<(), RunStop>
+    ensures ok { OnOk result (Wrote W.contents writer.old writer.new (names_line layout.now
+        (Z.known zones.now).old)) }
     ensures err { IfErr result (λ stop. (stop ≡ RunStop.WriteFailed)
-        × FailsWithin W.contents writer.old writer.new (names_line layout.now)) }
+        × FailsWithin W.contents writer.old writer.new (names_line layout.now
+        (Z.known zones.now).old)) }
 {
-    let line = row_names(layout);
+    let releases = zones.ready();
+    let line = row_names(layout, &releases.old);
     write_all(
         writer,
         names_of(layout.start, layout.header, line.as_slice()),
@@ -116,14 +133,15 @@ pub(crate) fn write_names<W: Write>(writer: &mut Counted<W>, layout: &Layout) ->
 pub(crate) fn write_header<W: Write>(
     writer: &mut Counted<W>,
     layout: &Layout,
+    old: &Option<RowZones<'_>>,
     own: Vec<u8>,
 ) -> Result<(), RunStop>
     ensures ok { OnOk result (Wrote W.contents writer.old writer.new (header_of layout.now.start
-        (names_added layout.now) own.items)) }
+        (names_added layout.now old.now) own.items)) }
     ensures err { IfErr result (EndsAtHead W.contents writer.old writer.new (header_of
-        layout.now.start (names_added layout.now) own.items)) }
+        layout.now.start (names_added layout.now old.now) own.items)) }
 {
-    let Ok(line) = header_line(layout, own) else {
+    let Ok(line) = header_line(layout, old, own) else {
         return Err(RunStop::Memory);
     };
     if line.is_empty() {
@@ -135,7 +153,7 @@ pub(crate) fn write_header<W: Write>(
 
 /// Flushes the writer, and returns the stop at a row that ends the run, or `WriteFailed`.
 pub(crate) fn stop_at<W: Write>(writer: &mut Counted<W>, row: u64, kind: RowKind) -> RunStop
-    ensures { IsStopAt W.contents writer.old writer.new row kind result }
+    ensures { IsStopAt W.contents writer.old writer.new (record { row = row; kind = kind }) result }
 {
     match flush(writer) {
         Ok(()) => RunStop::Row { row, kind },
@@ -158,10 +176,10 @@ pub(crate) fn write_rows<W: Write, L: RowLog>(
     log: &mut L,
 ) -> Result<u64, RunStop>
     requires { first + (joined pieces.now).count < 2 ^ 64 }
-    ensures ok { IfOk result (λ count. WroteRows W.contents writer.old writer.new
-        (L.noted log.old) (L.noted log.new) (joined pieces.now) count) }
-    ensures err { IfErr result (EndsInPieces W.contents writer.old writer.new
-        (L.noted log.old) (L.noted log.new) first pieces.now) }
+    ensures ok { IfOk result (λ count. WroteRows (writing W.contents writer.old writer.new (L.noted
+        log.old) (L.noted log.new)) (joined pieces.now) count) }
+    ensures err { IfErr result (EndsInPieces (writing W.contents writer.old writer.new (L.noted
+        log.old) (L.noted log.new)) first pieces.now) }
     ensures began { L.began log.new ≡ L.began log.old }
     ensures log { IsErrOf result RunStop.LogFailed → L.failed log.new }
 {

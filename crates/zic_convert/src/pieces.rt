@@ -3,16 +3,16 @@
 ghost use Rattle.std.specs.Prelude.{◌≡◌, ◌≤◌, ◌<◌, ◌+◌, ◌-◌, true, false, IfOk, length, take};
 ghost use Rattle.zic_columns.specs.Round.{ArePiecesOf};
 ghost use Rattle.zic_columns.specs.declared.pieces.TheConstants.{MAX_ROUND_PIECES};
-ghost use Rattle.zic_plan.specs.declared.plan.TheConstants.{MAX_ROWS};
+ghost use Rattle.zic_layouts.specs.declared.plan.TheConstants.{MAX_ROWS};
 ghost use Rattle.zic_convert.specs.code.Pieces.{ArePieces, AreRowsOfPiece};
 
 use crate::texts::TextPool;
 use std::alloc::{AllocError, Global};
 use std::marker::Model;
 use zic_columns::Round;
-use zic_layout_rows::{Piece, Rows, rows_of_piece};
+use zic_layouts::{Layout, Plan};
+use zic_piece_rows::{Piece, Rows, rows_of_piece};
 use zic_pieces::{PieceStop, Task};
-use zic_plan::{Layout, Plan};
 use zic_zones::Releases;
 
 /// The least room for the text of a piece that is taken at once, in bytes.

@@ -4,7 +4,7 @@ ghost use Rattle.std.specs.Prelude.{◌≡◌, ◌≤◌, IfOk, IfErr, IsErrOf, 
 ghost use Rattle.zic_pieces.specs.Task.{AreValues};
 ghost use Rattle.zic_convert.specs.code.Pieces.{ArePieces, IsCrew, IsOutcomeOf};
 ghost use Rattle.zic_columns.specs.declared.pieces.TheConstants.{MAX_ROUND_PIECES};
-ghost use Rattle.zic_convert.specs.code.Written.{EndsInRound, HasOneTooMany, WritesRound};
+ghost use Rattle.zic_convert.specs.code.Written.{EndsInRound, HasOneTooMany, WritesRound, writing};
 
 use crate::crew::{Converting, PieceRows};
 use crate::output::write_rows;
@@ -14,9 +14,9 @@ use crate::texts::TextPool;
 use std::io::Write;
 use zic_base::{RowFault, RunStop};
 use zic_counted::Counted;
-use zic_layout_rows::Rows;
+use zic_layouts::RowLog;
+use zic_piece_rows::Rows;
 use zic_pieces::TaskStop;
-use zic_plan::RowLog;
 
 /// Returns the rows of the pieces, as a task that doesn't stop at a row that ends the run.
 ///
@@ -58,7 +58,8 @@ fn end_at_fault<F: Fn(&RowPieces<'_, '_, P>) -> PieceRows, P: TextPool, W: Write
     requires few { length pieces.now.pieces ≤ MAX_ROUND_PIECES }
     requires fault { (limit : Option ℕ) × HasOneTooMany pieces.now limit fault }
     ensures stop { (limit : Option ℕ) → HasOneTooMany pieces.now limit fault → EndsInRound
-        pieces.now limit W.contents writer.old writer.new (L.noted log.old) (L.noted log.new) result }
+        pieces.now limit (writing W.contents writer.old writer.new (L.noted log.old) (L.noted
+        log.new)) result }
     ensures began { L.began log.new ≡ L.began log.old }
     ensures log { result ≡ RunStop.LogFailed → L.failed log.new }
 {
@@ -98,10 +99,10 @@ fn write_round<F: Fn(&RowPieces<'_, '_, P>) -> PieceRows, P: TextPool, W: Write,
 ) -> Result<Tally, RunStop>
     requires crew { IsCrew (F.pre conversion.now.crew.now) (F.post conversion.now.crew.now) }
     requires values { AreValues (IsOutcomeOf pieces.now) (length pieces.now.pieces) rows.now }
-    ensures ok { IfOk result (WritesRound pieces.now left W.contents writer.old writer.new
-        (L.noted log.old) (L.noted log.new)) }
-    ensures stop { IfErr result (EndsInRound pieces.now left W.contents writer.old writer.new
-        (L.noted log.old) (L.noted log.new)) }
+    ensures ok { IfOk result (WritesRound pieces.now left (writing W.contents writer.old writer.new
+        (L.noted log.old) (L.noted log.new))) }
+    ensures stop { IfErr result (EndsInRound pieces.now left (writing W.contents writer.old
+        writer.new (L.noted log.old) (L.noted log.new))) }
     ensures began { L.began log.new ≡ L.began log.old }
     ensures log { IsErrOf result RunStop.LogFailed → L.failed log.new }
 {
@@ -131,10 +132,10 @@ fn convert_again<F: Fn(&RowPieces<'_, '_, P>) -> PieceRows, P: TextPool, W: Writ
     requires crew { IsCrew (F.pre conversion.now.crew.now) (F.post conversion.now.crew.now) }
     requires goes_on { pieces.now.stops ≡ false }
     requires few { length pieces.now.pieces ≤ MAX_ROUND_PIECES }
-    ensures ok { IfOk result (WritesRound pieces.now left W.contents writer.old writer.new
-        (L.noted log.old) (L.noted log.new)) }
-    ensures stop { IfErr result (EndsInRound pieces.now left W.contents writer.old writer.new
-        (L.noted log.old) (L.noted log.new)) }
+    ensures ok { IfOk result (WritesRound pieces.now left (writing W.contents writer.old writer.new
+        (L.noted log.old) (L.noted log.new))) }
+    ensures stop { IfErr result (EndsInRound pieces.now left (writing W.contents writer.old
+        writer.new (L.noted log.old) (L.noted log.new))) }
     ensures began { L.began log.new ≡ L.began log.old }
     ensures log { IsErrOf result RunStop.LogFailed → L.failed log.new }
 {
@@ -168,10 +169,10 @@ pub(crate) fn convert_round<
 ) -> Result<Tally, RunStop>
     requires crew { IsCrew (F.pre conversion.now.crew.now) (F.post conversion.now.crew.now) }
     requires pieces { ArePieces pieces.now }
-    ensures ok { IfOk result (WritesRound pieces.now left W.contents writer.old writer.new
-        (L.noted log.old) (L.noted log.new)) }
-    ensures stop { IfErr result (EndsInRound pieces.now left W.contents writer.old writer.new
-        (L.noted log.old) (L.noted log.new)) }
+    ensures ok { IfOk result (WritesRound pieces.now left (writing W.contents writer.old writer.new
+        (L.noted log.old) (L.noted log.new))) }
+    ensures stop { IfErr result (EndsInRound pieces.now left (writing W.contents writer.old
+        writer.new (L.noted log.old) (L.noted log.new))) }
     ensures began { L.began log.new ≡ L.began log.old }
     ensures log { IsErrOf result RunStop.LogFailed → L.failed log.new }
 {

@@ -1,13 +1,13 @@
 //! How many rows with a fault a run still goes on after.
 
 ghost use Rattle.std.specs.Prelude.{◌≡◌, ◌+◌, List, IfOk, IfErr, Some, length};
-ghost use Rattle.zic_plan.specs.Noted.{RowNote};
+ghost use Rattle.zic_layouts.specs.Noted.{RowNote};
 ghost use Rattle.zic_convert.specs.Run.{IsOneTooMany};
 ghost use Rattle.zic_convert.specs.code.Pieces.{joined};
 ghost use Rattle.zic_convert.specs.code.Written.{IsLeft};
 
 use zic_base::RowFault;
-use zic_layout_rows::Rows;
+use zic_piece_rows::Rows;
 
 /// How many rows were written, and after how many more rows with a fault the run goes on, where that is
 /// limited.

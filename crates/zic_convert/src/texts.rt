@@ -3,8 +3,8 @@
 
 use std::alloc::{AllocError, Global};
 use std::sync::Mutex;
-use zic_layout_rows::Rows;
-use zic_rows::RowText;
+use zic_piece_rows::Rows;
+use zic_row_text::RowText;
 
 /// Where the texts of pieces come from, and where they go once their rows are written.
 pub(crate) trait TextPool {

@@ -3,7 +3,7 @@
 use Rattle.std.specs.Prelude.{◌≡◌, ◌⊎◌, ◌==◌, ◌-◌, ◌^◌, ℕ, List, Bool, true, false, Option, None, Some, Result, Ok, Err, IsErrAnd, IsTrue, String, string_bytes, length, min, option_map, slice_get}
 use Rattle.std.specs.declared.alloc.Global.{Global}
 use Rattle.zic_base.specs.declared.row_fault.RowFault.{RowFault}
-use Rattle.zic_command_line.specs.declared.command_line.Conversion.{Conversion}
+use Rattle.zic_command_line.specs.declared.command_line.ConvertOptions.{ConvertOptions}
 use Rattle.zic_command_line.specs.declared.command_line.Zones.{Zones}
 use Rattle.zic_converting.specs.declared.ending.Unwritten.{Unwritten}
 use Rattle.zic_converting.specs.declared.ending.Unwritten.TheVariants as lists
@@ -12,9 +12,9 @@ use Rattle.zic_io.specs.Failing.{IsCannotWrite}
 use Rattle.zic_io.specs.Faults.{fault_of}
 use Rattle.zic_io.specs.declared.failure.Failure.{Failure}
 use Rattle.zic_io.specs.declared.failure.Failure.TheVariants as failures
-use Rattle.zic_plan.specs.Noted.{RowNote}
-use Rattle.zic_plan.specs.declared.layout.AtFault.{AtFault}
-use Rattle.zic_plan.specs.declared.layout.AtFault.TheVariants as rules
+use Rattle.zic_layouts.specs.Noted.{RowNote}
+use Rattle.zic_layouts.specs.declared.layout.AtFault.{AtFault}
+use Rattle.zic_layouts.specs.declared.layout.AtFault.TheVariants as rules
 
 -- the failure that some faults of rows are, of which this is the first: that their records were rejected, or that they have faults
 abbrev pub failure_from : AtFault → RowFault → ℕ → Failure
@@ -111,14 +111,14 @@ behind_of None ended = None
 behind_of (Some path) ended = failure_in ended
 
 -- the path of a list, if there is one
-abbrev pub path_of : Conversion → Option Unwritten → Option (List ℕ)
+abbrev pub path_of : ConvertOptions → Option Unwritten → Option (List ℕ)
 path_of order None = None
 path_of order (Some lists.Faults) = option_map string_bytes order.faults
 path_of order (Some lists.Rejects) = option_map string_bytes order.rejects
 
 -- What a run reports that ended so after these faults, and what it tells behind that: a list may not be written whole, but where those of
 -- an earlier run stay as they are nothing is written to either.
-abbrev pub IsReportOf : Conversion → Faults → Result (Unit {0}) Failure → Result (Unit {0}) Failure → Option Failure → Type 0
+abbrev pub IsReportOf : ConvertOptions → Faults → Result (Unit {0}) Failure → Result (Unit {0}) Failure → Option Failure → Type 0
 IsReportOf order faults ended reported behind =
     (unwritten : Option Unwritten) × (IsTrue (keeps_lists faults ended) → unwritten ≡ None)
     × IsReport ended (path_of order unwritten) reported × (behind ≡ behind_of (path_of order unwritten) ended)

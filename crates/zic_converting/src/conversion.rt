@@ -17,12 +17,12 @@ use std::random::RandomSource;
 use std::sync::Wait;
 use std::thread::Threads;
 use std::time::Clock;
-use zic_command_line::Conversion;
+use zic_command_line::ConvertOptions;
 use zic_io::{Failure, ProgressLine};
 
 /// What a command has read, and what the message of its failure needs besides it.
 #[derive(Drop)]
-pub struct Noted {
+pub struct ConvertContext {
     /// The texts of the sources, once all of them are read.
     pub texts: Vec<Vec<u8>>,
     /// What was read of the column for its header.
@@ -37,10 +37,10 @@ pub struct Noted {
     pub reason: Option<ErrorKind>,
 }
 
-impl Noted {
+impl ConvertContext {
     /// Returns what is noted before anything is read.
-    pub fn new(alloc: Global) -> Noted {
-        Noted {
+    pub fn new(alloc: Global) -> ConvertContext {
+        ConvertContext {
             texts: Vec::new(alloc),
             head: Head::new(alloc),
             header: None,
@@ -62,7 +62,7 @@ impl Noted {
 pub fn convert<
     R: Files + Input + Print + Clock + RandomSource + AllocGlobal + Threads + Wait + Sync,
     E: Write + IsTerminal + Drop,
->(rt: &R, order: &Conversion, errors: E, noted: &mut Noted) -> Result<(), Failure> {
+>(rt: &R, order: &ConvertOptions, errors: E, noted: &mut ConvertContext) -> Result<(), Failure> {
     let mut errors = errors;
     if let Some(failure) = mem::replace(&mut noted.header, None) {
         let line = progress_line(order.progress, errors);
@@ -91,7 +91,12 @@ fn progress_line<E: IsTerminal + Drop>(progress: bool, errors: E) -> ProgressLin
 fn convert_listed<
     R: Files + Input + Print + Clock + RandomSource + AllocGlobal + Threads + Wait + Sync,
     E: Write + Drop,
->(rt: &R, order: &Conversion, noted: &mut Noted, line: ProgressLine<E>) -> Result<(), Failure> {
+>(
+    rt: &R,
+    order: &ConvertOptions,
+    noted: &mut ConvertContext,
+    line: ProgressLine<E>,
+) -> Result<(), Failure> {
     let mut lists = Lists::open(rt, order, &mut noted.reason)?;
     let converted = convert_rows(rt, order, &mut *noted, line, &mut lists.list);
     end(order, noted, lists, converted)
@@ -99,8 +104,8 @@ fn convert_listed<
 
 /// Takes note of the faults of rows, writes the lists, and returns how the run ends.
 fn end<R: Files>(
-    order: &Conversion,
-    noted: &mut Noted,
+    order: &ConvertOptions,
+    noted: &mut ConvertContext,
     lists: Lists<'_, R>,
     converted: Result<u64, Failure>,
 ) -> Result<(), Failure>
@@ -122,7 +127,7 @@ fn end<R: Files>(
 }
 
 /// Returns the path of a list.
-fn path_of(order: &Conversion, unwritten: Option<Unwritten>) -> Option<&String>
+fn path_of(order: &ConvertOptions, unwritten: Option<Unwritten>) -> Option<&String>
     ensures { option_map string_bytes (option_copied result) ≡ path_of order.now unwritten }
 {
     match unwritten? {

@@ -9,7 +9,7 @@ use std::mem;
 use zic_base::RowFault;
 use zic_command_line::Zones;
 use zic_io::Failure;
-use zic_plan::AtFault;
+use zic_layouts::AtFault;
 
 /// The faults of rows after which a run went on.
 #[derive(Clone, Copy)]

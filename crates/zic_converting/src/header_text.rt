@@ -3,7 +3,7 @@
 use std::alloc::{AllocError, Global};
 use zic_columns::{Field, Span, push_field};
 use zic_command_line::HeaderFields;
-use zic_plan::Delimiter;
+use zic_layouts::Delimiter;
 
 /// The least number of bytes of a field after which no more of them are looked at.
 const LEAST: usize = 65_536;

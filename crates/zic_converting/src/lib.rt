@@ -3,7 +3,7 @@
 //!
 //! # What is proved
 //!
-//! `convert`, `read_header`, `expect_own_lists` and `Noted` have no clause, since they read and
+//! `convert`, `read_header`, `expect_own_lists` and `ConvertContext` have no clause, since they read and
 //! write files, nor `take_stack`: what stack a thread has, no clause sees. What the program tells
 //! in the end is proved of the functions by which they decide it:
 //!
@@ -35,7 +35,7 @@ mod own_file;
 mod ready;
 mod rows;
 
-pub use conversion::{Noted, convert};
+pub use conversion::{ConvertContext, convert};
 pub use header::read_header;
 pub use own_file::expect_own_lists;
 pub use ready::take_stack;

@@ -7,7 +7,7 @@ use crate::ending::{Faults, Unwritten, first_unwritten};
 use std::fs::Files;
 use std::io::{BufWriter, ErrorKind};
 use std::random::RandomSource;
-use zic_command_line::Conversion;
+use zic_command_line::ConvertOptions;
 use zic_host::random_number;
 use zic_io::{Failure, FaultList, ListFile};
 
@@ -26,7 +26,7 @@ impl<'a, R: Files + RandomSource + AllocGlobal> Lists<'a, R> {
     /// `CannotWrite` with the path of a file that can't be made or opened, or `Memory`.
     pub(crate) fn open(
         rt: &'a R,
-        order: &Conversion,
+        order: &ConvertOptions,
         reason: &mut Option<ErrorKind>,
     ) -> Result<Lists<'a, R>, Failure> {
         let faults = list_file(rt, &order.faults, reason)?;
@@ -44,7 +44,7 @@ impl<'a, R: Files + RandomSource + AllocGlobal> Lists<'a, R> {
 
 impl<R: Files> Lists<'_, R> {
     /// Returns the faults that were noted.
-    pub(crate) fn faults(&self, order: &Conversion) -> Faults
+    pub(crate) fn faults(&self, order: &ConvertOptions) -> Faults
         ensures { result ≡ faults_in order.now.layout.at_fault self.now.list.noted }
     {
         Faults {

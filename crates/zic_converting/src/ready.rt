@@ -1,11 +1,11 @@
 //! What a conversion needs before it begins: its releases, memory, and stack.
 
-use crate::conversion::Noted;
+use crate::conversion::ConvertContext;
 use std::alloc::{AllocError, Global};
 use std::fs::Files;
 use std::io::{Input, Write};
 use std::slice;
-use zic_command_line::{Conversion, Zones};
+use zic_command_line::{ConvertOptions, Zones};
 use zic_host::{expect_folder, read_texts, show_of_folders, show_of_sources};
 use zic_io::Failure;
 
@@ -26,9 +26,9 @@ const LONG_STACK: usize = 786_432;
 /// path that isn't that of a folder. Prints the releases of the zones, if requested.
 pub(crate) fn ready_releases<R: Files + Input + AllocGlobal, E: Write>(
     rt: &R,
-    order: &Conversion,
+    order: &ConvertOptions,
     errors: &mut E,
-    noted: &mut Noted,
+    noted: &mut ConvertContext,
 ) -> Result<(), Failure> {
     if let Some(old) = &order.against {
         ready(rt, order, old, errors, &mut noted.texts)?;
@@ -40,7 +40,7 @@ pub(crate) fn ready_releases<R: Files + Input + AllocGlobal, E: Write>(
 /// zones, if requested.
 fn ready<R: Files + Input + AllocGlobal, E: Write>(
     rt: &R,
-    order: &Conversion,
+    order: &ConvertOptions,
     zones: &Zones,
     errors: &mut E,
     texts: &mut Vec<Vec<u8>>,
@@ -63,7 +63,7 @@ fn ready<R: Files + Input + AllocGlobal, E: Write>(
 /// Adds the texts of sources. Prints their releases, if requested.
 fn add_texts<R: Files + Input + AllocGlobal, E: Write>(
     rt: &R,
-    order: &Conversion,
+    order: &ConvertOptions,
     sources: &[String],
     errors: &mut E,
     texts: &mut Vec<Vec<u8>>,

@@ -1,7 +1,7 @@
 //! The rows of a column, from standard input to standard output.
 
 use crate::column::convert_column;
-use crate::conversion::Noted;
+use crate::conversion::ConvertContext;
 use crate::ending::rows_made;
 use crate::header::Head;
 use std::fs::Files;
@@ -11,11 +11,11 @@ use std::random::RandomSource;
 use std::sync::Wait;
 use std::thread::Threads;
 use std::time::Clock;
-use zic_command_line::Conversion;
+use zic_command_line::ConvertOptions;
 use zic_counted::Counted;
 use zic_io::{Failure, Progress, ProgressLine};
+use zic_layouts::{Header, Layout, Records, RowLog};
 use zic_pieces::Open;
-use zic_plan::{Header, Layout, Records, RowLog};
 
 /// Converts standard input to standard output, reports the rows, and takes note of faults. Returns the
 /// number of rows.
@@ -25,8 +25,8 @@ pub(crate) fn convert_rows<
     L: RowLog,
 >(
     rt: &R,
-    order: &Conversion,
-    noted: &mut Noted,
+    order: &ConvertOptions,
+    noted: &mut ConvertContext,
     line: ProgressLine<E>,
     log: &mut L,
 ) -> Result<u64, Failure> {
@@ -57,7 +57,7 @@ pub(crate) fn convert_rows<
 /// Reports the rows of a run that ended at its header, which are none, and returns why it ended.
 pub(crate) fn end_at_header<R: Print + Clock, E: Write + Drop>(
     rt: &R,
-    order: &Conversion,
+    order: &ConvertOptions,
     line: ProgressLine<E>,
     failure: Failure,
 ) -> Result<(), Failure> {

@@ -3,7 +3,7 @@
 use super::call::{Call, Refusal};
 use crate::answers::Answers;
 use zic_calendar::{civil, day_of, days_in_month, is_leap_year, weekday};
-use zic_words::parse_day_form;
+use zic_lines::parse_day_form;
 
 /// The first and the last day with a civil time.
 const DAYS: (i64, i64) = (-719_162, 2_932_896);

@@ -1,18 +1,17 @@
 //! Occurrences of the set that the first line of the first zone names.
 
 ghost use Rattle.std.specs.Prelude.{◌≤◌, IfOk};
-ghost use Rattle.zic_occurrences.specs.LineItems.{items_of};
+ghost use Rattle.zic_states.specs.LineItems.{items_of};
 ghost use Rattle.zic_states.specs.ByList.{AreRising};
 
 use super::call::{Call, Refusal};
 use crate::answers::Answers;
 use std::alloc::Global;
-use zic_occurrences::{
-    LineOccurrences, ListedSource, TimedOccurrence, instant_by, last_named_year, nominal_second,
-    occurrences, year_second,
-};
 use zic_source::{Rules, Source};
-use zic_states::{before, rule_at};
+use zic_states::{
+    LineOccurrences, ListedSource, TimedOccurrence, before, instant_by, last_named_year,
+    nominal_second, occurrences, rule_at, year_second,
+};
 
 /// Appends the answer to a call.
 pub fn answer(

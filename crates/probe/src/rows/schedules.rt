@@ -7,7 +7,7 @@ use super::call::{Call, Refusal};
 use super::local_times::zone_of;
 use crate::answers::Answers;
 use std::alloc::Global;
-use zic_schedule::{Policy, Schedule, TimeOfDay, Weekdays, next_local, write_due};
+use zic_local::{Policy, Schedule, TimeOfDay, Weekdays, next_local, write_due};
 use zic_tzif::Zone;
 
 /// Appends the answer to a call.

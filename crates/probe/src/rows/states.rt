@@ -2,16 +2,18 @@
 
 ghost use Rattle.std.specs.Prelude.{IfOk};
 ghost use Rattle.zic_source.specs.Sound.{IsSoundLine};
-ghost use Rattle.zic_occurrences.specs.LineItems.{items_of};
+ghost use Rattle.zic_states.specs.LineItems.{items_of};
 ghost use Rattle.zic_states.specs.Occurrences.{AreOccurrencesFor};
 
 use super::call::{Call, Refusal};
 use crate::answers::Answers;
 use std::alloc::Global;
-use zic_occurrences::{LineOccurrences, ListedSource, occurrences};
 use zic_source::{Letter, Rules, Source, ZoneLine};
 use zic_states::format::abbreviation;
-use zic_states::{Abbreviation, is_abbreviation, observance_by, until_instant};
+use zic_states::{
+    Abbreviation, LineOccurrences, ListedSource, is_abbreviation, observance_by, occurrences,
+    until_instant,
+};
 
 /// Appends the answer to a call.
 pub fn answer(

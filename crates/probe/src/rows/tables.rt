@@ -5,9 +5,9 @@ use crate::answers::Answers;
 use std::alloc::Global;
 use zic_base::{Place, Stop};
 use zic_footer::make;
-use zic_occurrences::ListedSource;
 use zic_rules::{Timeline, timeline};
 use zic_source::Source;
+use zic_states::ListedSource;
 use zic_table::table;
 use zic_tzif::{Table, write};
 

@@ -7,9 +7,9 @@ use crate::answers::Answers;
 use std::alloc::Global;
 use zic_base::State;
 use zic_footer::{make, print};
-use zic_occurrences::ListedSource;
 use zic_rules::{Tail, TailRule, Timeline, timeline};
 use zic_source::Source;
+use zic_states::ListedSource;
 
 /// Appends the answer to a call.
 pub fn answer(

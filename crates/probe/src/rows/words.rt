@@ -3,7 +3,7 @@
 use super::call::{Call, Refusal};
 use crate::answers::Answers;
 use std::alloc::{AllocError, Global};
-use zic_words::{
+use zic_lines::{
     Letter, Name, SetName, clock_time, ends_before, is_dash, is_one_leap_year, last_year, offset,
     parse_day_form, parse_keyword, parse_month, parse_year, save, split_at_most_once,
 };

@@ -1,7 +1,7 @@
 -- Rows of columns in memory, as the code has them.
 use Rattle.std.specs.Prelude.{◌≡◌, ℕ, ◌-◌, List, Some, None, Result, Ok, Err}
-use Rattle.zic_plan.specs.Noted.{RowNote}
-use Rattle.zic_base.specs.declared.run_stop.RunStop.TheVariants as stop
+use Rattle.zic_layouts.specs.Noted.{RowNote}
+use Rattle.zic_base.specs.declared.stops.RunStop.TheVariants as stop
 use Rattle.zic_convert.specs.declared.halt.Halt.{Halt}
 use Rattle.zic_convert.specs.declared.halt.Halt.TheVariants as halt
 use Rattle.zic_convert.specs.declared.memory.LayoutRows.{LayoutRows}

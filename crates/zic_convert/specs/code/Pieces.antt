@@ -7,11 +7,11 @@ use Rattle.zic_columns.specs.Round.{ArePiecesOf}
 use Rattle.zic_columns.specs.declared.pieces.TheConstants.{MAX_ROUND_PIECES}
 use Rattle.zic_pieces.specs.Task.{AreValues, IsStop}
 use Rattle.zic_pieces.specs.declared.task.TaskStop.{TaskStop}
-use Rattle.zic_zones.specs.declared.releases.Releases.{Releases}
-use Rattle.zic_plan.specs.declared.layout.Layout.{Layout}
-use Rattle.zic_plan.specs.declared.plan.TheConstants.{MAX_OF_PIECE, MAX_ROWS}
-use Rattle.zic_layout_rows.specs.PieceRows.{AreRowsOf, RowsOf}
-use Rattle.zic_layout_rows.specs.code.Row.{followed_by}
+use Rattle.zic_zones.specs.declared.zones.Releases.{Releases}
+use Rattle.zic_layouts.specs.declared.layout.Layout.{Layout}
+use Rattle.zic_layouts.specs.declared.plan.TheConstants.{MAX_OF_PIECE, MAX_ROWS}
+use Rattle.zic_piece_rows.specs.PieceRows.{AreRowsOf, RowsOf}
+use Rattle.zic_piece_rows.specs.code.Row.{followed_by}
 
 -- the layout, the releases, the bytes of each piece, the number of the first record as a row, how many rows there may be, how many records a
 -- piece has (the last may have fewer), and whether a piece with a row that ends the run stops the task

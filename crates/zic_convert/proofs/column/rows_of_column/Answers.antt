@@ -7,11 +7,11 @@ returns-clause-rows c =
     let plain = c.plain-layout in
     rw c.kind_of.ensures
     (plain_in_memory c.column_records_are_read.ensures c.records_are_one.ensures c.plain_columns_convert_alike.ensures plain.result plain.ensures.rows plain.ensures.header c.args.files.now c.args.max_rows c.args.column.now
-    rows.text.items rows.count rows.fault rows.faults.items (rw c.in-Some.ensures.plan at c.in_ok-rows.ensures.rows)).0
+    rows (rw c.in-Some.ensures.plan at c.in_ok-rows.ensures.rows)).0
 
 pub returns-clause-few : goal.returns-clause-few
 returns-clause-few c =
     let rows = c.in_ok-rows.rows in
     let plain = c.plain-layout in
     (plain_in_memory c.column_records_are_read.ensures c.records_are_one.ensures c.plain_columns_convert_alike.ensures plain.result plain.ensures.rows plain.ensures.header c.args.files.now c.args.max_rows c.args.column.now
-    rows.text.items rows.count rows.fault rows.faults.items (rw c.in-Some.ensures.plan at c.in_ok-rows.ensures.rows)).1
+    rows (rw c.in-Some.ensures.plan at c.in_ok-rows.ensures.rows)).1

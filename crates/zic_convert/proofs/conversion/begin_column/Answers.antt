@@ -1,7 +1,7 @@
 use Rattle.std.proofs.Common.{◌≡◌, ap, inl, inr}
 use Rattle.std.proofs.lemmas.Result.{err_from_is_err_and}
 use Rattle.zic_columns.specs.Round.{unread}
-use Rattle.zic_plan.specs.Layout.{records_before}
+use Rattle.zic_layouts.specs.Layout.{records_before}
 use Rattle.zic_convert.proofs.Heads.{header_halts}
 use Rattle.zic_convert.proofs.conversion.begin_column.Goals as goal
 

@@ -1,6 +1,9 @@
-use Rattle.std.proofs.Common.{◌<◌, ◌+◌, ◌∙◌, rules, arith, refl}
+use Rattle.std.proofs.Common.{◌<◌, ◌+◌, ◌∙◌, ℕ, List, rules, arith, refl, subst}
 use Rattle.std.proofs.lemmas.Result.{err_from_is_err_and}
 use Rattle.zic_columns.specs.Round.{taken_records, unread}
+use Rattle.zic_convert.specs.By.{by_of}
+use Rattle.zic_convert.specs.code.Progress.{EndsInTaken, taken_rows}
+use Rattle.zic_convert.specs.code.Written.{writing}
 use Rattle.zic_convert.proofs.Halts.{as_many, no_more}
 use Rattle.zic_convert.proofs.Joining.{taken_some}
 use Rattle.zic_convert.proofs.Rounds.{far_at_start, far_on, flush_fails, no_round, rounds_done, taken_ends}
@@ -59,7 +62,8 @@ returns-in_err-tally-clause-halt g c =
     let grows = c.in_ok-taken.ensures.grown in
     let new = c.convert_taken-converted.new.writer in
     let last = g.L.RowLog.noted c.convert_taken-converted.new.log in
-    let ends = rw c.round.ensures at c.in_err-tally.ensures.stop in
+    let ends = subst (λ (pieces : List (List ℕ)). EndsInTaken (by_of layout (g.Z.Zones.known then) plan.max_rows l.left) (writing contents l.writer new now last) (taken_rows (l.count + 1) taken pieces) c.in_err-tally.field-0.0)
+    c.round.ensures c.in_err-tally.ensures.stop in
     let p = err_from_is_err_and c.from_residual-in_err-tally.result c.from_residual-in_err-tally.ensures.1 in
     rw (p.1, p.2) (taken_ends g.Z.Zones.known g.Z.Zones.settled g.Z.Zones.may_be g.Z.Zones.grown g.Z.Zones.broken g.met.Z.Zones.same g.met.Z.Zones.then g.met.Z.Zones.narrows g.met.Z.Zones.agrees contents
     c.files_answer_once.ensures layout plan limit known left l.count l.left held l.writer log now c.args.zones.now l.zones l.invariant.grown l.invariant.far

@@ -1,6 +1,6 @@
 use Rattle.std.proofs.Common.{◌≡◌, ◌≤◌, ◌+◌, ◌-◌}
 use Rattle.zic_columns.specs.Round.{unread}
-use Rattle.zic_zones.specs.declared.releases.Releases.{Releases}
+use Rattle.zic_zones.specs.declared.zones.Releases.{Releases}
 use Rattle.zic_convert.proofs.Rounds.{IsFarBy}
 use Rattle.zic_convert.proofs.conversion.convert_rounds.Given as goal
 

@@ -51,7 +51,7 @@ returns-clause-all g c =
     λ releases may. on_ok c.convert_rounds.result _ _
     (λ n both. converts_column layout most c.args.conversion.now.max_faults known inside is releases left (g.W.Write.contents c.args.writer.now.inner)
     (g.W.Write.contents c.begin_rows.new.writer.inner) (g.W.Write.contents c.convert_rounds.new.writer.inner) (g.L.RowLog.noted c.args.log.now) (g.L.RowLog.noted c.convert_rounds.new.log)
-    c.in_ok-column.ensures.begins c.in_ok-column.ensures.head n
+    c.in_ok-column.ensures.begins (c.in_ok-column.ensures.head releases (g.met.Z.Zones.narrows c.begin_rows.new.zones c.convert_rounds.new.zones releases both.0 may)) n
     (c.in_ok-column.ensures.none releases (g.met.Z.Zones.narrows c.begin_rows.new.zones c.convert_rounds.new.zones releases both.0 may)) both.1)
     (ok_both c.convert_rounds.result _ _ c.convert_rounds.ensures.grown (rw c.begin_rows.ensures.noted at (c.convert_rounds.ensures.all releases may)))
 
@@ -68,7 +68,7 @@ returns-clause-halt g c =
     (λ why ends. ends_from g.Z.Zones.grown g.Z.Zones.broken g.Z.Zones.may_be g.met.Z.Zones.then c.args.zones.now c.begin_rows.new.zones c.convert_rounds.new.zones c.in_ok-column.ensures.grown (stop_of why) _ _
     (λ releases then grown may w. ends_column layout most c.args.conversion.now.max_faults known inside is releases left (g.W.Write.contents c.args.writer.now.inner)
     (g.W.Write.contents c.begin_rows.new.writer.inner) (g.W.Write.contents c.convert_rounds.new.writer.inner) (g.L.RowLog.noted c.args.log.now) (g.L.RowLog.noted c.convert_rounds.new.log)
-    c.in_ok-column.ensures.begins c.in_ok-column.ensures.head (stop_of why)
+    c.in_ok-column.ensures.begins (c.in_ok-column.ensures.head releases (g.met.Z.Zones.narrows c.begin_rows.new.zones then releases grown may)) (stop_of why)
     (c.in_ok-column.ensures.none releases (g.met.Z.Zones.narrows c.begin_rows.new.zones then releases grown may)) w) ends)
     (rw c.begin_rows.ensures.noted at c.convert_rounds.ensures.halt)
 

@@ -2,7 +2,7 @@ use Rattle.std.proofs.Common.{◌∙◌, ◌∷◌, [], ℕ, List, refl, sym, ap
 use Rattle.std.specs.Prelude.{All, map}
 use Rattle.zic_columns.specs.Round.{records_of}
 use Rattle.zic_zones.specs.Zones.{zone_in}
-use Rattle.zic_zones.specs.declared.releases.Releases.{Releases}
+use Rattle.zic_zones.specs.declared.zones.Releases.{Releases}
 use Rattle.zic_convert.specs.Header.{header_fault}
 use Rattle.zic_convert.specs.code.Progress.{records_left}
 use Rattle.zic_convert.proofs.Delimited.{can_delimit}

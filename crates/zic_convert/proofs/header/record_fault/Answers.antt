@@ -1,8 +1,8 @@
 use Rattle.std.proofs.Common.{◌≡◌, ◌∙◌, List, Some, None, ap, ap₂, subst}
 use Rattle.std.specs.Option.{option_or}
 use Rattle.zic_columns.specs.Own.{CsvRecord}
-use Rattle.zic_plan.specs.Noted.{RowNote}
-use Rattle.zic_layout_rows.specs.PieceRows.{AreRowsOf, RowsOf}
+use Rattle.zic_layouts.specs.Noted.{RowNote}
+use Rattle.zic_piece_rows.specs.PieceRows.{AreRowsOf, RowsOf}
 use Rattle.zic_convert.proofs.HeaderFaults.{first_is, first_noted, one_fault}
 use Rattle.zic_convert.proofs.header.record_fault.Goals as goal
 use Rattle.zic_convert.proofs.header.record_fault.Goals.{in-Some, in-None}

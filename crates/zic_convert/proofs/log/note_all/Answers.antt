@@ -1,6 +1,6 @@
 use Rattle.std.proofs.Common.{List, refl, subst, ◌∙◌}
 use Rattle.std.proofs.lemmas.List.{take_all}
-use Rattle.zic_plan.specs.Noted.{RowNote}
+use Rattle.zic_layouts.specs.Noted.{RowNote}
 use Rattle.zic_convert.specs.Run.{Notes}
 use Rattle.zic_convert.proofs.Logs.{notes_next, notes_none}
 use Rattle.zic_convert.proofs.log.note_all.Goals as goal

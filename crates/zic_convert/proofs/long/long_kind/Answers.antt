@@ -1,13 +1,13 @@
 use Rattle.std.proofs.Common.{◌≡◌, ℕ, false, Option, Some, le-leb, length, refl}
 use Rattle.std.proofs.lemmas.Bool.{lt-leb}
-use Rattle.zic_layout_rows.proofs.Coming.{too_many_ends}
+use Rattle.zic_piece_rows.proofs.Coming.{too_many_ends}
 use Rattle.zic_columns.specs.Round.{may_have}
-use Rattle.zic_plan.specs.declared.layout.AtFault.{AtFault}
-use Rattle.zic_plan.specs.declared.layout.AtFault.TheVariants as at_fault
-use Rattle.zic_plan.specs.declared.layout.Records.{Records}
-use Rattle.zic_plan.specs.declared.layout.Records.TheVariants as by
+use Rattle.zic_layouts.specs.declared.layout.AtFault.{AtFault}
+use Rattle.zic_layouts.specs.declared.layout.AtFault.TheVariants as at_fault
+use Rattle.zic_layouts.specs.declared.layout.Records.{Records}
+use Rattle.zic_layouts.specs.declared.layout.Records.TheVariants as by
 use Rattle.zic_base.specs.declared.row_fault.RowKind.TheVariants as kinds
-use Rattle.zic_layout_rows.specs.LayoutRows.{ending}
+use Rattle.zic_piece_rows.specs.LayoutRows.{ending}
 use Rattle.zic_convert.specs.code.Progress.{end_limit}
 use Rattle.zic_convert.proofs.long.long_kind.Goals as goal
 

@@ -1,7 +1,7 @@
 use Rattle.std.proofs.Common.{◌≡◌, [], ap, subst, sym}
 use Rattle.zic_files.specs.Sound.{AreSoundFiles}
 use Rattle.zic_zones.specs.Zones.{alone}
-use Rattle.zic_zones.specs.declared.releases.Releases.{Releases}
+use Rattle.zic_zones.specs.declared.zones.Releases.{Releases}
 use Rattle.zic_convert.proofs.InMemory.{made_by, ok_if}
 use Rattle.zic_convert.proofs.Joining.{on_ok}
 use Rattle.zic_convert.proofs.memory.rows_by_zones.Goals as goal

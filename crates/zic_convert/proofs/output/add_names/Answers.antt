@@ -1,5 +1,5 @@
 use Rattle.std.proofs.Common.{◌≡◌, ◌∙◌, ℕ, List, [], ◌∷◌, ◌++◌, ap, append_assoc, length, refl, rules, vec_len}
-use Rattle.zic_plan.specs.declared.layout.RowStart.TheVariants as starts
+use Rattle.zic_layouts.specs.declared.layout.RowStart.TheVariants as starts
 use Rattle.zic_convert.specs.Column.{header_of, names_added}
 use Rattle.zic_convert.proofs.output.add_names.Goals as goal
 
@@ -11,7 +11,7 @@ header_named names (byte ∷ own) some = append_assoc (byte ∷ own) names (10 �
 pub returns : goal.returns
 returns c =
     let own = c.args.line.now.items in
-    let names = names_added c.args.layout.now in
+    let names = names_added c.args.layout.now c.args.old.now in
     let size : length own ≡ vec_len c.args.line.now = search rules in
     let some : own ≡ [] → ⊥ = λ none. search (rules, none) in
     let added : c.extend_from_slice.new.self.items ≡ own ++ names =

@@ -3,11 +3,11 @@ use Rattle.std.proofs.lemmas.List.{append-nil, take_all}
 use Rattle.std.proofs.lemmas.Result.{err_from_is_err_and}
 use Rattle.csv.proofs.WriteFacts.{appends-none}
 use Rattle.zic_counted.specs.Written.{FailsWithin}
-use Rattle.zic_plan.specs.Noted.{RowNote}
+use Rattle.zic_layouts.specs.Noted.{RowNote}
 use Rattle.zic_base.specs.declared.row_fault.RowKind.{RowKind}
 use Rattle.zic_convert.specs.Run.{Notes}
 use Rattle.zic_convert.specs.code.Pieces.{joined}
-use Rattle.zic_layout_rows.specs.PieceRows.{RowsOf}
+use Rattle.zic_piece_rows.specs.PieceRows.{RowsOf}
 use Rattle.zic_convert.specs.code.Written.{Wrote}
 use Rattle.zic_convert.proofs.Bytes.{fails_after, wrote_both}
 use Rattle.zic_convert.proofs.Logs.{notes_more, notes_none}

@@ -2,12 +2,12 @@ use Rattle.std.proofs.Common.{◌≡◌, ◌<◌, ◌+◌, ◌++◌, ◌∙◌, 
 use Rattle.std.specs.Prelude.{IsSome}
 use Rattle.std.proofs.lemmas.Result.{err_from_is_err_and}
 use Rattle.zic_base.specs.declared.row_fault.RowKind.{RowKind}
-use Rattle.zic_plan.specs.Noted.{RowNote}
+use Rattle.zic_layouts.specs.Noted.{RowNote}
 use Rattle.zic_convert.specs.Run.{IsOneTooMany}
 use Rattle.zic_convert.specs.code.Pieces.{joined}
-use Rattle.zic_layout_rows.specs.PieceRows.{RowsOf}
+use Rattle.zic_piece_rows.specs.PieceRows.{RowsOf}
 use Rattle.zic_convert.specs.code.Written.{IsLeft}
-use Rattle.zic_layout_rows.proofs.MoreRows.{not_some}
+use Rattle.zic_piece_rows.proofs.MoreRows.{not_some}
 use Rattle.zic_convert.proofs.TooMany.{too_many_of_more, too_many_then}
 use Rattle.zic_convert.proofs.Writings.{front_faults, front_is_all, next_fault, next_faults}
 use Rattle.zic_convert.proofs.tally.left_after.Goals as goal

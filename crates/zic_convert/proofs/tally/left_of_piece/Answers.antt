@@ -1,7 +1,7 @@
 use Rattle.std.proofs.Common.{◌<◌, List, Some, length, ap, subst, arith}
-use Rattle.zic_plan.specs.Noted.{RowNote}
+use Rattle.zic_layouts.specs.Noted.{RowNote}
 use Rattle.zic_convert.specs.Run.{IsOneTooMany}
-use Rattle.zic_layout_rows.specs.PieceRows.{RowsOf}
+use Rattle.zic_piece_rows.specs.PieceRows.{RowsOf}
 use Rattle.zic_convert.proofs.TooMany.{one_at}
 use Rattle.zic_convert.proofs.tally.left_of_piece.Goals as goal
 

@@ -1,7 +1,7 @@
 use Rattle.std.proofs.Common.{ap, subst, sym, ◌∙◌}
 use Rattle.std.specs.Prelude.{IsSome}
 use Rattle.zic_convert.specs.code.Pieces.{Pieces}
-use Rattle.zic_layout_rows.specs.PieceRows.{RowsOf}
+use Rattle.zic_piece_rows.specs.PieceRows.{RowsOf}
 use Rattle.zic_convert.proofs.pieces.RowPiecesTask.perform.Goals as goal
 
 pub returns-then-is_some : goal.returns-then-is_some

@@ -1,0 +1,5 @@
+use Rattle.zic_bulk.proofs.OnePlacing.{one_building}
+use Rattle.zic_bulk.proofs.laws.files_are_placed_one_way.Goals as goal
+
+pub returns : goal.returns
+returns c = one_building

@@ -1,4 +1,0 @@
-pub mod ReadingLemmas
-pub mod ZoneLemmas
-pub mod ConvertingLemmas
-pub mod LocalLines

@@ -1,5 +1,0 @@
-use Rattle.zic_source_commands.proofs.OnePlacing.{one_linked_building}
-use Rattle.zic_source_commands.proofs.laws.links_are_placed_one_way.Goals as goal
-
-pub returns : goal.returns
-returns c = one_linked_building
