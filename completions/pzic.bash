@@ -35,7 +35,7 @@ _pzic() {
     check) options='--workers --zone-piece --explain --help' ;;
     build) options='--links --sync --release --tables --workers --zone-piece --explain --help' ;;
     verify) options='--strict --release --tables --workers --zone-piece --explain --help' ;;
-    diff) options='--trees --from --to --ignore --summary --now --show-release --workers --zone-piece --explain --help' ;;
+    diff) options='--trees --from --to --ignore --summary --now --style --status --show-release --workers --zone-piece --explain --help' ;;
     convert) options='--tree --against --against-tree --workers --zone-piece --row-piece --max-rows --max-bytes --max-record --header --skip-header --zone --zone-field --time-field --delimiter --unit --from --ambiguous --style --records --quotes --append --keep-going --faults --faults-with --rejects --max-faults --progress --show-release --explain --help' ;;
     show) options='--local --next --weekdays --disambiguation --explain --help' ;;
     dump) options='--from --to --explain --help' ;;
@@ -52,6 +52,7 @@ _pzic() {
     *:--tables | *:--tree | *:--against-tree) takes='folders' ;;
     diff:--from | dump:--from | *:--to | *:--now | *:--zone-piece | *:--row-piece | *:--max-rows | *:--max-bytes | *:--max-record | *:--zone-field | *:--time-field | *:--max-faults | *:--next | *:--name | *:--since | *:--until) takes='none' ;;
     *:--ignore) takes='daylight abbreviation daylight,abbreviation' ;;
+    diff:--style) takes='count iso' ;;
     *:--against | *:--faults | *:--rejects) takes='files' ;;
     *:--workers) takes='1 2 4 8 16 32 64' ;;
     *:--zone) takes='zones' ;;
@@ -59,7 +60,7 @@ _pzic() {
     *:--unit) takes='s ms us ns' ;;
     convert:--from) takes='count rfc3339 local' ;;
     *:--ambiguous) takes='reject earlier later compatible' ;;
-    *:--style) takes='fields iso' ;;
+    convert:--style) takes='fields iso' ;;
     *:--records) takes='csv lines' ;;
     *:--quotes) takes='strict lenient' ;;
     *:--faults-with) takes='line value line,value' ;;

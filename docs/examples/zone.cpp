@@ -42,6 +42,6 @@ Short
 23400 1 19800
 Test/East,1720000000,2024-07-03T16:16:40,+06:30:00,1,EDT
 row 2: RowZone
-zone,from,until,kind
-Test/East,954527400,,forever
+zone,from,until,old_offset,new_offset,kind
+Test/East,954527400,,+05:30:00,+06:30:00,forever
 */

@@ -115,7 +115,7 @@ def _number(text: str) -> Optional[int]:
 
 def _summary(old: _Zones, new: _Zones, now: int) -> Iterable[Tuple[str, Optional[int], Optional[int], str]]:
     """Return of each zone that differs its name, from when on and until when it does, and the kind of this."""
-    for name, begin, until, kind in _lines(old.diff(new, summary=True, now=now)):
+    for name, begin, until, *_offsets, kind in _lines(old.diff(new, summary=True, now=now)):
         yield name, _number(begin), _number(until), kind
 
 

@@ -1118,7 +1118,7 @@ static void take_files(void) {
 
 // What differs in the files of two handles, as tests/program/diff.txt has it.
 static const char spans[] = "zone,from,until,old_offset,old_daylight,old_abbreviation,new_offset,new_daylight,new_abbreviation\n";
-static const char summaries[] = "zone,from,until,kind\n";
+static const char summaries[] = "zone,from,until,old_offset,new_offset,kind\n";
 
 static void expect_diff(const pzic_handle *old_files, const pzic_handle *new_files, const pzic_diff_options *options,
                         uint64_t number, const char *lines) {
@@ -1172,11 +1172,11 @@ static void compare_files(void) {
     // Summaries, for which the last instant is none.
     how = (pzic_diff_options){.first = INT64_C(-62135510400), .last = INT64_MIN, .present = 946681200, .listed = PZIC_DIFF_SUMMARIES};
     expect_diff(a, a, &how, 0, "");
-    expect_diff(a, b, &how, 1, "A,,,forever\n");
-    expect_diff(a, c, &how, 1, "A,,946681200,past\n");
-    expect_diff(d, e, &how, 3, "A,,,removed\nM,,,forever\nB,,,added\n");
+    expect_diff(a, b, &how, 1, "A,,,+01:00:00,+01:00:00,forever\n");
+    expect_diff(a, c, &how, 1, "A,,946681200,+01:00:00,+01:00:00,past\n");
+    expect_diff(d, e, &how, 3, "A,,,,,removed\nM,,,+01:00:00,+04:00:00,forever\nB,,,,,added\n");
     how.present = 946681199;
-    expect_diff(c, a, &how, 1, "A,,946681200,future\n");
+    expect_diff(c, a, &how, 1, "A,,946681200,+01:00:00,+01:00:00,future\n");
     how.ignore_daylight = 1;
     expect_diff(a, c, &how, 0, "");
     // Without files on a side, and by options that there aren't, what the handle held is gone.

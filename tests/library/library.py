@@ -219,9 +219,9 @@ def compare_trees(tree):
     check(got == names + b"A,,,+01:00:00,1,AAA,+01:00:00,0,AAA\n", got)
     for now, kind in (None, b"past"), (946681200, b"past"), (946681199, b"future"), (-1, b"future"):
         got = a.diff(late, summary=True, now=now)
-        check(got == b"zone,from,until,kind\nA,,946681200," + kind + b"\n", now, got)
+        check(got == b"zone,from,until,old_offset,new_offset,kind\nA,,946681200,+01:00:00,+01:00:00," + kind + b"\n", now, got)
     got = tree.files(["Europe/Dublin"]).diff(a, summary=True)
-    check(got == b"zone,from,until,kind\nEurope/Dublin,,,removed\nA,,,added\n", got)
+    check(got == b"zone,from,until,old_offset,new_offset,kind\nEurope/Dublin,,,,,removed\nA,,,,,added\n", got)
     refuses(ValueError, lambda: a.diff(b, ignore=["offset"]))
     refuses(ValueError, lambda: a.diff(b, first=5, last=4))
     refuses(ValueError, lambda: a.diff(b, now=5))

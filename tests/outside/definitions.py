@@ -1,5 +1,5 @@
 #!/usr/bin/env python3
-"""What a zone shows: a literal transcription of the definitions of zic_occurrences/specs/{Occurrence,Order,Listing} and
+"""What a zone shows: a literal transcription of the definitions of zic_states/specs/{Occurrence,Order,Listing} and
 zic_states/specs/{Until,InForce,Abbreviation,Zone,End,Change,Fault} into Python, with its own parser. Nothing of the project's code
 is read. Quantifiers over occurrences are loops over the occurrences of all years up to a horizon that lies after each end.
 

@@ -30,11 +30,12 @@ compare() {
     python3 "$witness" "$1.tree" "$2.tree" "$3" "$4" listing "${words[@]}"
 }
 
-# summarize OLD NEW NOW [WHAT]
+# summarize OLD NEW NOW|- [WHAT]
 summarize() {
-    local ignored=()
-    [ ! "${4-}" ] || ignored=(--ignore "$4")
-    "$program" diff --summary --now "$3" "${ignored[@]}" "$1" "$2" >listing
+    local chosen=()
+    [ "$3" = - ] || chosen=(--now "$3")
+    [ ! "${4-}" ] || chosen+=(--ignore "$4")
+    "$program" diff --summary "${chosen[@]}" "$1" "$2" >listing
     IFS=, read -ra words <<<"${4-}"
     python3 "$summaries" "$1.tree" "$2.tree" "$3" listing "${words[@]}"
 }
@@ -48,10 +49,10 @@ for seed in 1 2 3 4; do
     "$program" build one.tree one
     "$program" build other.tree other
     echo "diff, random sources: $(compare one other 1900 2100)"
-    echo "summary, random sources: $(summarize one other 0)"
+    echo "summary, random sources: $(summarize one other -)"
     echo "summary, random sources, offsets alone: $(summarize other one 0 daylight,abbreviation)"
 done
-echo "summary: $(summarize old new 1800000000)"
+echo "summary: $(summarize old new -), and from 2027 on: $(summarize old new 1800000000)"
 # Zones that differ before 1900; after 2400 for a year, and from then on; by the days of rules each year, and only in leap years
 # whose February ends on a Sunday; for a second; and not at all, but in how they are written.
 cat >was <<'EOF'
@@ -92,7 +93,7 @@ Zone P/same 1 - AAA 2000
 Zone P/new 1 - NEW
 EOF
 for source in was now; do "$program" build "$source.tree" "$source"; done
-echo "summary, edges: $(summarize was now 1800000000) and $(summarize now was 15178917600)"
+echo "summary, edges: $(summarize was now -), $(summarize was now 946681200) and $(summarize now was 15178917599)"
 "$program" diff --summary old old | cmp - /dev/null
 # trees, whose names come in another order
 cmp <("$program" diff --trees old.tree new.tree | sort) <("$program" diff old new | sort)

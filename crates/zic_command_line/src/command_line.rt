@@ -15,13 +15,12 @@ use std::alloc::{AllocError, Global};
 use std::env::Args;
 use std::rt::Env;
 use std::{env, io};
-use zic_compare::Compared;
+use zic_compare::{Compared, Style};
 use zic_dump::Years;
 use zic_explain::shown_word;
 use zic_io::FaultFields;
-use zic_local::LocalTime;
-use zic_plan::{Layout, Plan};
-use zic_schedule::Schedule;
+use zic_layouts::{Layout, Plan};
+use zic_local::{LocalTime, Schedule};
 
 /// What the names of Link lines are made as.
 #[derive(Clone, Copy)]
@@ -37,12 +36,16 @@ pub enum Links {
 /// What is listed of the zones of two sources, or of two folders.
 #[derive(Drop)]
 pub enum Differences {
-    /// The spans within these years at which they differ.
-    Within(Years),
+    /// The spans at which they differ.
+    Within {
+        years: Years,
+        /// The instant from which on they are listed, if it isn't the start of the years.
+        since: Option<i64>,
+    },
     /// From when on they differ, and from when on they agree for ever.
     Summary {
-        /// The instant that is now, if it isn't the clock's.
-        now: Option<i64>,
+        /// The instant from which on they are compared, if it isn't the first of all.
+        since: Option<i64>,
     },
 }
 
@@ -96,11 +99,15 @@ pub enum Request {
         plan: Plan,
         differences: Differences,
         compared: Compared,
+        /// How instants are written.
+        style: Style,
         /// Whether the releases of both are printed.
         shows_release: bool,
+        /// Whether the status tells that something differs.
+        tells_status: bool,
     },
     /// Convert a column by the files of a source, which is compiled, or of a folder.
-    Convert(Conversion),
+    Convert(ConvertOptions),
     /// Tell what a file says of an instant.
     Show {
         file: String,
@@ -162,7 +169,7 @@ pub enum Zones {
 
 /// What a column is converted by, and what is printed about its rows.
 #[derive(Drop)]
-pub struct Conversion {
+pub struct ConvertOptions {
     pub zones: Zones,
     /// Where the zones come from that rows are compared with, if they are.
     pub against: Option<Zones>,

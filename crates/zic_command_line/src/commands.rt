@@ -4,7 +4,7 @@ use crate::form::{Form, Value};
 use clap::{Arg, Command};
 use std::alloc::{AllocError, Global};
 use zic_dump::{FIRST_YEAR, LAST_YEAR};
-use zic_plan::{MAX_BYTES, MAX_OF_PIECE, MAX_ROWS, MAX_WORKERS};
+use zic_layouts::{MAX_BYTES, MAX_OF_PIECE, MAX_ROWS, MAX_WORKERS};
 
 /// The version of the program, and the kit that it is proved with.
 const VERSION: &str = "0.1.0\nproved with rattle-kit-13f logic dac8208d650f15bf";
@@ -135,7 +135,7 @@ static VERIFY: [Word; 8] = [
     EXPLAIN,
 ];
 
-static DIFF: [Word; 12] = [
+static DIFF: [Word; 14] = [
     Word {
         name: "OLD",
         help: "A file of Rule, Zone and Link lines, or -",
@@ -183,8 +183,18 @@ static DIFF: [Word; 12] = [
     },
     Word {
         name: "now",
-        help: "What is past for --summary [default: the clock]",
+        help: "Only what differs from this date or second on",
         form: Form::Instant,
+    },
+    Word {
+        name: "style",
+        help: "Form of instants: a count of seconds, or iso in UT",
+        form: Form::INSTANTS,
+    },
+    Word {
+        name: "status",
+        help: "The status is 1 if anything differs",
+        form: Form::Flag,
     },
     Word {
         name: "show-release",
@@ -476,7 +486,7 @@ static COMMANDS: [Described; 10] = [
     Described {
         name: "diff",
         about: "Lists when the zones of two sources differ, or of two trees",
-        after: "Each line is ZONE,FROM,UNTIL and the offset, daylight flag and abbreviation\nof OLD and then of NEW; of --summary ZONE,FROM,UNTIL and past, future, forever,\nremoved or added.\n\nExample:\n  pzic diff old/tzdata.zi /usr/share/zoneinfo/tzdata.zi\n  pzic diff --summary --trees ~/zoneinfo /usr/share/zoneinfo",
+        after: "Each line is ZONE,FROM,UNTIL and the offset, daylight flag and abbreviation\nof OLD and then of NEW; of --summary ZONE,FROM,UNTIL, both offsets, and past,\nfuture, forever, removed, added or refused.\n\nExample:\n  pzic diff old/tzdata.zi /usr/share/zoneinfo/tzdata.zi\n  pzic diff --summary --trees ~/zoneinfo /usr/share/zoneinfo",
     },
     Described {
         name: "convert",

@@ -1,14 +1,15 @@
 //! The commands that compile sources.
 
 use crate::command_line::{Building, Differences, Links, Request};
-use crate::instant::instant_of;
+use crate::instant::date_or_instant;
 use crate::no_request::{NoRequest, usage};
 use crate::release::release_files;
 use crate::values::{given, is_given, plan, texts, word, years};
 use clap::ArgMatches;
 use std::alloc::Global;
 use zic_base::STANDARD_INPUT;
-use zic_compare::Compared;
+use zic_compare::{Compared, Style};
+use zic_dump::Years;
 
 pub(crate) fn check(alloc: Global, matches: &ArgMatches<'_>) -> Result<Request, NoRequest> {
     let plan = plan(alloc, matches)?;
@@ -80,7 +81,9 @@ pub(crate) fn diff(alloc: Global, matches: &ArgMatches<'_>) -> Result<Request, N
         plan,
         differences,
         compared,
+        style: style(alloc, matches)?,
         shows_release: matches.get_flag("show-release"),
+        tells_status: matches.get_flag("status"),
     })
 }
 
@@ -101,24 +104,45 @@ fn old_and_new(
 
 /// Returns what is listed of two sources, or of two folders.
 fn differences_of(alloc: Global, matches: &ArgMatches<'_>) -> Result<Differences, NoRequest> {
-    let now = now(alloc, matches)?;
-    if !matches.get_flag("summary") {
-        return match now {
-            None => Ok(Differences::Within(years(alloc, matches)?)),
-            Some(_) => Err(usage(alloc, "--now is for --summary")),
+    let since = since(alloc, matches)?;
+    let from = is_given(matches, "from");
+    if matches.get_flag("summary") {
+        return if from || is_given(matches, "to") {
+            Err(usage(alloc, "--summary is of all years, without --from and --to"))
+        } else {
+            Ok(Differences::Summary { since })
         };
     }
-    if is_given(matches, "from") || is_given(matches, "to") {
-        return Err(usage(alloc, "--summary is of all years, without --from and --to"));
+    if from && since.is_some() {
+        return Err(usage(alloc, "--now is in place of --from"));
     }
-    Ok(Differences::Summary { now })
+    within(alloc, years(alloc, matches)?, since)
 }
 
-/// Returns the instant that is now, if it is given.
-fn now(alloc: Global, matches: &ArgMatches<'_>) -> Result<Option<i64>, NoRequest> {
+/// Returns what is listed of these years, from an instant on, if one is given.
+fn within(alloc: Global, years: Years, since: Option<i64>) -> Result<Differences, NoRequest> {
+    match since {
+        Some(since) if since > years.instants().last => {
+            Err(usage(alloc, "the instant of --now is after the year of --to"))
+        }
+        _ => Ok(Differences::Within { years, since }),
+    }
+}
+
+/// Returns the instant from which on zones are compared, if it is given.
+fn since(alloc: Global, matches: &ArgMatches<'_>) -> Result<Option<i64>, NoRequest> {
     match matches.get_str("now") {
-        Some(word) => Ok(Some(instant_of(alloc, word, "--now <SECONDS>")?)),
+        Some(word) => Ok(Some(date_or_instant(alloc, word, "--now <DATE>")?)),
         None => Ok(None),
+    }
+}
+
+/// Returns how instants are written.
+fn style(alloc: Global, matches: &ArgMatches<'_>) -> Result<Style, NoRequest> {
+    match matches.get_str("style") {
+        Some("count") => Ok(Style::Count),
+        Some("iso") => Ok(Style::Iso),
+        _ => Err(usage(alloc, "--style is count or iso")),
     }
 }
 

@@ -1,6 +1,6 @@
 //! The conversion of a column.
 
-use crate::command_line::{Conversion, Request, Zones};
+use crate::command_line::{ConvertOptions, Request, Zones};
 use crate::fields::{FieldNames, FieldWords};
 use crate::layout::{fault_fields, layout, max_faults};
 use crate::no_request::{NoRequest, usage};
@@ -9,7 +9,7 @@ use clap::ArgMatches;
 use std::alloc::Global;
 use zic_base::STANDARD_INPUT;
 use zic_io::FaultFields;
-use zic_plan::{Layout, Plan};
+use zic_layouts::{Layout, Plan};
 
 /// Where the zones of a column come from, and those that rows are compared with.
 #[derive(Drop)]
@@ -62,7 +62,7 @@ fn conversion(
         rejects,
         max_faults,
     } = lists;
-    Request::Convert(Conversion {
+    Request::Convert(ConvertOptions {
         zones,
         against,
         plan,

@@ -2,7 +2,7 @@
 
 use clap::builder::{ValueParser, ValueRange};
 use zic_dump::{FIRST_YEAR, LAST_YEAR};
-use zic_plan::MAX_BYTES;
+use zic_layouts::MAX_BYTES;
 
 /// What a command takes. The label of an option is what help calls its value, and the default stands for
 /// that where the option isn't given: each is one text, or none.
@@ -33,7 +33,7 @@ pub(crate) enum Form {
         least: u64,
         most: u64,
     },
-    /// An option that is an instant, which is read later on.
+    /// An option that is a date or an instant, which is read later on.
     Instant,
 }
 
@@ -96,6 +96,13 @@ impl Form {
         label: &["STYLE"],
         words: &["fields", "iso"],
         default: &["fields"],
+    };
+
+    /// Words for how instants are written.
+    pub(crate) const INSTANTS: Form = Form::Choice {
+        label: &["STYLE"],
+        words: &["count", "iso"],
+        default: &["count"],
     };
 
     /// Words for what the list of faults has of each besides its row and its name.
@@ -259,11 +266,11 @@ fn whole<'a>(label: &'a [&'a str], default: &'a [&'a str], least: u64, most: u64
     }
 }
 
-/// Returns the value that is an instant.
+/// Returns the value that is a date or an instant.
 fn instant<'a>() -> Value<'a> {
     Value {
         may_be_negative: true,
-        ..text(&["SECONDS"], &[])
+        ..text(&["DATE"], &[])
     }
 }
 

@@ -8,7 +8,7 @@ use crate::layout::read_by;
 use crate::no_request::{NoRequest, hinted, usage};
 use std::alloc::{AllocError, Global};
 use zic_explain::shown_word;
-use zic_plan::{Layout, ZoneFrom};
+use zic_layouts::{Layout, ZoneFrom};
 
 /// The greatest number of bytes that are shown of a field.
 const LONGEST_SHOWN: usize = 64;

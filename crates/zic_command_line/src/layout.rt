@@ -5,9 +5,9 @@ use crate::no_request::{NoRequest, usage};
 use clap::ArgMatches;
 use std::alloc::{AllocError, Global};
 use zic_io::FaultFields;
-use zic_plan::{
+use zic_layouts::{
     AtFault, Delimiter, Disambiguation, FieldCount, Header, Layout, Notes, Quotes, Records,
-    RowStart, Style, TimeFrom, Unit, Written, ZoneFrom,
+    RowStart, Style, TimeFrom, Unit, ZoneFrom,
 };
 
 /// How the fields of a record are written.
@@ -70,19 +70,18 @@ pub(crate) fn layout(
         max_record: matches.get_one::<u64>("max-record"),
         start,
         style,
-        written: written(matches),
         at_fault: reads.at_fault,
         notes: notes(matches),
     };
-    Ok(with_quotes(layout, records.quotes))
+    Ok(with_quotes(matches, layout, records.quotes))
 }
 
 /// Returns a layout with these double quotes, or else with those that it has by default.
-fn with_quotes(layout: Layout, quotes: Option<Quotes>) -> Layout {
+fn with_quotes(matches: &ArgMatches<'_>, layout: Layout, quotes: Option<Quotes>) -> Layout {
     let mut layout = layout;
     layout.quotes = match quotes {
         Some(quotes) => quotes,
-        None => default_quotes(&layout),
+        None => default_quotes(matches, &layout),
     };
     layout
 }
@@ -251,13 +250,9 @@ fn at_fault(alloc: Global, matches: &ArgMatches<'_>) -> Result<AtFault, NoReques
     }
 }
 
-/// Returns which rows are written.
-fn written(matches: &ArgMatches<'_>) -> Written {
-    if matches.get_str("against").is_some() || matches.get_str("against-tree").is_some() {
-        Written::Moved
-    } else {
-        Written::All
-    }
+/// Returns whether rows are compared with another release.
+fn is_compared(matches: &ArgMatches<'_>) -> bool {
+    matches.get_str("against").is_some() || matches.get_str("against-tree").is_some()
 }
 
 /// Returns what is noted of a row with a fault.
@@ -400,10 +395,10 @@ fn quotes(alloc: Global, matches: &ArgMatches<'_>) -> Result<Option<Quotes>, NoR
     }
 }
 
-/// Returns which double quotes a record may have where no option says it: all in a plain column, and by any
-/// other layout those of RFC 4180.
-fn default_quotes(layout: &Layout) -> Quotes {
-    if is_plain(layout) {
+/// Returns which double quotes a record may have where no option says it: all in a plain column that is
+/// compared with no other release, and else those of RFC 4180.
+fn default_quotes(matches: &ArgMatches<'_>, layout: &Layout) -> Quotes {
+    if is_plain(layout) && !is_compared(matches) {
         Quotes::Lenient
     } else {
         Quotes::Strict
@@ -431,7 +426,6 @@ fn is_plain(layout: &Layout) -> bool {
         Layout {
             start: RowStart::Fields,
             style: Style::Fields,
-            written: Written::All,
             at_fault: AtFault::End,
             notes: Notes::Faults,
             ..

@@ -26,7 +26,7 @@ mod values;
 mod zone_file;
 
 pub use command_line::{
-    Building, CommandLine, Conversion, Differences, Exporting, Links, Request, Zones, parse,
+    Building, CommandLine, ConvertOptions, Differences, Exporting, Links, Request, Zones, parse,
     requested,
 };
 pub use fields::FieldNames;

@@ -6,7 +6,7 @@ use crate::no_request::{NoRequest, bad_value, usage};
 use crate::values::given;
 use clap::ArgMatches;
 use std::alloc::Global;
-use zic_schedule::{Policy, Schedule, TimeOfDay, Weekdays};
+use zic_local::{Policy, Schedule, TimeOfDay, Weekdays};
 
 /// The names of the days of the week, from Monday on.
 const DAYS: [&str; 7] = ["mon", "tue", "wed", "thu", "fri", "sat", "sun"];

@@ -5,7 +5,7 @@ use clap::ArgMatches;
 use clap::parser::ValueSource;
 use std::alloc::{AllocError, Global};
 use zic_dump::Years;
-use zic_plan::Plan;
+use zic_layouts::Plan;
 
 /// Returns the word for what is required.
 pub(crate) fn given<'a>(

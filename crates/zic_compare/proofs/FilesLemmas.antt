@@ -10,8 +10,9 @@ use Rattle.zic_base.proofs.Elements.{contains_got, got}
 use Rattle.zic_base.proofs.Options.{if_at, some_of}
 use Rattle.zic_compare.specs.Files.{AreLinesOfBoth, AreLinesOfNew, AreLinesOfOld, IsDiff, IsLineOfNew, IsLineOfOld, names_of}
 use Rattle.zic_compare.specs.Lines.{AreLinesOfAll}
+use Rattle.zic_compare.specs.Refused.{RefusedNames, refused_lines}
 use Rattle.zic_compare.specs.Text.{with_names}
-use Rattle.zic_compare.specs.declared.listed.Listed.{Listed}
+use Rattle.zic_compare.specs.declared.sides.Listed.{Listed}
 use Rattle.zic_compare.proofs.SameLemmas.{same_bytes}
 use Rattle.zic_files.specs.File.{File}
 use Rattle.zic_tzif.specs.Content.{Content}
@@ -70,14 +71,14 @@ lines_of_whole Q files lines are =
     subst (λ (fs : List File). AreLinesOfAll Q fs lines) (take_all (length files - 0) files all) are
 
 -- the text of both
-pub diff_of_both : (how : Listed) (old new : List File) (of_old of_new text : List ℕ) → AreLinesOfAll (AreLinesOfOld how new) old of_old → AreLinesOfAll (AreLinesOfNew how old) new of_new
-    → text ≡ with_names (names_of how) (of_old ++ of_new) → IsDiff how old new text
-diff_of_both how old new of_old of_new text are_old are_new is = record {
+pub diff_of_both : (how : Listed) (old new : List File) (refused : RefusedNames) (of_old of_new text : List ℕ) → AreLinesOfAll (AreLinesOfOld how new) old of_old
+    → AreLinesOfAll (AreLinesOfNew how old) new of_new → text ≡ with_names (names_of how) ((of_old ++ of_new) ++ refused_lines how refused) → IsDiff how old new refused text
+diff_of_both how old new refused of_old of_new text are_old are_new is = record {
   of_old = are_old.of_each;
   each_old = are_old.each;
   of_new = are_new.of_each;
   each_new = are_new.each;
-  is_text = is ∙ ap (with_names (names_of how)) (ap (λ (l : List ℕ). l ++ of_new) are_old.joined ∙ ap (λ (l : List ℕ). flat_map (λ (x : List ℕ). x) are_old.of_each ++ l) are_new.joined);
+  is_text = is ∙ ap (λ (l : List ℕ). with_names (names_of how) (l ++ refused_lines how refused)) (ap (λ (l : List ℕ). l ++ of_new) are_old.joined ∙ ap (λ (l : List ℕ). flat_map (λ (x : List ℕ). x) are_old.of_each ++ l) are_new.joined);
 }
 
 of_option : (o : Option File) (P : File → Type 0) → ((file : File) → o ≡ Some file → P file) → IfSome o P

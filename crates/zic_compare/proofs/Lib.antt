@@ -2,8 +2,10 @@ pub mod RunLemmas
 pub mod SameLemmas
 pub mod FilesLemmas
 pub mod VerifyLemmas
+pub mod InstantLemmas
 pub mod LineLemmas
 pub mod ReadingLemmas
+pub mod RefusedLemmas
 pub mod SummaryLemmas
 pub mod Joining
 pub mod WritingLemmas

@@ -9,10 +9,10 @@ use Rattle.zic_base.specs.State.{Shown}
 use Rattle.zic_compare.specs.Answers.{Pair, AreSeenAt, DifferAt, IsSeenAt, seen}
 use Rattle.zic_compare.specs.Differences.{HasAnswersAt, IsDifference, AreDifferences}
 use Rattle.zic_compare.specs.code.Run.{up_to, HasAnswersOf, Closes, IsRun, AreBefore}
-use Rattle.zic_compare.specs.declared.compared.Compared.{Compared}
+use Rattle.zic_compare.specs.declared.sides.Compared.{Compared}
 use Rattle.zic_compare.specs.declared.difference.Difference.{Difference}
 use Rattle.zic_posix.specs.Instants.{Includes}
-use Rattle.zic_posix.specs.declared.instants.Instants.{Instants}
+use Rattle.zic_posix.specs.declared.span.Instants.{Instants}
 use Rattle.zic_tzif.specs.Answer.{answered}
 use Rattle.zic_tzif.specs.Content.{Content}
 use Rattle.zic_tzif.proofs.AnswerLemmas.{one_answer}

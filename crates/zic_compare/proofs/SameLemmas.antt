@@ -8,16 +8,16 @@ use Rattle.zic_compare.specs.Differences.{AreDifferences, IsDifference}
 use Rattle.zic_compare.specs.Files.{AreLinesOfBoth}
 use Rattle.zic_compare.specs.Summary.{AgreeAt}
 use Rattle.zic_compare.specs.code.Short.{AreShort, IsShort}
-use Rattle.zic_compare.specs.declared.compared.Compared.{Compared}
-use Rattle.zic_compare.specs.declared.listed.Listed.{Listed}
-use Rattle.zic_compare.specs.declared.listed.Listed.TheVariants as listed
+use Rattle.zic_compare.specs.declared.sides.Compared.{Compared}
+use Rattle.zic_compare.specs.declared.sides.Listed.{Listed}
+use Rattle.zic_compare.specs.declared.sides.Listed.TheVariants as listed
 use Rattle.zic_compare.proofs.RunLemmas.{one_seen_of}
 use Rattle.zic_files.specs.Sound.{IsAlwaysKnown}
-use Rattle.zic_posix.specs.declared.instants.Instants.{Instants}
+use Rattle.zic_posix.specs.declared.span.Instants.{Instants}
 use Rattle.zic_tzif.specs.Content.{Content}
 use Rattle.zic_tzif.specs.Laws.{FilesSayOne}
 use Rattle.zic_tzif.specs.Reading.{IsFile}
-use Rattle.zic_words.specs.Limits.{IsWithinLimits}
+use Rattle.zic_lines.specs.Limits.{IsWithinLimits}
 
 never_differs_from_itself : (content : Content) (compared : Compared) (t : ℤ) → AgreeAt (pair content content compared) t
 never_differs_from_itself content compared t differs = differs.differ (one_seen_of compared content t differs.old differs.new differs.are_seen.of_old differs.are_seen.of_new)

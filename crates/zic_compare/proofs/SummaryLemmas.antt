@@ -9,16 +9,16 @@ use Rattle.zic_base.proofs.Elements.{all_got}
 use Rattle.zic_base.specs.State.{Shown}
 use Rattle.zic_dump.proofs.Euclid.{place, by_seconds, same_place}
 use Rattle.zic_dump.proofs.Forever.{answers_moved, later_or_end, past_later}
-use Rattle.zic_compare.specs.Answers.{Pair, DifferAt, IsSeenAt}
-use Rattle.zic_compare.specs.Differences.{AreDifferences, IsDifference}
+use Rattle.zic_compare.specs.Answers.{Pair, AreSeenAt, DifferAt, IsSeenAt}
+use Rattle.zic_compare.specs.Differences.{AreDifferences, HasAnswersAt, IsDifference}
 use Rattle.zic_compare.specs.Laws.{FourHundredYearsDecide, NoneComes}
 use Rattle.zic_compare.specs.Summary.{AgreeAt, AgreeFrom, DifferForEver, IsEndOfDifference, IsFirstDifference, IsSummary}
-use Rattle.zic_compare.specs.declared.compared.Compared.{Compared}
+use Rattle.zic_compare.specs.declared.sides.Compared.{Compared}
 use Rattle.zic_compare.specs.declared.difference.Difference.{Difference}
 use Rattle.zic_compare.specs.declared.summary.Summary.{Summary}
 use Rattle.zic_posix.specs.Instants.{Includes}
-use Rattle.zic_posix.specs.declared.instants.Instants.{Instants}
-use Rattle.zic_posix.specs.declared.instants.TheConstants.{MAX_INSTANT}
+use Rattle.zic_posix.specs.declared.span.Instants.{Instants}
+use Rattle.zic_posix.specs.declared.span.TheConstants.{MAX_INSTANT}
 use Rattle.zic_tzif.specs.Answer.{answered, IsBeforeLast}
 use Rattle.zic_tzif.specs.Content.{Content}
 
@@ -146,6 +146,10 @@ module _ (pair : Pair) (bounds : Instants) (found : List Difference) (are : AreD
         omega (arith, ints, low, begins, before);
   }
 
+  -- what they answer there
+  pub first_seen : (first : Difference) → slice_get found 0 ≡ Some first → HasAnswersAt pair first first.instants.first
+  first_seen first at = let is = difference 0 first at in let some = is.some in is.throughout first.instants.first (record { from = omega (arith, ints); to = some })
+
   pub none_after : (last : Difference) → slice_get found (length found - 1) ≡ Some last → (t : ℤ) → last.instants.last <ℤ t → t ≤ℤ bounds.last → AgreeAt pair t
   none_after last at t after to differs =
       let is = difference (length found - 1) last at in
@@ -197,10 +201,11 @@ module _ (pair : Pair) (bounds : Instants) (found : List Difference) (are : AreD
         }
 
     pub summary_is : (first last : Difference) (summary : Summary) → slice_get found 0 ≡ Some first → slice_get found (length found - 1) ≡ Some last
-        → summary.from ≡ first.instants.first
+        → summary.from ≡ first.instants.first → answered summary.old ≡ answered first.old → answered summary.new ≡ answered first.new
         → MatchOption summary.until (start ≤ℤ last.instants.last) (λ end. (last.instants.last <ℤ start) × (end ≡ last.instants.last +ℤ pos 1))
         → IsSummary pair bounds.first summary
-    summary_is first last summary at_first at_last from_is until_is = record {
+    summary_is first last summary at_first at_last from_is old_is new_is until_is = record {
       from = subst (λ (t : ℤ). IsFirstDifference pair bounds.first t) (sym from_is) (first_is first at_first);
+      answers = rw (from_is, old_is, new_is) (first_seen first at_first);
       until = ends last summary.until at_last until_is;
     }

@@ -1,17 +1,19 @@
 -- Lines that are written with the names of their fields before the first of them.
-use Rattle.std.proofs.Common.{◌≡◌, ◌≤◌, ◌<◌, ◌+◌, ℕ, List, [], ◌∷◌, ◌++◌, length, take, drop, slice_range, get_or, flat_map, Option, inl, inr, refl, sym, ap, subst, ◌∙◌, append_assoc, append-nil, arith}
+use Rattle.std.proofs.Common.{◌≡◌, ◌==◌, Bool, ◌≤◌, ◌<◌, ◌+◌, ℕ, List, [], ◌∷◌, ◌++◌, length, take, drop, slice_range, get_or, flat_map, Option, inl, inr, refl, sym, ap, subst, ◌∙◌, append_assoc, append-nil, arith}
 use Rattle.std.proofs.KnownBytes.{Appends-nil}
 use Rattle.std.proofs.lemmas.Grind.{flat_map-append}
 use Rattle.std.proofs.lemmas.List.{take-append-drop, take_all, take_more}
 use Rattle.zic_compare.specs.Files.{AreLinesOfNew, AreLinesOfOld, names_of}
 use Rattle.zic_compare.specs.Lines.{AreLinesOfAll}
+use Rattle.zic_compare.specs.Refused.{RefusedNames, refused_lines}
 use Rattle.zic_compare.specs.Text.{with_names}
-use Rattle.zic_compare.specs.Written.{EndsAfter, EndsDiff, WritesDiff}
-use Rattle.zic_compare.specs.code.Rounds.{AreLinesIn, EndsList, EndsRound, FileLists, WritesLines, files_of, names_after}
-use Rattle.zic_compare.specs.declared.listed.Listed.{Listed}
+use Rattle.zic_compare.specs.Written.{EndsAfter, EndsDiff, WritesDiff, has_lines}
+use Rattle.zic_compare.specs.code.Rounds.{AreLinesIn, EndsList, EndsRefused, EndsRound, FileLists, WritesLines, files_of, names_after}
+use Rattle.zic_compare.specs.declared.sides.Listed.{Listed}
+use Rattle.zic_compare.specs.declared.sides.Listed.TheVariants as listed
 use Rattle.zic_compare.specs.declared.lists.Side.TheVariants as sides
-use Rattle.zic_compare.specs.declared.stop.DiffStop.{DiffStop}
-use Rattle.zic_compare.specs.declared.stop.DiffStop.TheVariants as stops
+use Rattle.zic_compare.specs.declared.sides.DiffStop.{DiffStop}
+use Rattle.zic_compare.specs.declared.sides.DiffStop.TheVariants as stops
 use Rattle.zic_compare.proofs.FilesLemmas.{diff_of_both}
 use Rattle.zic_compare.proofs.Joining.{first_more, lines_of_both}
 use Rattle.zic_counted.proofs.Bytes.{fails_after, writes_both}
@@ -32,6 +34,13 @@ pub names_after_both : (names a b : List ℕ) → names_after names (a ++ b) ≡
 names_after_both names [] b = refl
 names_after_both names (x ∷ a) [] = refl
 names_after_both names (x ∷ a) (y ∷ b) = refl
+
+-- no names are left just where there was a line
+told : (how : Listed) (lines : List ℕ) → (length (names_after (names_of how) lines) == 0) ≡ has_lines (with_names (names_of how) lines)
+told (listed.Spans how) [] = refl
+told (listed.Spans how) (byte ∷ lines) = refl
+told (listed.Summaries survey) [] = refl
+told (listed.Summaries survey) (byte ∷ lines) = refl
 
 abbrev all_of : List (List ℕ) → List ℕ
 all_of texts = flat_map (λ (text : List ℕ). text) texts
@@ -134,28 +143,48 @@ module _ {W : Type 0} (contents : W → Option (List ℕ)) where
       ends = ends_in_lines a b c names left before.lines within.lines stops.WriteFailed before.writes before.left_is within.fails;
     }
 
-  module _ (how : Listed) (old new : List File) where
+  module _ (how : Listed) (old new : List File) (refused : RefusedNames) where
     abbrev of_old : FileLists
     of_old = record { how = how; old = old; new = new; side = sides.Old }
 
     abbrev of_new : FileLists
     of_new = record { how = how; old = old; new = new; side = sides.New }
 
+    abbrev of_refused : List ℕ
+    of_refused = refused_lines how refused
+
+    -- what is left after the lines of both lists
+    left_after : (a b c : Counts W) (left end : List ℕ) (one : WritesLines contents of_old (names_of how) old a b left) (other : WritesLines contents of_new left new b c end)
+        → end ≡ names_after (names_of how) (one.lines ++ other.lines)
+    left_after a b c left end one other =
+        other.left_is ∙ ap (λ (n : List ℕ). names_after n other.lines) one.left_is ∙ sym (names_after_both (names_of how) one.lines other.lines)
+
     -- the lines of both lists
-    pub wrote_both : (a b c d : Counts W) (left end : List ℕ) → WritesLines contents of_old (names_of how) old a b left → WritesLines contents of_new left new b c end
-        → Writes contents c d [] → WritesDiff contents how old new a d
-    wrote_both a b c d left end one other flushed =
+    both_lists : (a b c : Counts W) (left end : List ℕ) (one : WritesLines contents of_old (names_of how) old a b left) (other : WritesLines contents of_new left new b c end)
+        → Writes contents a c (with_names (names_of how) (one.lines ++ other.lines))
+    both_lists a b c left end one other = lines_then a b c (names_of how) left one.lines other.lines one.writes one.left_is other.writes
+
+    -- and of the files that are refused
+    pub wrote_all : (a b c d e : Counts W) (left end last : List ℕ) (differs : Bool) → WritesLines contents of_old (names_of how) old a b left
+        → WritesLines contents of_new left new b c end → last ≡ names_after end (refused_lines how refused) → Writes contents c d (with_names end (refused_lines how refused))
+        → Writes contents d e [] → differs ≡ (length last == 0) → WritesDiff contents how old new refused a e differs
+    wrote_all a b c d e left end last differs one other last_is third flushed differs_is =
         let names = names_of how in
-        let text = with_names names (one.lines ++ other.lines) in
+        let both = one.lines ++ other.lines in
+        let lines = both ++ of_refused in
+        let text = with_names names lines in
+        let end_is = left_after a b c left end one other in
+        let whole = lines_then a c d names end both of_refused (both_lists a b c left end one other) end_is third in
+        let last_of : last ≡ names_after names lines = last_is ∙ ap (λ (n : List ℕ). names_after n of_refused) end_is ∙ sym (names_after_both names both of_refused) in
         record {
           text = text;
-          is_diff = diff_of_both how old new one.lines other.lines text one.are other.are refl;
-          writes = subst (λ (l : List ℕ). Writes contents a d l) (append-nil text)
-              (writes_both contents a c d text [] (lines_then a b c names left one.lines other.lines one.writes one.left_is other.writes) flushed);
+          is_diff = diff_of_both how old new refused one.lines other.lines text one.are other.are refl;
+          writes = subst (λ (l : List ℕ). Writes contents a e l) (append-nil text) (writes_both contents a d e text [] whole flushed);
+          tells = differs_is ∙ ap (λ (l : List ℕ). length l == 0) last_of ∙ told how lines;
         }
 
     -- it ends early in the old files
-    pub ended_old : (a b : Counts W) (stop : DiffStop) → EndsList contents of_old (names_of how) a b stop → EndsDiff contents how old new a b stop
+    pub ended_old : (a b : Counts W) (stop : DiffStop) → EndsList contents of_old (names_of how) a b stop → EndsDiff contents how old new refused a b stop
     ended_old a b stop ended = record {
       text = with_names (names_of how) ended.lines;
       so_far = record {
@@ -166,14 +195,16 @@ module _ {W : Type 0} (contents : W → Option (List ℕ)) where
         of_new = [];
         are_new = record { of_each = []; each = tt; joined = refl };
         in_order = inl refl;
-        is_text = ap (with_names (names_of how)) (sym (append-nil ended.lines));
+        of_refused = [];
+        are_refused = inl refl;
+        is_text = ap (with_names (names_of how)) (sym (append-nil (ended.lines ++ []) ∙ append-nil ended.lines));
       };
       ends = ended.ends;
     }
 
     -- or in the new ones
     pub ended_new : (a b c : Counts W) (left : List ℕ) (stop : DiffStop) → WritesLines contents of_old (names_of how) old a b left → EndsList contents of_new left b c stop
-        → EndsDiff contents how old new a c stop
+        → EndsDiff contents how old new refused a c stop
     ended_new a b c left stop one ended = record {
       text = with_names (names_of how) (one.lines ++ ended.lines);
       so_far = record {
@@ -184,19 +215,55 @@ module _ {W : Type 0} (contents : W → Option (List ℕ)) where
         of_new = ended.lines;
         are_new = ended.are;
         in_order = inr (omega arith);
-        is_text = refl;
+        of_refused = [];
+        are_refused = inl refl;
+        is_text = ap (with_names (names_of how)) (sym (append-nil (one.lines ++ ended.lines)));
       };
       ends = ends_in_lines a b c (names_of how) left one.lines ended.lines stop one.writes one.left_is ended.ends;
     }
 
+    -- or after them, in those that are refused
+    ended_after : (a b c d : Counts W) (left end : List ℕ) (stop : DiffStop) (one : WritesLines contents of_old (names_of how) old a b left)
+        (other : WritesLines contents of_new left new b c end) → EndsAfter contents a d (with_names (names_of how) ((one.lines ++ other.lines) ++ refused_lines how refused)) stop
+        → EndsDiff contents how old new refused a d stop
+    ended_after a b c d left end stop one other ended = record {
+      text = with_names (names_of how) ((one.lines ++ other.lines) ++ refused_lines how refused);
+      so_far = record {
+        old_count = length old;
+        of_old = one.lines;
+        are_old = subst (λ (fs : List File). AreLinesOfAll (AreLinesOfOld how new) fs one.lines) (sym (take_all (length old) old (omega arith))) one.are;
+        new_count = length new;
+        of_new = other.lines;
+        are_new = subst (λ (fs : List File). AreLinesOfAll (AreLinesOfNew how old) fs other.lines) (sym (take_all (length new) new (omega arith))) other.are;
+        in_order = inr (omega arith);
+        of_refused = refused_lines how refused;
+        are_refused = inr (omega arith, omega arith, refl);
+        is_text = refl;
+      };
+      ends = ended;
+    }
+
+    pub ended_refused : (a b c d : Counts W) (left end : List ℕ) (stop : DiffStop) → WritesLines contents of_old (names_of how) old a b left
+        → WritesLines contents of_new left new b c end → EndsRefused contents end (refused_lines how refused) c d stop → EndsDiff contents how old new refused a d stop
+    ended_refused a b c d left end stops.Memory one other same = ended_new a b d left stops.Memory one (record {
+      count = length new;
+      lines = other.lines;
+      are = subst (λ (fs : List File). AreLinesOfAll (AreLinesOfNew how old) fs other.lines) (sym (take_all (length new) new (omega arith))) other.are;
+      ends = subst (λ (w : Counts W). Writes contents b w (with_names left other.lines)) (sym same) other.writes;
+    })
+    ended_refused a b c d left end stops.WriteFailed one other fails =
+        let names = names_of how in
+        ended_after a b c d left end stops.WriteFailed one other
+        (ends_in_lines a c d names end (one.lines ++ other.lines) of_refused stops.WriteFailed (both_lists a b c left end one other) (left_after a b c left end one other) fails)
+
     -- or at the flush
-    pub ended_last : (a b c d : Counts W) (left end : List ℕ) (stop : DiffStop) → WritesLines contents of_old (names_of how) old a b left
-        → WritesLines contents of_new left new b c end → EndsAfter contents c d [] stop → EndsDiff contents how old new a d stop
-    ended_last a b c d left end stop one other ended =
-        let text = with_names left other.lines in
-        ended_new a b d left stop one (record {
-          count = length new;
-          lines = other.lines;
-          are = subst (λ (fs : List File). AreLinesOfAll (AreLinesOfNew how old) fs other.lines) (sym (take_all (length new) new (omega arith))) other.are;
-          ends = subst (λ (l : List ℕ). EndsAfter contents b d l stop) (append-nil text) (ends_then b c d text [] stop other.writes ended);
-        })
+    pub ended_last : (a b c d e : Counts W) (left end : List ℕ) (stop : DiffStop) → WritesLines contents of_old (names_of how) old a b left
+        → WritesLines contents of_new left new b c end → Writes contents c d (with_names end (refused_lines how refused)) → EndsAfter contents d e [] stop
+        → EndsDiff contents how old new refused a e stop
+    ended_last a b c d e left end stop one other third ended =
+        let names = names_of how in
+        let both = one.lines ++ other.lines in
+        let text = with_names names (both ++ of_refused) in
+        let whole = lines_then a c d names end both of_refused (both_lists a b c left end one other) (left_after a b c left end one other) third in
+        ended_after a b c e left end stop one other
+        (subst (λ (l : List ℕ). EndsAfter contents a e l stop) (append-nil text) (ends_then a d e text [] stop whole ended))

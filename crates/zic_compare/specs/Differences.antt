@@ -3,7 +3,7 @@ use Rattle.std.specs.Prelude.{◌≡◌, ◌≢◌, ◌⊎◌, ℤ, pos, ◌+ℤ
 use Rattle.zic_compare.specs.Answers.{Pair, AreSeenAt, DifferAt}
 use Rattle.zic_compare.specs.declared.difference.Difference.{Difference}
 use Rattle.zic_posix.specs.Instants.{Includes}
-use Rattle.zic_posix.specs.declared.instants.Instants.{Instants}
+use Rattle.zic_posix.specs.declared.span.Instants.{Instants}
 use Rattle.zic_tzif.specs.Answer.{answered}
 
 -- the two answers of a span, as they are seen at an instant

@@ -4,14 +4,15 @@ use Rattle.std.specs.List.{AllZip, flat_map}
 use Rattle.zic_base.specs.State.{Shown}
 use Rattle.zic_compare.specs.Answers.{pair, IsSeenAt}
 use Rattle.zic_compare.specs.Differences.{AreDifferences}
+use Rattle.zic_compare.specs.Refused.{RefusedNames, refused_lines}
 use Rattle.zic_compare.specs.Summary.{AgreeFrom, IsSummary}
 use Rattle.zic_compare.specs.SummaryText.{lone_line, summary_line, summary_names_line}
 use Rattle.zic_compare.specs.Text.{line, names_line, span_line, with_names}
-use Rattle.zic_compare.specs.declared.compared.Comparison.{Comparison}
+use Rattle.zic_compare.specs.declared.sides.Comparison.{Comparison}
 use Rattle.zic_compare.specs.declared.difference.Difference.{Difference}
-use Rattle.zic_compare.specs.declared.listed.Listed.{Listed}
-use Rattle.zic_compare.specs.declared.listed.Listed.TheVariants as listed
-use Rattle.zic_compare.specs.declared.listed.Survey.{Survey}
+use Rattle.zic_compare.specs.declared.sides.Listed.{Listed}
+use Rattle.zic_compare.specs.declared.sides.Listed.TheVariants as listed
+use Rattle.zic_compare.specs.declared.sides.Survey.{Survey}
 use Rattle.zic_compare.specs.declared.summary.Summary.{Summary}
 use Rattle.zic_files.specs.File.{File}
 use Rattle.zic_tzif.specs.Content.{Content}
@@ -71,11 +72,12 @@ AreLinesOfNew how old file lines =
     (Any (λ other. other.name ≡ file.name) old × (lines ≡ []))
     ⊎ (HasNone old file.name × IsLineOfNew how file.name file.image.content lines)
 
--- The lines of all old files in their order, and then those of the new files whose names they don't have. Before the first line come the
--- names of the fields; where there is no line, the text is empty.
-pub record IsDiff (how : Listed) (old new : List File) (text : List ℕ) : Type 0 where
+-- The lines of all old files in their order, then those of the new files whose names they don't have, and then those of the files that are
+-- refused. Before the first line come the names of the fields; where there is no line, the text is empty.
+pub record IsDiff (how : Listed) (old new : List File) (refused : RefusedNames) (text : List ℕ) : Type 0 where
   pub of_old : List (List ℕ)
   pub each_old : AllZip (AreLinesOfOld how new) old of_old
   pub of_new : List (List ℕ)
   pub each_new : AllZip (AreLinesOfNew how old) new of_new
-  pub is_text : text ≡ with_names (names_of how) (flat_map (λ lines. lines) of_old ++ flat_map (λ lines. lines) of_new)
+  pub is_text : text
+      ≡ with_names (names_of how) ((flat_map (λ lines. lines) of_old ++ flat_map (λ lines. lines) of_new) ++ refused_lines how refused)

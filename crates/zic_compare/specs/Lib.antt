@@ -1,9 +1,11 @@
 pub mod Answers
 pub mod Differences
 pub mod Files
+pub mod InstantText
 pub mod Lines
 pub mod Laws
 pub mod Reading
+pub mod Refused
 pub mod Summary
 pub mod SummaryText
 pub mod Text

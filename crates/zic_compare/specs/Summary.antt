@@ -1,8 +1,9 @@
 -- From when on two files differ, and from when on they agree for ever: own choice.
 use Rattle.std.specs.Prelude.{ℤ, pos, ◌-ℤ◌, ◌<ℤ◌, ◌≤ℤ◌, MatchOption}
-use Rattle.zic_compare.specs.Answers.{Pair, DifferAt}
+use Rattle.zic_compare.specs.Answers.{Pair, AreSeenAt, DifferAt}
 use Rattle.zic_compare.specs.declared.summary.Summary.{Summary}
-use Rattle.zic_posix.specs.declared.instants.TheConstants.{MAX_INSTANT}
+use Rattle.zic_posix.specs.declared.span.TheConstants.{MAX_INSTANT}
+use Rattle.zic_tzif.specs.Answer.{answered}
 
 -- the two files answer the same at the instant
 abbrev pub AgreeAt : Pair → ℤ → Type 0
@@ -27,7 +28,9 @@ pub record IsEndOfDifference (pair : Pair) (t : ℤ) : Type 0 where
   pub differ : DifferAt pair (t -ℤ pos 1)
   pub agree : AgreeFrom pair t
 
--- the first difference of two files since an instant, and either where their differences end, or that they differ again and again
+-- the first difference of two files since an instant, what they answer there, and either where their differences end, or that they differ
+-- again and again
 pub record IsSummary (pair : Pair) (since : ℤ) (summary : Summary) : Type 0 where
   pub from : IsFirstDifference pair since summary.from
+  pub answers : AreSeenAt pair summary.from (answered summary.old) (answered summary.new)
   pub until : MatchOption summary.until (DifferForEver pair) (IsEndOfDifference pair)

@@ -1,11 +1,11 @@
 -- The lines of `diff`: own choice, with the fields of an answer as rows have them.
 use Rattle.std.specs.Prelude.{ℕ, pos, ◌+ℤ◌, codes, if◌then◌else◌, List, [], ◌∷◌, ◌++◌, Option, Some, None}
-use Rattle.std.specs.Fmt.{signed_decimal}
 use Rattle.std.specs.Ordering.{int_eq}
 use Rattle.zic_base.specs.Digits.{offset_text}
 use Rattle.zic_base.specs.State.{Shown}
-use Rattle.zic_compare.specs.declared.compared.Compared.{Compared}
-use Rattle.zic_compare.specs.declared.compared.Comparison.{Comparison}
+use Rattle.zic_compare.specs.InstantText.{instant_text}
+use Rattle.zic_compare.specs.declared.sides.Compared.{Compared}
+use Rattle.zic_compare.specs.declared.sides.Comparison.{Comparison}
 use Rattle.zic_compare.specs.declared.difference.Difference.{Difference}
 use Rattle.zic_tzif.specs.Answer.{answered}
 
@@ -34,10 +34,10 @@ line compared name from until old new =
 
 -- the first instant of a span, and the one after its last; they are empty at the bounds, beyond which the span may go on
 abbrev pub from_field : Comparison → Difference → List ℕ
-from_field how d = if int_eq d.instants.first how.bounds.first then [] else signed_decimal d.instants.first
+from_field how d = if int_eq d.instants.first how.bounds.first then [] else instant_text how.style d.instants.first
 
 abbrev pub until_field : Comparison → Difference → List ℕ
-until_field how d = if int_eq d.instants.last how.bounds.last then [] else signed_decimal (d.instants.last +ℤ pos 1)
+until_field how d = if int_eq d.instants.last how.bounds.last then [] else instant_text how.style (d.instants.last +ℤ pos 1)
 
 -- the line of a span of a name
 abbrev pub span_line : Comparison → List ℕ → Difference → List ℕ

@@ -6,7 +6,7 @@ ghost use Rattle.zic_compare.specs.Differences.{AreDifferences, HasAnswersAt};
 ghost use Rattle.zic_compare.specs.code.Run.{Closes, HasAnswersOf, up_to};
 ghost use Rattle.zic_posix.specs.Instants.{Includes};
 
-use crate::compared::{Compared, are_same, seen};
+use crate::sides::{Compared, are_same, seen};
 use std::alloc::{AllocError, Global};
 use zic_tzif::{Answer, Instants, Zone};
 

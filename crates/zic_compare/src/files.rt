@@ -3,12 +3,12 @@
 ghost use Rattle.std.specs.Prelude.{◌≡◌, ◌<◌, ◌≤◌, ◌++◌, ℕ, List, length, slice_get, slice_range, IfOk, IfSome, OnOk};
 ghost use Rattle.zic_compare.specs.Files.{AreLinesOfBoth, AreLinesOfNew, AreLinesOfOld, HasInstants, IsDiff, IsLineOfNew, IsLineOfOld, names_of};
 ghost use Rattle.zic_compare.specs.Lines.{AreLinesOfAll};
+ghost use Rattle.zic_compare.specs.Refused.{none_refused};
 ghost use Rattle.zic_compare.specs.Text.{with_names};
 ghost use Rattle.zic_compare.specs.code.Short.{AreShort};
 
-use crate::compared::seen;
-use crate::listed::Listed;
-use crate::summary_text::{push_lone, push_summary};
+use crate::sides::{Listed, seen};
+use crate::summary::{push_lone, push_summary};
 use crate::text::{push_added, push_differences, push_removed};
 use std::alloc::{AllocError, Global};
 use zic_files::Files;
@@ -20,11 +20,11 @@ const SPAN_NAMES: &[u8] =
     b"zone,from,until,old_offset,old_daylight,old_abbreviation,new_offset,new_daylight,new_abbreviation\n";
 
 /// Those of the fields of summaries.
-const SUMMARY_NAMES: &[u8] = b"zone,from,until,kind\n";
+const SUMMARY_NAMES: &[u8] = b"zone,from,until,old_offset,new_offset,kind\n";
 
 /// Returns the lines of the names of two lists of files, with the names of their fields before them;
 /// without lines the text is empty. Names come in the order of the old files, and then of the new ones.
-/// Instants are in seconds from 1970-01-01T00:00:00 UT.
+/// Instants are in seconds from 1970-01-01T00:00:00 UT, or as their [style](crate::Style) has them.
 ///
 /// Of spans there is a line for each name and each longest span within the bounds at which each of its
 /// two files gives one answer, as far as they are compared, and the two differ: the name, the first
@@ -35,12 +35,13 @@ const SUMMARY_NAMES: &[u8] = b"zone,from,until,kind\n";
 ///
 /// Of summaries there is a line for each name whose two files ever differ from the first instant on: the
 /// name, the first instant at which they do, which is empty where it is the first of all, the instant
-/// from which on they agree for ever, and `past` where that isn't after now, else `future`. Where they
-/// differ again and again, that instant is empty, and the word is `forever`. A name that one list alone has is `removed` or
-/// `added`.
+/// from which on they agree for ever, the UT offsets of the old file and of the new one at the first
+/// of these instants, and `past` where the second isn't after now, else `future`. Where they differ
+/// again and again, the second is empty, and the word is `forever`. A name that one list alone has is
+/// `removed` or `added`.
 pub fn diff(alloc: Global, old: &Files, new: &Files, how: &Listed) -> Result<Vec<u8>, AllocError>
     requires { HasInstants how.now }
-    ensures { IfOk result (λ text. IsDiff how.now old.now new.now text.items) }
+    ensures { IfOk result (λ text. IsDiff how.now old.now new.now none_refused text.items) }
 {
     let mut lines = lines_of_old(alloc, how, old, new, 0, old.len())?;
     let mut of_new = lines_of_new(alloc, how, old, new, 0, new.len())?;

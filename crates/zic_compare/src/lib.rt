@@ -25,29 +25,22 @@
 //! the files of `files_of` and the clock's time, and writes their lines, is tested.
 #![tactic(auto)]
 
-mod compared;
 mod difference;
 mod files;
+mod instant;
 pub mod laws;
-mod listed;
 mod lists;
 mod pieces;
-mod reading;
+mod refused;
 mod sides;
-mod stop;
 mod summary;
-mod summary_text;
 mod text;
 mod verifying;
 mod writing;
 
-pub use compared::{Compared, Comparison};
 pub use difference::{Difference, differences};
 pub use files::{diff, lines_of_new, lines_of_old, with_names};
-pub use listed::{Listed, Survey};
-pub use reading::read_tree;
-pub use sides::Sides;
-pub use stop::DiffStop;
+pub use sides::{Compared, Comparison, DiffStop, Listed, Refused, Sides, Style, Survey, read_tree};
 pub use summary::{Summary, summarize};
 pub use verifying::{extra, verify};
 pub use writing::write_diff;

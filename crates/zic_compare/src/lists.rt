@@ -7,7 +7,7 @@ ghost use Rattle.zic_compare.specs.code.Rounds.{AreLinesIn, files_of};
 ghost use Rattle.zic_compare.specs.declared.lists.TheConstants.{MAX_NAMES};
 
 use crate::files::{lines_of_new, lines_of_old};
-use crate::listed::Listed;
+use crate::sides::Listed;
 use std::alloc::{AllocError, Global};
 use std::marker::Model;
 use zic_files::Files;

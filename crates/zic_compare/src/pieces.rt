@@ -5,7 +5,7 @@ ghost use Rattle.zic_compare.specs.Files.{HasInstants};
 ghost use Rattle.zic_compare.specs.Lines.{AreLinesOfAll};
 ghost use Rattle.zic_compare.specs.code.Rounds.{AreLinesIn, IsRound, count_of, files_in, files_of, start_of};
 ghost use Rattle.zic_compare.specs.declared.lists.TheConstants.{MAX_NAMES};
-ghost use Rattle.zic_plan.specs.declared.plan.TheConstants.{MAX_OF_PIECE};
+ghost use Rattle.zic_layouts.specs.declared.plan.TheConstants.{MAX_OF_PIECE};
 
 use crate::lists::Lists;
 use std::alloc::{AllocError, Global};

@@ -10,9 +10,9 @@ ghost use Rattle.zic_compare.specs.Text.{answer_fields, flag_field, from_field, 
 ghost use Rattle.zic_compare.specs.code.Short.{AreShort, IsShort};
 ghost use Rattle.zic_tzif.specs.Answer.{answered};
 
-use crate::compared::{Compared, Comparison};
 use crate::difference::{Difference, differences};
-use itoa::Buffer;
+use crate::instant::push_instant;
+use crate::sides::{Compared, Comparison};
 use std::alloc::{AllocError, Global};
 use zic_base::{State, offset_text};
 use zic_tzif::{Answer, Zone};
@@ -35,13 +35,14 @@ pub(crate) fn push_differences(
 {
     let found = differences(alloc, old, new, how.compared, how.bounds)?;
     for span in &found {
-        push_span(lines, how, name, span)?;
+        push_span(alloc, lines, how, name, span)?;
     }
     Ok(())
 }
 
 /// Adds the line of a span of a name.
 fn push_span(
+    alloc: Global,
     lines: &mut Vec<u8>,
     how: &Comparison,
     name: &[u8],
@@ -55,9 +56,9 @@ fn push_span(
 {
     lines.extend_from_slice(name)?;
     lines.push(b',')?;
-    push_from(lines, how, span)?;
+    push_from(alloc, lines, how, span)?;
     lines.push(b',')?;
-    push_until(lines, how, span)?;
+    push_until(alloc, lines, how, span)?;
     push_answer(lines, how.compared, &span.old)?;
     push_answer(lines, how.compared, &span.new)?;
     lines.push(b'\n')?;
@@ -65,17 +66,23 @@ fn push_span(
 }
 
 /// Adds the first instant of a span, unless it is that of the bounds.
-fn push_from(lines: &mut Vec<u8>, how: &Comparison, span: &Difference<'_>) -> Result<(), AllocError>
+fn push_from(
+    alloc: Global,
+    lines: &mut Vec<u8>,
+    how: &Comparison,
+    span: &Difference<'_>,
+) -> Result<(), AllocError>
     ensures { OnOk result (lines.new.items ≡ lines.old.items ++ from_field how.now span.now) }
 {
     if span.instants.first == how.bounds.first {
         return Ok(());
     }
-    lines.extend_from_slice(Buffer::new().format(span.instants.first).as_bytes())
+    push_instant(alloc, lines, how.style, span.instants.first)
 }
 
 /// Adds the instant after the last one of a span, unless that is the last one of the bounds.
 fn push_until(
+    alloc: Global,
     lines: &mut Vec<u8>,
     how: &Comparison,
     span: &Difference<'_>,
@@ -86,7 +93,7 @@ fn push_until(
     if span.instants.last == how.bounds.last {
         return Ok(());
     }
-    lines.extend_from_slice(Buffer::new().format(span.instants.last + 1).as_bytes())
+    push_instant(alloc, lines, how.style, span.instants.last + 1)
 }
 
 /// Adds the fields of an answer, each after a comma.

@@ -6,7 +6,7 @@ ghost use Rattle.zic_files.specs.Tree.{Gains};
 
 use std::alloc::{AllocError, Global};
 use zic_files::{Files, ZoneTree};
-use zic_words::Name;
+use zic_lines::Name;
 
 /// Asks a tree for the name of each file, in their order, and returns a line for each file that it
 /// doesn't have as it is: `missing NAME` where it has no file of that name, and `differs NAME` where

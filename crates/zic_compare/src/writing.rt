@@ -2,24 +2,24 @@
 
 ghost use Rattle.std.specs.Prelude.{◌≡◌, ◌≤◌, [], flat_map, length, IfOk, IfErr, OnOk, OnErr};
 ghost use Rattle.zic_compare.specs.Files.{HasInstants};
+ghost use Rattle.zic_compare.specs.Refused.{names_refused, refused_lines};
 ghost use Rattle.zic_compare.specs.Text.{with_names};
 ghost use Rattle.zic_compare.specs.Written.{EndsAfter, EndsDiff, WritesDiff};
-ghost use Rattle.zic_compare.specs.code.Rounds.{AreTextsOf, EndsList, EndsRound, names_after, WritesLines, files_of, round_files};
+ghost use Rattle.zic_compare.specs.code.Rounds.{AreTextsOf, EndsList, EndsRefused, EndsRound, names_after, WritesLines, files_of, round_files};
 ghost use Rattle.zic_counted.specs.Written.{FailsWithin, Writes};
 
 use crate::files::names_of;
-use crate::listed::Listed;
 use crate::lists::{Lists, Side};
 use crate::pieces::{Lines, Round};
-use crate::sides::Sides;
-use crate::stop::DiffStop;
+use crate::refused::refused_lines;
+use crate::sides::{DiffStop, Listed, Refused, Sides};
 use std::alloc::{AllocError, Global};
 use std::io::Write;
 use std::sync::Wait;
 use std::thread::Threads;
 use zic_counted::{Counted, WriteFailed, write_all};
+use zic_layouts::Plan;
 use zic_pieces::{Open, TaskStop, run_task};
-use zic_plan::Plan;
 
 /// What lines are made with: the runtime, the allocator, and the plan.
 #[derive(Drop)]
@@ -29,7 +29,8 @@ struct Crew<'a, T> {
     plan: &'a Plan,
 }
 
-/// Writes the text of [`diff`](crate::diff), and flushes.
+/// Writes the text of [`diff`](crate::diff), and then a line for each file that is refused, and
+/// flushes. Returns whether there is a line.
 ///
 /// The lines are made and written in rounds: first those of the names of the old files, and then those
 /// of the new ones. A round has one name, or several whose lines are expected to fit in memory
@@ -47,14 +48,14 @@ pub fn write_diff<T: Threads + Wait + Sync, W: Write>(
     sides: &Sides<'_>,
     how: &Listed,
     writer: &mut Counted<W>,
-) -> Result<(), DiffStop>
+) -> Result<bool, DiffStop>
     requires { HasInstants how.now }
-    ensures ok { OnOk result (WritesDiff W.contents how.now sides.now.old.now sides.now.new.now
-        writer.old writer.new) }
+    ensures ok { IfOk result (WritesDiff W.contents how.now sides.now.old.now sides.now.new.now
+        (names_refused sides.now.refused) writer.old writer.new) }
     ensures err { IfErr result (EndsDiff W.contents how.now sides.now.old.now sides.now.new.now
-        writer.old writer.new) }
+        (names_refused sides.now.refused) writer.old writer.new) }
 {
-    let Sides { old, new } = *sides;
+    let (old, new) = (sides.old, sides.new);
     let crew = Crew { rt, alloc, plan };
     let side = Side::Old;
     let of_old = Lists {
@@ -63,7 +64,7 @@ pub fn write_diff<T: Threads + Wait + Sync, W: Write>(
         new,
         side,
     };
-    let names = write_list(&crew, &of_old, names_of(how), writer)?;
+    let left = write_list(&crew, &of_old, names_of(how), writer)?;
     let side = Side::New;
     let of_new = Lists {
         how,
@@ -71,8 +72,10 @@ pub fn write_diff<T: Threads + Wait + Sync, W: Write>(
         new,
         side,
     };
-    write_list(&crew, &of_new, names, writer)?;
-    flush(writer)
+    let end = write_list(&crew, &of_new, left, writer)?;
+    let last = write_refused(alloc, how, &sides.refused, end, writer)?;
+    flush(writer)?;
+    Ok(last.is_empty())
 }
 
 /// Writes the lines of all files of a list, in rounds, with these names before the first line. Returns
@@ -102,6 +105,32 @@ fn write_list<T: Threads + Wait + Sync, W: Write>(
         first = end;
     }
     Ok(left)
+}
+
+/// Writes the lines of files that are refused, with these names before the first line. Returns the names
+/// that are still to be written before a line.
+fn write_refused<W: Write>(
+    alloc: Global,
+    how: &Listed,
+    refused: &Refused<'_>,
+    names: &'static [u8],
+    writer: &mut Counted<W>,
+) -> Result<&'static [u8], DiffStop>
+    ensures left { IfOk result (λ left. left.now
+        ≡ names_after names.now (refused_lines how.now (names_refused refused.now))) }
+    ensures ok { OnOk result (Writes W.contents writer.old writer.new
+        (with_names names.now (refused_lines how.now (names_refused refused.now)))) }
+    ensures err { IfErr result (EndsRefused W.contents names.now
+        (refused_lines how.now (names_refused refused.now)) writer.old writer.new) }
+{
+    let lines = match refused_lines(alloc, how, refused) {
+        Ok(lines) => lines,
+        Err(_) => return Err(DiffStop::Memory),
+    };
+    match write_lines(writer, names, &lines) {
+        Ok(left) => Ok(left),
+        Err(WriteFailed) => Err(DiffStop::WriteFailed),
+    }
 }
 
 /// Writes the lines of a round, with these names before the first line. Returns the names that are still

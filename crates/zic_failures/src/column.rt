@@ -1,6 +1,6 @@
 //! A record of the column, which is read again where standard input is a file.
 
-use crate::scan::{Found, RecordScan, Sought};
+use crate::scan::{RecordScan, ShownRecord, Target};
 use std::fs::{self, Files};
 use std::io::{Read, Seek, SeekFrom};
 
@@ -28,8 +28,8 @@ pub(crate) fn column_start<R: Files + AllocGlobal>(rt: &R) -> Option<u64> {
 pub(crate) fn find_record<R: Files + AllocGlobal>(
     rt: &R,
     start: u64,
-    sought: Sought,
-) -> Option<Found> {
+    sought: Target,
+) -> Option<ShownRecord> {
     let mut file = file_from(rt, start)?;
     let mut scan = RecordScan::new(rt.alloc(), sought);
     let is_read = scan_file(&mut file, &mut scan).is_some();

@@ -11,7 +11,7 @@ use zic_explain::cases::{
     ROW_RANGE_FROM_RFC3339, ROW_RANGE_UNIT_MS, ROW_RANGE_UNIT_NS, ROW_RANGE_UNIT_US,
 };
 use zic_explain::{Entry, Expectation, entry_named, push_bytes, push_section};
-use zic_plan::{FieldCount, TimeFrom, Unit};
+use zic_layouts::{FieldCount, TimeFrom, Unit};
 
 /// Returns the sections that say what is expected, and what people usually meant, where an error has
 /// this name, or an empty text where none has it.

@@ -8,7 +8,7 @@ use crate::reason::{Paths, unwritten};
 use crate::record::RecordForm;
 use crate::refused::refused_file;
 use crate::related::{TextLine, bad_abbreviation, first_name};
-use crate::scan::{Found, Sought};
+use crate::scan::{ShownRecord, Target};
 use std::alloc::{AllocError, Global};
 use std::fs::Files;
 use std::io::ErrorKind;
@@ -18,7 +18,7 @@ use zic_command_line::{Building, Exporting, Request, Zones};
 use zic_explain::cases::{A_COLUMN_GZIP, DUPLICATE_NAME_FIRST};
 use zic_explain::{entries, entry_named, error_in, shown_word};
 use zic_io::Failure;
-use zic_plan::{Header, Layout, Records, ZoneFrom};
+use zic_layouts::{Header, Layout, Records, ZoneFrom};
 
 /// The bytes with which a file begins that gzip made.
 const GZIP: &[u8] = b"\x1f\x8b";
@@ -117,7 +117,7 @@ impl Explainer {
         &self,
         rt: &R,
         failure: &Failure,
-        record: Option<&Found>,
+        record: Option<&ShownRecord>,
     ) -> Result<String, AllocError> {
         let mut text = self.place(rt, failure, record)?;
         let reason = self.reason(rt, failure, record)?;
@@ -131,7 +131,7 @@ impl Explainer {
         &self,
         rt: &R,
         failure: &Failure,
-        record: Option<&Found>,
+        record: Option<&ShownRecord>,
     ) -> Result<String, AllocError> {
         let refused = self.refused(rt, failure, record)?;
         if refused.is_empty() {
@@ -156,7 +156,7 @@ impl Explainer {
         &self,
         rt: &R,
         failure: &Failure,
-        record: Option<&Found>,
+        record: Option<&ShownRecord>,
     ) -> Result<String, AllocError> {
         let Some(folder) = &self.folder else {
             return Ok(String::new(rt.alloc()));
@@ -180,7 +180,7 @@ impl Explainer {
         &self,
         rt: &R,
         failure: &Failure,
-        record: Option<&Found>,
+        record: Option<&ShownRecord>,
     ) -> Result<String, AllocError> {
         let alloc = rt.alloc();
         match failure {
@@ -254,7 +254,7 @@ impl Explainer {
         alloc: Global,
         kind: RowKind,
         row: u64,
-        record: Option<&Found>,
+        record: Option<&ShownRecord>,
     ) -> Result<String, AllocError> {
         let Some(record) = record else {
             return row_place(alloc, kind, row, self.expected.form, None);
@@ -276,9 +276,9 @@ impl Explainer {
 
     /// Returns what is shown of the record of the row that a failure is about, where it can be read
     /// again.
-    fn record<R: Files + AllocGlobal>(&self, rt: &R, failure: &Failure) -> Option<Found> {
+    fn record<R: Files + AllocGlobal>(&self, rt: &R, failure: &Failure) -> Option<ShownRecord> {
         let (row, _) = row_of(failure)?;
-        let sought = Sought {
+        let sought = Target {
             number: self.before.saturating_add(row),
             records: self.records,
             delimiter: self.expected.form.delimiter,

@@ -2,8 +2,7 @@
 
 use std::alloc::{AllocError, Global};
 use zic_base::{Place, Stop};
-use zic_lines::{Entry, Fields, line_entry};
-use zic_words::Keyword;
+use zic_lines::{Entry, Fields, Keyword, line_entry};
 
 /// A place where no line is: the compiler's answers here are not shown with theirs.
 const NOWHERE: Place = Place { text: 1, line: 1 };

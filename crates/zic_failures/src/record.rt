@@ -3,7 +3,7 @@
 use crate::faulty::Part;
 use zic_base::RowKind;
 use zic_explain::Span;
-use zic_plan::{TimeFrom, Unit};
+use zic_layouts::{TimeFrom, Unit};
 
 /// Where the records of a column have the zone and the instant of a row.
 #[derive(Clone, Copy, Debug)]

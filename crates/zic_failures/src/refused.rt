@@ -6,7 +6,7 @@ use std::fs::{self, Files};
 use zic_explain::{entries, shown_word};
 use zic_files::{Image, Unfit, ZoneTree};
 use zic_io::ZoneFolder;
-use zic_words::Name;
+use zic_lines::Name;
 
 /// Returns lines that say why no rows can be made of the file of a zone in a folder,
 /// `--> PATH: REASON`, and what is expected of such a file. Where it is missing, or nothing is wrong

@@ -7,9 +7,8 @@ use crate::line::{awaits, entry_of, goes_on, is_line_feed, line_at};
 use std::alloc::{AllocError, Global};
 use zic_explain::cases::BAD_ABBREVIATION_TEXT;
 use zic_explain::{push_bytes, push_line_end};
-use zic_lines::{Entry, Format, Rules, ZoneLine};
+use zic_lines::{Entry, Format, Rules, SetName, ZoneLine};
 use zic_states::is_abbreviation;
-use zic_words::SetName;
 
 /// A line of some texts, by the index of its text and by its number there, from 1.
 #[derive(Clone, Copy, Debug)]

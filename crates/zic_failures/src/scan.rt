@@ -2,7 +2,7 @@
 
 use crate::place::QuotedLines;
 use std::alloc::{AllocError, Global};
-use zic_plan::Records;
+use zic_layouts::Records;
 
 /// The greatest number of bytes that are stored of a record.
 const LONGEST_TEXT: usize = 1_024;
@@ -12,7 +12,7 @@ const LONGEST_NAME: usize = 256;
 
 /// Where in a column a record is sought, and what of it is shown.
 #[derive(Clone, Copy)]
-pub(crate) struct Sought {
+pub(crate) struct Target {
     /// The number of the record, from 1.
     pub(crate) number: u64,
     /// Where a record ends.
@@ -25,7 +25,7 @@ pub(crate) struct Sought {
 
 /// What is shown of a record.
 #[derive(Drop)]
-pub(crate) struct Found {
+pub(crate) struct ShownRecord {
     /// The record's own bytes, cut where it is long.
     pub(crate) text: Vec<u8>,
     /// The name of the zone, cut where it is too long for one.
@@ -52,7 +52,7 @@ enum Place {
 /// Reads a column byte by byte up to the end of a record, and counts its lines.
 #[derive(Drop)]
 pub(crate) struct RecordScan {
-    sought: Sought,
+    sought: Target,
     /// The number of the record that the next byte may be of.
     number: u64,
     place: Place,
@@ -72,7 +72,7 @@ pub(crate) struct RecordScan {
 
 impl RecordScan {
     /// Returns a scan for a record of a column, whose mark was passed over.
-    pub(crate) fn new(alloc: Global, sought: Sought) -> RecordScan {
+    pub(crate) fn new(alloc: Global, sought: Target) -> RecordScan {
         RecordScan {
             sought,
             number: 1,
@@ -111,7 +111,7 @@ impl RecordScan {
 
     /// Returns what is shown of the record that is sought, at its end or at that of the column; or
     /// `None` where there is no such record.
-    pub(crate) fn found(self) -> Option<Found> {
+    pub(crate) fn found(self) -> Option<ShownRecord> {
         let is_open = self.place == Place::Quoted;
         let is_here = self.number == self.sought.number && self.place != Place::Before;
         let lines = match (is_open, self.first) {
@@ -129,7 +129,7 @@ impl RecordScan {
         if !is_here {
             return None;
         }
-        Some(Found { text, zone, lines })
+        Some(ShownRecord { text, zone, lines })
     }
 
     /// Ends a record at a line end, unless it is the one that is sought. Returns whether it is.

@@ -101,10 +101,10 @@ fn place_files<R: Files + AllocGlobal + Threads + Wait + Sync>(
     let alloc = rt.alloc();
     let (plan, path) = (&order.plan, order.folder.as_str());
     let kind = match order.links {
-        Links::Copy => return zic_source_commands::build(rt, alloc, plan, texts, disk, path),
+        Links::Copy => return zic_bulk::build_command::build(rt, alloc, plan, texts, disk, path),
         Links::Hard => LinkKind::Hard,
         Links::Symbolic => LinkKind::Symbolic,
     };
     let folder = LinkedFolder { path, kind };
-    zic_source_commands::build_linked(rt, alloc, plan, texts, disk, &folder)
+    zic_bulk::build_linked(rt, alloc, plan, texts, disk, &folder)
 }

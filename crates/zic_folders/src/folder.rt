@@ -8,7 +8,7 @@ use zic_explain::shown_word;
 use zic_files::{Files as ZoneFiles, Image, TreeFiles, Unfit, ZoneTree};
 use zic_host::{UnreadFile, WholeFolder, expect_folder, names_below, random_number};
 use zic_io::{Failure, ZoneFolder};
-use zic_words::Name;
+use zic_lines::Name;
 
 /// The first bytes of each TZif file.
 const MAGIC: &[u8] = b"TZif";

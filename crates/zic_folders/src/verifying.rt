@@ -7,6 +7,7 @@ use std::fs::Files;
 use std::io::Input;
 use std::sync::Wait;
 use std::thread::Threads;
+use zic_bulk::files_of;
 use zic_command_line::ReleaseFiles;
 use zic_explain::shown_word;
 use zic_files::Files as ZoneFiles;
@@ -15,8 +16,7 @@ use zic_host::{
     read_texts, tell,
 };
 use zic_io::Failure;
-use zic_plan::Plan;
-use zic_source_commands::files_of;
+use zic_layouts::Plan;
 
 /// Which folder is compared with which sources.
 #[derive(Clone, Copy)]

@@ -6,7 +6,7 @@ use std::fs::{self, File, Files};
 use std::io::{self, ErrorKind};
 use zic_files::ZoneTree;
 use zic_io::{Failure, ZoneFolder};
-use zic_words::Name;
+use zic_lines::Name;
 
 /// The path of a file that is there and can't be read, as an error of the disk or a lack of descriptors
 /// makes one. A tree ends the reading there as for lack of memory, since it can give no other reason, and

@@ -22,6 +22,9 @@ pub enum Refusal {
     /// A folder doesn't have each file that sources give, as it is.
     #[error("tree differs")]
     Differs,
+    /// The zones of two sources or folders differ.
+    #[error("zones differ")]
+    ZonesDiffer,
     /// No source begins with a line that names its release.
     #[error("no release in the sources")]
     NoRelease,
@@ -31,14 +34,14 @@ pub enum Refusal {
 }
 
 impl Refusal {
-    /// Returns the status of a program that ends so: 2 for its words or for sources without a release, 1 where a folder differs, else that
+    /// Returns the status of a program that ends so: 2 for its words or for sources without a release, 1 where a folder or zones differ, else that
     /// of the command's failure.
     pub fn status(&self) -> u8
         ensures { result ≡ refusal_status self.now }
     {
         match self {
             Refusal::Usage(_) | Refusal::NoRelease => 2,
-            Refusal::Differs => 1,
+            Refusal::Differs | Refusal::ZonesDiffer => 1,
             Refusal::Command(failure) | Refusal::Explained { failure, .. } => failure.status(),
         }
     }

@@ -10,7 +10,7 @@ use std::sync::Wait;
 use std::thread::Threads;
 use std::time::Clock;
 use zic_command_line::Request;
-use zic_converting::{Noted, convert};
+use zic_converting::{ConvertContext, convert};
 use zic_folders::{Differing, Ending, Verifying, build, diff, verify};
 use zic_host::{Refusal, tell};
 
@@ -18,7 +18,7 @@ use zic_host::{Refusal, tell};
 pub(crate) fn answer<
     R: Env + Files + Input + Print + Clock + RandomSource + AllocGlobal + Threads + Wait + Sync,
     E: Write + IsTerminal + Drop,
->(rt: &R, errors: E, request: &Request, noted: &mut Noted) -> Result<Ending, Refusal> {
+>(rt: &R, errors: E, request: &Request, noted: &mut ConvertContext) -> Result<Ending, Refusal> {
     let texts = &mut noted.texts;
     let done = match request {
         Request::Build(order) => return build(rt, order, texts, &mut noted.reason),
@@ -45,7 +45,9 @@ pub(crate) fn answer<
             plan,
             differences,
             compared,
+            style,
             shows_release,
+            tells_status,
         } => {
             let differing = Differing {
                 sources,
@@ -53,9 +55,11 @@ pub(crate) fn answer<
                 plan,
                 differences,
                 compared: *compared,
+                style: *style,
                 shows_release: *shows_release,
+                tells_status: *tells_status,
             };
-            diff(rt, errors, &differing, texts)
+            return Ok(diff(rt, errors, &differing, texts)?);
         }
         Request::Convert(order) => convert(rt, order, errors, noted),
         Request::Show { file, instant } => show(rt, file.as_str(), *instant),

@@ -2,7 +2,7 @@
 
 use std::alloc::{AllocError, Global};
 use std::fs::Files;
-use zic_converting::Noted;
+use zic_converting::ConvertContext;
 use zic_failures::Explainer;
 use zic_host::{Refusal, shown_failure};
 use zic_io::Failure;
@@ -11,7 +11,7 @@ use zic_io::Failure;
 pub(crate) fn explained<R: Files + AllocGlobal>(
     rt: &R,
     explainer: Option<Explainer>,
-    noted: Noted,
+    noted: ConvertContext,
     reason: Refusal,
 ) -> Refusal {
     match reason {
@@ -37,7 +37,7 @@ pub(crate) fn with_hint(alloc: Global, refusal: Refusal) -> Refusal {
 fn with_lines<R: Files + AllocGlobal>(
     rt: &R,
     explainer: Option<Explainer>,
-    noted: Noted,
+    noted: ConvertContext,
     failure: Failure,
 ) -> Refusal {
     match lines_after(rt, explainer, noted, &failure) {
@@ -51,10 +51,10 @@ fn with_lines<R: Files + AllocGlobal>(
 fn lines_after<R: Files + AllocGlobal>(
     rt: &R,
     explainer: Option<Explainer>,
-    noted: Noted,
+    noted: ConvertContext,
     failure: &Failure,
 ) -> Result<String, AllocError> {
-    let Noted {
+    let ConvertContext {
         texts,
         ended,
         faults,

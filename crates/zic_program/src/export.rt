@@ -5,9 +5,9 @@ use std::alloc::Global;
 use std::fs::Files;
 use std::rt::Env;
 use zic_command_line::{Exporting, NoRequest, usage_of};
+use zic_dump::{CalendarStop, vtimezone};
 use zic_folders::Ending;
 use zic_host::{Refusal, tell};
-use zic_ics::{CalendarStop, vtimezone};
 use zic_io::{Failure, read_file};
 use zic_tzif::{Zone, read};
 

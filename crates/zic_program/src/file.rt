@@ -10,9 +10,8 @@ use zic_counted::Counted;
 use zic_dump::Years;
 use zic_host::read_texts;
 use zic_io::{Failure, read_file};
-use zic_local::LocalTime;
-use zic_plan::Plan;
-use zic_schedule::Schedule;
+use zic_layouts::Plan;
+use zic_local::{LocalTime, Schedule};
 
 /// Compiles sources, and lists their files.
 pub(crate) fn check<R: Files + Input + Print + AllocGlobal + Threads + Wait + Sync>(
@@ -23,7 +22,7 @@ pub(crate) fn check<R: Files + Input + Print + AllocGlobal + Threads + Wait + Sy
 ) -> Result<(), Failure> {
     read_texts(rt, sources, texts)?;
     let mut output = Counted::new(io::writer(rt));
-    zic_source_commands::check(rt, rt.alloc(), plan, texts, &mut output)
+    zic_bulk::check(rt, rt.alloc(), plan, texts, &mut output)
 }
 
 /// Prints what a file says about an instant.
@@ -34,7 +33,7 @@ pub(crate) fn show<R: Env + Files + Print + AllocGlobal>(
 ) -> Result<(), Failure> {
     let bytes = bytes_of(rt, file)?;
     let mut output = Counted::new(io::writer(rt));
-    zic_file_commands::show(rt.alloc(), &bytes, instant, &mut output)
+    zic_bulk::show(rt.alloc(), &bytes, instant, &mut output)
 }
 
 /// Prints what a file says about a local time.
@@ -45,7 +44,7 @@ pub(crate) fn show_local<R: Env + Files + Print + AllocGlobal>(
 ) -> Result<(), Failure> {
     let bytes = bytes_of(rt, file)?;
     let mut output = Counted::new(io::writer(rt));
-    zic_file_commands::show_local(rt.alloc(), &bytes, local, &mut output)
+    zic_bulk::show_local(rt.alloc(), &bytes, local, &mut output)
 }
 
 /// Prints when a schedule is next due by what a file says.
@@ -57,7 +56,7 @@ pub(crate) fn show_next<R: Env + Files + Print + AllocGlobal>(
 ) -> Result<(), Failure> {
     let bytes = bytes_of(rt, file)?;
     let mut output = Counted::new(io::writer(rt));
-    zic_file_commands::show_next(rt.alloc(), &bytes, schedule, after, &mut output)
+    zic_bulk::show_next(rt.alloc(), &bytes, schedule, after, &mut output)
 }
 
 /// Lists the changes of a file.
@@ -68,7 +67,7 @@ pub(crate) fn dump<R: Env + Files + Print + AllocGlobal>(
 ) -> Result<(), Failure> {
     let bytes = bytes_of(rt, file)?;
     let mut output = Counted::new(io::writer(rt));
-    zic_file_commands::dump(rt.alloc(), file, &bytes, years, &mut output)
+    zic_bulk::dump(rt.alloc(), file, &bytes, years, &mut output)
 }
 
 /// Returns the bytes of the file that a word names.

@@ -13,7 +13,7 @@ use std::sync::Wait;
 use std::thread::Threads;
 use std::time::Clock;
 use zic_command_line::{CommandLine, Request, requested};
-use zic_converting::{Noted, expect_own_lists, read_header, take_stack};
+use zic_converting::{ConvertContext, expect_own_lists, read_header, take_stack};
 use zic_failures::Explainer;
 use zic_folders::Ending;
 use zic_host::Refusal;
@@ -39,7 +39,7 @@ fn run_line<
     E: Write + IsTerminal + Drop,
 >(rt: &R, errors: E, line: &mut CommandLine) -> Result<(), Refusal> {
     let mut explainer = explainer_of(rt, line)?;
-    let mut noted = Noted::new(rt.alloc());
+    let mut noted = ConvertContext::new(rt.alloc());
     let has_hint = explainer.is_none() && errors.is_terminal() && takes_explain(&line.request);
     match run_noted(rt, errors, &mut line.request, &mut explainer, &mut noted) {
         Ok(ending) => {
@@ -91,7 +91,7 @@ fn run_noted<
     errors: E,
     request: &mut Request,
     explainer: &mut Option<Explainer>,
-    noted: &mut Noted,
+    noted: &mut ConvertContext,
 ) -> Result<Ending, Refusal> {
     if let Request::Convert(order) = request {
         take_stack(rt.alloc(), order.plan.workers())?;
@@ -110,6 +110,7 @@ fn ended(ending: Ending) -> Result<(), Refusal>
     match ending {
         Ending::Done => Ok(()),
         Ending::Differs => Err(Refusal::Differs),
+        Ending::ZonesDiffer => Err(Refusal::ZonesDiffer),
         Ending::NoRelease => Err(Refusal::NoRelease),
     }
 }

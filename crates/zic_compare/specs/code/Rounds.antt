@@ -5,17 +5,17 @@ use Rattle.zic_compare.specs.Files.{AreLinesOfNew, AreLinesOfOld, HasInstants}
 use Rattle.zic_compare.specs.Lines.{AreLinesOfAll}
 use Rattle.zic_compare.specs.Text.{with_names}
 use Rattle.zic_compare.specs.Written.{EndsAfter}
-use Rattle.zic_compare.specs.declared.listed.Listed.{Listed}
+use Rattle.zic_compare.specs.declared.sides.Listed.{Listed}
 use Rattle.zic_compare.specs.declared.lists.Side.{Side}
 use Rattle.zic_compare.specs.declared.lists.Side.TheVariants as sides
 use Rattle.zic_compare.specs.declared.lists.TheConstants.{MAX_NAMES}
-use Rattle.zic_compare.specs.declared.stop.DiffStop.{DiffStop}
-use Rattle.zic_compare.specs.declared.stop.DiffStop.TheVariants as stops
+use Rattle.zic_compare.specs.declared.sides.DiffStop.{DiffStop}
+use Rattle.zic_compare.specs.declared.sides.DiffStop.TheVariants as stops
 use Rattle.zic_counted.specs.Counts.{Counts}
 use Rattle.zic_counted.specs.Written.{FailsWithin, Writes}
 use Rattle.zic_files.specs.File.{File}
 use Rattle.zic_pieces.specs.Task.{AreValues}
-use Rattle.zic_plan.specs.declared.plan.TheConstants.{MAX_OF_PIECE}
+use Rattle.zic_layouts.specs.declared.plan.TheConstants.{MAX_OF_PIECE}
 
 -- what is listed, the old and the new files, and the list whose lines are made
 pub record FileLists : Type 0 where
@@ -104,6 +104,11 @@ pub record FailsInLines {W : Type 0} (contents : W → Option (List ℕ)) (l : F
 abbrev pub EndsRound : {W : Type 0} → (W → Option (List ℕ)) → FileRound → List ℕ → Counts W → Counts W → DiffStop → Type 0
 EndsRound contents r names old new stops.Memory = new ≡ old
 EndsRound contents r names old new stops.WriteFailed = FailsInLines contents r.lists names (round_files r) old new
+
+-- nothing of these lines was written, since memory ran out, or a write failed within them
+abbrev pub EndsRefused : {W : Type 0} → (W → Option (List ℕ)) → List ℕ → List ℕ → Counts W → Counts W → DiffStop → Type 0
+EndsRefused contents names lines old new stops.Memory = new ≡ old
+EndsRefused contents names lines old new stops.WriteFailed = FailsWithin contents old new (with_names names lines)
 
 -- the lines of some of the first files of a list were written, or a write failed within them
 pub record EndsList {W : Type 0} (contents : W → Option (List ℕ)) (l : FileLists) (names : List ℕ) (old new : Counts W) (stop : DiffStop) : Type 0 where

@@ -4,7 +4,7 @@ use Rattle.zic_compare.specs.Answers.{Pair, DifferAt}
 use Rattle.zic_compare.specs.Differences.{HasAnswersAt, IsDifference}
 use Rattle.zic_compare.specs.declared.difference.Difference.{Difference}
 use Rattle.zic_posix.specs.Instants.{Includes}
-use Rattle.zic_posix.specs.declared.instants.Instants.{Instants}
+use Rattle.zic_posix.specs.declared.span.Instants.{Instants}
 use Rattle.zic_tzif.specs.Answer.{answered}
 
 -- the span with its last instant at another

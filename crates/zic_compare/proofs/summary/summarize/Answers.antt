@@ -5,7 +5,7 @@ use Rattle.std.proofs.lemmas.Int.{ints}
 use Rattle.std.proofs.lemmas.Option.{slice_get_read}
 use Rattle.zic_compare.specs.Answers.{pair}
 use Rattle.zic_compare.specs.Differences.{AreDifferences}
-use Rattle.zic_posix.specs.declared.instants.Instants.{Instants}
+use Rattle.zic_posix.specs.declared.span.Instants.{Instants}
 use Rattle.zic_compare.proofs.SummaryLemmas.{IsStart, agree_from, is_start, summary_is}
 use Rattle.zic_compare.proofs.summary.summarize.Goals as goal
 
@@ -62,10 +62,10 @@ returns c =
     (subst (λ (z : ℤ). AreDifferences p (record { first = to_z w64 (of_z w64 c.args.since); last = z }) items) end_is c.in_ok-found.ensures) in
     let count_is : c.len-count.result ≡ length items = search rules in
     let some = c.if-count-eq0.false in
-    let first = c.index.result.now in
-    let last = c.index-2.result.now in
-    let at_first : slice_get items 0 ≡ Some first = slice_get_read items (length items) 0 first refl (omega (arith, count_is, some)) c.index.ensures in
+    let first = c.index-first.result.now in
+    let last = c.index-last.result.now in
+    let at_first : slice_get items 0 ≡ Some first = slice_get_read items (length items) 0 first refl (omega (arith, count_is, some)) c.index-first.ensures in
     let at_last : slice_get items (length items - 1) ≡ Some last = slice_get_read items (length items) (length items - 1) last refl (omega (arith, count_is, some))
-    (subst (λ (n : ℕ). last ≡ get_or items (n - 1) last) count_is c.index-2.ensures) in
-    summary_is p bounds items are start starts first last _ at_first at_last (search rules)
+    (subst (λ (n : ℕ). last ≡ get_or items (n - 1) last) count_is c.index-last.ensures) in
+    summary_is p bounds items are start starts first last _ at_first at_last (search rules) (search rules) (search rules)
     (subst (λ (z : ℤ). MatchOption c.end_before.result (z ≤ℤ last.instants.last) (λ end. (last.instants.last <ℤ z) × (end ≡ last.instants.last +ℤ pos 1))) start_is c.end_before.ensures)

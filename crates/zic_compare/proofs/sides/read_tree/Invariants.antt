@@ -1,6 +1,6 @@
 use Rattle.std.proofs.Common.{map, string_bytes, take}
 use Rattle.zic_compare.specs.Reading.{IsReadAt}
-use Rattle.zic_compare.proofs.reading.read_tree.Given as goal
+use Rattle.zic_compare.proofs.sides.read_tree.Given as goal
 
 -- what was learnt by the names so far
 abbrev pub invariant-loop-i : goal.invariant-loop-i

@@ -1,7 +1,7 @@
 use Rattle.std.proofs.Common.{List, ℕ, map, string_bytes, subst, take}
 use Rattle.zic_compare.specs.Reading.{IsReadAt}
 use Rattle.zic_compare.proofs.ReadingLemmas.{read_more, text_more}
-use Rattle.zic_compare.proofs.reading.read_tree.Goals as goal
+use Rattle.zic_compare.proofs.sides.read_tree.Goals as goal
 
 pub loop-i-preserved : goal.loop-i-preserved
 loop-i-preserved g c =
