@@ -188,7 +188,7 @@ static DIFF: [Word; 14] = [
     },
     Word {
         name: "style",
-        help: "Form of instants: a count of seconds, or iso in UT",
+        help: "Form of instants: count, or iso in UT",
         form: Form::INSTANTS,
     },
     Word {
