@@ -15,8 +15,8 @@
 //!   (`first_unwritten`)
 //! - earlier lists stay as they are where no fault was noted and the run ended before rows were
 //!   made (`keeps_lists`)
-//! - where rows ended for lack of memory and the path of a file was noted that can't be read, that
-//!   file ended them (`by_unread`)
+//! - where memory seemed to run out and the path of a file was noted that can't be read, that file
+//!   ended the rows (`by_unread`)
 //! - what is reported and told beside it is this for the faults that the list has noted
 //!   (`faults_in`, `IsReportOf`)
 //! - the files of OLD are those of the first text (`old_texts`, `AreFilesOfTexts`)

@@ -52,7 +52,7 @@ impl Images {
         &self.list[number]
     }
 
-    /// Returns the number of an image, after adding it unless one with its bytes is at hand.
+    /// Returns the number of an image, which is added if none has its bytes.
     pub(crate) fn add(&mut self, image: Image) -> Result<usize, AllocError>
         ensures number { IfOk result (λ number. slice_get self.new number ≡ Some image) }
         ensures grown { (more : List FileImage) × (self.new ≡ self.old ++ more) }

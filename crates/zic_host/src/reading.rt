@@ -9,8 +9,8 @@ use zic_io::{Failure, ZoneFolder};
 use zic_lines::Name;
 
 /// The path of a file that is there and can't be read, as an error of the disk or a lack of descriptors
-/// makes one. A tree ends the reading there as for lack of memory, since it can give no other reason, and
-/// the path is noted here.
+/// makes one. A tree ends the reading there as if memory had run out, since it can give no other reason,
+/// and the path is noted here.
 #[derive(Drop)]
 pub struct UnreadFile {
     path: Cell<Option<String>>,
@@ -29,8 +29,8 @@ impl UnreadFile {
         self.path.replace(None)
     }
 
-    /// Returns the failure of a run that ended as for lack of memory: `CannotRead` with the path that was
-    /// noted, or else `Memory`.
+    /// Returns the failure of a run that ended as if memory had run out: `CannotRead` with the path that
+    /// was noted, or else `Memory`.
     pub fn failure(&self) -> Failure {
         match self.take() {
             Some(path) => Failure::CannotRead(path),

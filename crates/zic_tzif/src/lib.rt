@@ -3,7 +3,7 @@
 //!
 //! # What is proved
 //!
-//! `read` accepts only files of the format (`ok`) and refuses none but for lack of memory (`only`);
+//! `read` accepts only files of the format (`ok`), and all of them unless memory runs out (`only`);
 //! of other bytes it gives the first check that fails (`err`). `write` gives the written form byte
 //! for byte (`written`), which a reader accepts with that content (`read`). `Zone::at` answers
 //! every instant of an `i64` (`Answers`), `Zone::span` gives the instants round it with the same

@@ -140,8 +140,8 @@ impl NameKeys {
         found.len == len && is_same(&found.bytes, key)
     }
 
-    /// Returns the number of the file that a part of some bytes names, if it is at hand: the likely one
-    /// first. `None` doesn't mean that no file has the name.
+    /// Returns the number of the file that a part of some bytes names, if a key finds it. The likely one is
+    /// tried first. `None` doesn't mean that no file has the name.
     #[inline(always)]
     pub(crate) fn quick(
         &self,

@@ -150,8 +150,8 @@ impl Ready {
         None
     }
 
-    /// Returns the number of the file that a part of some bytes names, if it is at hand: the likely one
-    /// first.
+    /// Returns the number of the file that a part of some bytes names, if a key finds it. The likely one is
+    /// tried first.
     #[inline(always)]
     pub(crate) fn quick_number(
         &self,
