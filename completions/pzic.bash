@@ -36,7 +36,7 @@ _pzic() {
     build) options='--links --sync --release --tables --workers --zone-piece --explain --help' ;;
     verify) options='--strict --release --tables --workers --zone-piece --explain --help' ;;
     diff) options='--trees --from --to --ignore --summary --now --style --status --show-release --workers --zone-piece --explain --help' ;;
-    convert) options='--tree --against --against-tree --workers --zone-piece --row-piece --max-rows --max-bytes --max-record --header --skip-header --zone --zone-field --time-field --delimiter --unit --from --ambiguous --style --records --quotes --append --keep-going --faults --faults-with --rejects --max-faults --progress --show-release --explain --help' ;;
+    convert) options='--tree --against --against-tree --workers --zone-piece --row-piece --max-rows --max-bytes --max-record --header --skip-header --prefix --zone --zone-field --time-field --delimiter --unit --from --ambiguous --style --records --quotes --append --keep-going --faults --faults-with --rejects --max-faults --progress --show-release --explain --help' ;;
     show) options='--local --next --weekdays --disambiguation --explain --help' ;;
     dump) options='--from --to --explain --help' ;;
     export) options='--ics --name --since --until --explain --help' ;;
@@ -50,7 +50,7 @@ _pzic() {
     *:--links) takes='copy hard symlink' ;;
     *:--release) takes='from-source' ;;
     *:--tables | *:--tree | *:--against-tree) takes='folders' ;;
-    diff:--from | dump:--from | *:--to | *:--now | *:--zone-piece | *:--row-piece | *:--max-rows | *:--max-bytes | *:--max-record | *:--zone-field | *:--time-field | *:--max-faults | *:--next | *:--name | *:--since | *:--until) takes='none' ;;
+    diff:--from | dump:--from | *:--to | *:--now | *:--zone-piece | *:--row-piece | *:--max-rows | *:--max-bytes | *:--max-record | *:--prefix | *:--zone-field | *:--time-field | *:--max-faults | *:--next | *:--name | *:--since | *:--until) takes='none' ;;
     *:--ignore) takes='daylight abbreviation daylight,abbreviation' ;;
     diff:--style) takes='count iso' ;;
     *:--against | *:--faults | *:--rejects) takes='files' ;;
@@ -58,7 +58,7 @@ _pzic() {
     *:--zone) takes='zones' ;;
     *:--delimiter) takes='tab' ;;
     *:--unit) takes='s ms us ns' ;;
-    convert:--from) takes='count rfc3339 local' ;;
+    convert:--from) takes='count seconds rfc3339 utc local' ;;
     *:--ambiguous) takes='reject earlier later compatible' ;;
     convert:--style) takes='fields iso' ;;
     *:--records) takes='csv lines' ;;

@@ -552,9 +552,16 @@ static inline int32_t pzic_rows(const pzic_handle *files, const uint8_t *column,
 
 /*
  * How the field of a time has it: as a count of units, as a date and a time of day with a UT offset (RFC
- * 3339), or as a local time. To the last, what to take in gaps and folds is added, as PZIC_EARLIER.
+ * 3339), as a local time, as a date and a time of day in UT, or as seconds, perhaps with a fraction. To
+ * PZIC_FROM_LOCAL, what to take in gaps and folds is added, as PZIC_EARLIER.
  */
-enum { PZIC_FROM_COUNT = 0, PZIC_FROM_RFC3339 = 1, PZIC_FROM_LOCAL = 2 };
+enum {
+    PZIC_FROM_COUNT = 0,
+    PZIC_FROM_RFC3339 = 1,
+    PZIC_FROM_LOCAL = 2,
+    PZIC_FROM_UTC = 6,
+    PZIC_FROM_SECONDS = 7
+};
 
 /* What a count counts. */
 enum { PZIC_SECONDS = 0, PZIC_MILLISECONDS = 1, PZIC_MICROSECONDS = 2, PZIC_NANOSECONDS = 3 };

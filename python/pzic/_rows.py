@@ -19,7 +19,7 @@ if TYPE_CHECKING:
 
 _Answer = TypeVar("_Answer")
 
-_SOURCES = {"count": 0, "rfc3339": 1}
+_SOURCES = {"count": 0, "seconds": 7, "rfc3339": 1, "utc": 6}
 #: The most bytes of a column.
 MOST_BYTES = 1 << 32
 #: The least bytes of a piece of a longer column.
@@ -41,10 +41,11 @@ class Layout(NamedTuple):
 
     Fields count from 1. ``zone`` is the name of a zone for all rows; without it field ``zone_field``
     has each row's. Field ``time_field`` is an instant or a local time: ``source`` is ``"count"`` for a count of
-    ``unit`` (``"s"``, ``"ms"``, ``"us"`` or ``"ns"``), ``"rfc3339"``, or ``"local"``, and
-    ``ambiguous`` says what to take in a gap or a fold. A record has ``fields`` fields, or by
-    ``None`` at least those that are named; ``records`` are those of ``"csv"`` or ``"lines"``. With
-    ``header`` the first record is one and one is written, with ``skip_header`` none is. Rows begin
+    ``unit`` (``"s"``, ``"ms"``, ``"us"`` or ``"ns"``), ``"seconds"`` for those with perhaps a
+    fraction, ``"rfc3339"``, ``"utc"``, or ``"local"``, and ``ambiguous`` says what to take in a gap or a
+    fold. A record has ``fields`` fields, or by ``None`` at least those that are named; ``records`` are
+    those of ``"csv"`` or ``"lines"``. With ``header`` the first record is one and one is written, with
+    ``skip_header`` none is. Rows begin
     with their records by ``append``, and rows with faults are written by ``keep_going``. By the
     ``style`` ``"iso"`` local time and the UT offset are one field, and else two. A record has at most
     ``max_record`` bytes, without its line end; a longer one has the fault ``RowTooLong``, which ends the run

@@ -7,7 +7,7 @@ from typing import Dict, Literal, Tuple
 #: What to take for a local time in a gap or in a fold.
 Ambiguous = Literal["reject", "earlier", "later", "compatible"]
 #: What the field of a time is.
-Source = Literal["count", "rfc3339", "local"]
+Source = Literal["count", "seconds", "rfc3339", "utc", "local"]
 #: What a count of time is of.
 Unit = Literal["s", "ms", "us", "ns"]
 #: What ends a record.

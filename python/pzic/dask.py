@@ -352,7 +352,7 @@ def _words() -> argparse.ArgumentParser:
     command.add_argument("--blocksize", default=BLOCK)
     for name, kind in (("zone", str), ("zone-field", int), ("time-field", int), ("delimiter", str), ("fields", int), ("max-record", int)):
         command.add_argument(f"--{name}", type=kind)
-    command.add_argument("--from", dest="source_form", choices=("count", "rfc3339", "local"))
+    command.add_argument("--from", dest="source_form", choices=("count", "seconds", "rfc3339", "utc", "local"))
     command.add_argument("--ambiguous", choices=("reject", "earlier", "later", "compatible"))
     command.add_argument("--unit", choices=("s", "ms", "us", "ns"))
     command.add_argument("--records", choices=("csv", "lines"))

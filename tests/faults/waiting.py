@@ -34,7 +34,9 @@ OPTIONS = {
     "delimiter": ["--delimiter", ";"],
     "lines": ["--records", "lines"],
     "local": ["--from", "local"],
+    "seconds": ["--from", "seconds"],
     "rfc3339": ["--from", "rfc3339"],
+    "utc": ["--from", "utc"],
     "unit": ["--unit", "ms"],
     "iso": ["--style", "iso"],
     "append": ["--append"],
@@ -42,8 +44,9 @@ OPTIONS = {
     "rejects": ["--keep-going", "--rejects", "rejects"],
     "tree": [],                                                            # in place of a source
 }
-APART = [{"header", "skip"}, {"local", "rfc3339"}, {"going", "rejects"}]  # which exclude each other
-INSTANTS = {"local": b"1970-01-01T00:00:00", "rfc3339": b"1970-01-01T00:00:00Z"}
+FORMS = ["local", "seconds", "rfc3339", "utc"]                             # of a time
+APART = [{"header", "skip"}, {"going", "rejects"}, *map(set, itertools.combinations(FORMS, 2))]  # which exclude each other
+INSTANTS = {"local": b"1970-01-01T00:00", "rfc3339": b"1970-01-01T00:00Z", "utc": b"1970-01-01T00:00"}
 
 
 class Late(Exception):

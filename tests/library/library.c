@@ -817,6 +817,23 @@ static void convert_by_layouts(void) {
     CHECK(convert_by(&files, &layout, "", "Test/York,1173596400\n", &rows) == PZIC_OK);
     expect_rows(&rows, "Test/York,1173596400,2007-03-11T03:00:00-04:00,1,EDT\n");
     layout.style = PZIC_STYLE_FIELDS;
+    // Seconds with a fraction, a date in UT, one with an offset, and a local time.
+    layout.from = PZIC_FROM_SECONDS, layout.unit = PZIC_MILLISECONDS;
+    CHECK(convert_by(&files, &layout, "", "Test/York,1173596400.25\n", &rows) == PZIC_OK);
+    expect_rows(&rows, "Test/York,1173596400250,2007-03-11T03:00:00.250,-04:00:00,1,EDT\n");
+    layout.from = PZIC_FROM_UTC, layout.unit = PZIC_SECONDS;
+    CHECK(convert_by(&files, &layout, "", "Test/York,2007-03-11 07:00\n", &rows) == PZIC_OK);
+    expect_rows(&rows, "Test/York,1173596400,2007-03-11T03:00:00,-04:00:00,1,EDT\n");
+    layout.from = PZIC_FROM_RFC3339;
+    CHECK(convert_by(&files, &layout, "", "Test/York,2007-03-11t03:00:00.0-04\n", &rows) == PZIC_OK);
+    expect_rows(&rows, "Test/York,1173596400,2007-03-11T03:00:00,-04:00:00,1,EDT\n");
+    layout.from = PZIC_FROM_LOCAL;
+    layout.from += PZIC_EARLIER;
+    CHECK(convert_by(&files, &layout, "", "Test/York,2007-03-11T03:00\n", &rows) == PZIC_OK);
+    expect_rows(&rows, "Test/York,2007-03-11T03:00:00,1173596400,-04:00:00,1,EDT\n");
+    layout.from = PZIC_FROM_SECONDS + 1;
+    CHECK(convert_by(&files, &layout, "", column, &rows) == PZIC_NO_SUCH && rows.kind == 0);
+    layout.from = PZIC_FROM_COUNT;
     // A record of 20 bytes is within a limit of 20, and ends the run where the limit is 19.
     layout.max_record = 20, layout.at_fault = PZIC_FAULT_GOES_ON;
     CHECK(convert_by(&files, &layout, "", column, &rows) == PZIC_OK);

@@ -8,6 +8,7 @@ use Rattle.zic_layouts.specs.declared.layout.FieldCount.{FieldCount}
 use Rattle.zic_layouts.specs.declared.layout.FieldCount.TheVariants as fields
 use Rattle.zic_layouts.specs.declared.layout.Header.{Header}
 use Rattle.zic_layouts.specs.declared.layout.Header.TheVariants as header
+use Rattle.zic_layouts.specs.declared.layout.InstantText.TheVariants as texts
 use Rattle.zic_layouts.specs.declared.layout.Layout.{Layout}
 use Rattle.zic_layouts.specs.declared.layout.Quotes.{Quotes}
 use Rattle.zic_layouts.specs.declared.layout.Quotes.TheVariants as quotes
@@ -31,7 +32,9 @@ use Rattle.pzic_files.specs.declared.layout.LayoutStop.TheVariants as stop
 -- how the field of a time has it
 abbrev pub from_number : TimeFrom → ℕ
 from_number from.Count = 0
-from_number from.Rfc3339 = 1
+from_number (from.Text texts.Rfc3339) = 1
+from_number (from.Text texts.Utc) = 6
+from_number (from.Text texts.Seconds) = 7
 from_number (from.Local choice.Reject) = 2
 from_number (from.Local choice.Earlier) = 3
 from_number (from.Local choice.Later) = 4
@@ -112,6 +115,7 @@ pub record IsLayoutOf (given : ColumnLayout) (name : List ℕ) (layout : Layout)
   pub numbers : HaveNumbers given layout
   pub delimiter : is_delimiter layout.delimiter ≡ true
   pub zone : IsZoneFrom given.zone name layout.zone
+  pub prefix : layout.prefix ≡ []
 
 -- No layout has the numbers, or the delimiter can't be one, or the name is no text.
 abbrev pub HasNoLayout : ColumnLayout → List ℕ → Type 0

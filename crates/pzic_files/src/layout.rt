@@ -8,8 +8,8 @@ ghost use Rattle.pzic_files.specs.Layout.{fault_number, from_number, header_numb
 use std::alloc::{AllocError, Global};
 use std::str::from_utf8;
 use zic_layouts::{
-    AtFault, Delimiter, Disambiguation, FieldCount, Header, Layout, Notes, Quotes, Records,
-    RowStart, Style, TimeFrom, Unit, ZoneFrom,
+    AtFault, Delimiter, Disambiguation, FieldCount, Header, InstantText, Layout, Notes, Prefix,
+    Quotes, Records, RowStart, Style, TimeFrom, Unit, ZoneFrom,
 };
 
 /// How a column is read, and what its rows are, by numbers.
@@ -73,11 +73,13 @@ fn from_of(number: u32) -> Option<TimeFrom>
 {
     match number {
         0 => Some(TimeFrom::Count),
-        1 => Some(TimeFrom::Rfc3339),
+        1 => Some(TimeFrom::Text(InstantText::Rfc3339)),
         2 => Some(TimeFrom::Local(Disambiguation::Reject)),
         3 => Some(TimeFrom::Local(Disambiguation::Earlier)),
         4 => Some(TimeFrom::Local(Disambiguation::Later)),
         5 => Some(TimeFrom::Local(Disambiguation::Compatible)),
+        6 => Some(TimeFrom::Text(InstantText::Utc)),
+        7 => Some(TimeFrom::Text(InstantText::Seconds)),
         _ => None,
     }
 }
@@ -250,6 +252,7 @@ pub(crate) fn layout_of(
         header,
         max_record: limit_of(given.max_record),
         start,
+        prefix: Prefix::none(),
         style,
         at_fault,
         notes: Notes::Faults,

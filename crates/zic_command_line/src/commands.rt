@@ -266,7 +266,7 @@ static CONVERT: [Word; 10] = [
     },
 ];
 
-static CONVERT_ROWS: [Word; 21] = [
+static CONVERT_ROWS: [Word; 22] = [
     Word {
         name: "header",
         help: "Takes the first record for a header, writes one",
@@ -276,6 +276,11 @@ static CONVERT_ROWS: [Word; 21] = [
         name: "skip-header",
         help: "Takes the first record for a header, writes none",
         form: Form::Flag,
+    },
+    Word {
+        name: "prefix",
+        help: "Begins the names that --header adds with TEXT",
+        form: Form::PREFIX,
     },
     Word {
         name: "zone",
@@ -304,7 +309,7 @@ static CONVERT_ROWS: [Word; 21] = [
     },
     Word {
         name: "from",
-        help: "Times: count, rfc3339 or local",
+        help: "count, seconds, rfc3339, utc, local",
         form: Form::TIME,
     },
     Word {

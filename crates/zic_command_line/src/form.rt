@@ -80,7 +80,7 @@ impl Form {
     /// Words for how the field of an instant has it, or of a local time.
     pub(crate) const TIME: Form = Form::Choice {
         label: &["FORM"],
-        words: &["count", "rfc3339", "local"],
+        words: &["count", "seconds", "rfc3339", "utc", "local"],
         default: &["count"],
     };
 
@@ -96,6 +96,12 @@ impl Form {
         label: &["STYLE"],
         words: &["fields", "iso"],
         default: &["fields"],
+    };
+
+    /// What the names of fields begin with.
+    pub(crate) const PREFIX: Form = Form::Text {
+        label: &["TEXT"],
+        default: &[],
     };
 
     /// Words for how instants are written.

@@ -6,8 +6,8 @@ use clap::ArgMatches;
 use std::alloc::{AllocError, Global};
 use zic_io::FaultFields;
 use zic_layouts::{
-    AtFault, Delimiter, Disambiguation, FieldCount, Header, Layout, Notes, Quotes, Records,
-    RowStart, Style, TimeFrom, Unit, ZoneFrom,
+    AtFault, Delimiter, Disambiguation, FieldCount, Header, InstantText, Layout, Notes, Prefix,
+    Quotes, Records, RowStart, Style, TimeFrom, Unit, ZoneFrom,
 };
 
 /// How the fields of a record are written.
@@ -50,6 +50,7 @@ pub(crate) fn layout(
     let reads = reads_of(alloc, matches, fields, records.header)?;
     let zone = zone_from(alloc, matches, reads.zone)?;
     let start = row_start(matches);
+    let prefix = prefix(alloc, matches, records.header)?;
     let may_have_more = fields.are_given() || start == RowStart::Record;
     let FieldForms {
         delimiter,
@@ -69,6 +70,7 @@ pub(crate) fn layout(
         header: records.header,
         max_record: matches.get_one::<u64>("max-record"),
         start,
+        prefix,
         style,
         at_fault: reads.at_fault,
         notes: notes(matches),
@@ -237,6 +239,23 @@ fn row_start(matches: &ArgMatches<'_>) -> RowStart {
     }
 }
 
+/// Returns what the names of the fields begin with, in a header, that rows add.
+fn prefix(alloc: Global, matches: &ArgMatches<'_>, header: Header) -> Result<Prefix, NoRequest> {
+    let Some(word) = matches.get_str("prefix") else {
+        return Ok(Prefix::none());
+    };
+    if header != Header::First {
+        return Err(usage(alloc, "--prefix has no meaning without --header"));
+    }
+    match Prefix::new(word.as_bytes()) {
+        Some(prefix) => Ok(prefix),
+        None => Err(usage(
+            alloc,
+            "--prefix is at most 64 letters, digits and + - . / : _",
+        )),
+    }
+}
+
 /// Returns what a row with a fault does.
 fn at_fault(alloc: Global, matches: &ArgMatches<'_>) -> Result<AtFault, NoRequest> {
     let faults = matches.get_str("faults").is_some();
@@ -351,8 +370,10 @@ fn time_from(alloc: Global, matches: &ArgMatches<'_>) -> Result<TimeFrom, NoRequ
             Err(usage(alloc, "--ambiguous has no meaning without --from local"))
         }
         Some("count") => Ok(TimeFrom::Count),
-        Some("rfc3339") => Ok(TimeFrom::Rfc3339),
-        _ => Err(usage(alloc, "--from is count, rfc3339 or local")),
+        Some("seconds") => Ok(TimeFrom::Text(InstantText::Seconds)),
+        Some("rfc3339") => Ok(TimeFrom::Text(InstantText::Rfc3339)),
+        Some("utc") => Ok(TimeFrom::Text(InstantText::Utc)),
+        _ => Err(usage(alloc, "--from is count, seconds, rfc3339, utc or local")),
     }
 }
 

@@ -19,7 +19,7 @@ use Rattle.zic_layouts.specs.declared.layout.Layout.{Layout}
 use Rattle.zic_zones.specs.declared.zones.Releases.{Releases}
 use Rattle.zic_base.specs.declared.row_fault.RowKind.{RowKind}
 use Rattle.zic_convert.specs.Laws.{AreSoundReleases, ColumnsConvertOnce}
-use Rattle.zic_piece_rows.specs.LayoutRows.{RecordsConvertBy, IsAnswerAt, IsAnswerBy, IsMovedRow, IsRowAt, IsTextBy, IsWrittenWith, with_answer, ends_by, fault_by, instant_by, rest_by, start_text}
+use Rattle.zic_piece_rows.specs.LayoutRows.{HasAnswer, RecordsConvertBy, IsAnswerAt, IsAnswerBy, IsMovedRow, IsRowAt, IsTextBy, IsWrittenWith, with_answer, ends_by, fault_by, instant_by, rest_by, start_text}
 use Rattle.zic_piece_rows.specs.Rows.{RecordsConvertTo, IsTextOf, fault_of}
 
 same_count : (a b : ℤ) → ◌≡◌ {A = Result ℤ RowKind} (Ok a) (Ok b) → a ≡ b
@@ -50,35 +50,33 @@ module _ (answers : FilesAnswerOnce) (files : List File) (sound : AreSoundFiles 
       let same : row_text a.file.name a.instant a.state ≡ row_text b.file.name b.instant b.state = rw (file, instant, state) refl in
       a.is ∙ same ∙ sym b.is
 
-  -- also by a layout
+  -- by a layout they answer a record once
+  one_has : (layout : Layout) (row_record : CsvRecord) (a b : HasAnswer layout files row_record) → (a.file ≡ b.file) × (a.input ≡ b.input) × (a.count ≡ b.count) × (a.state ≡ b.state)
+  one_has layout row_record a b =
+      let file = one_file a.file b.file a.among b.among (a.named ∙ sym b.named) in
+      let input = same_Some a.input b.input (sym a.says ∙ b.says) in
+      let by_file = subst (λ (f : File). instant_by layout.from layout.unit f b.input ≡ Ok b.count) (sym file) b.means in
+      let meant = subst (λ (n : ℤ). instant_by layout.from layout.unit a.file n ≡ Ok b.count) (sym input) by_file in
+      let count = same_count a.count b.count (sym a.means ∙ meant) in
+      let is = All-contains IsSoundFile files a.file sound.each a.among in
+      let there = subst (λ (f : File). Answers f.image.content (second_of layout.unit b.count) (Some b.state)) (sym file) b.answers in
+      let other = subst (λ (n : ℤ). Answers a.file.image.content (second_of layout.unit n) (Some b.state)) (sym count) there in
+      let state = same_Some a.state b.state (answers.only a.file.image.octets a.file.image.content is.read (second_of layout.unit a.count) (Some a.state) (Some b.state) a.answers other) in
+      (file, input, count, state)
+
+  -- and so its row has one text
   one_text_by : (layout : Layout) (row_record : CsvRecord) (t u : List ℕ) → IsTextBy layout files row_record t → IsTextBy layout files row_record u → t ≡ u
   one_text_by layout row_record t u a b =
-      let file = one_file a.file b.file a.among b.among (a.named ∙ sym b.named) in
-      let input = same_Some a.input b.input (sym a.says ∙ b.says) in
-      let by_file = subst (λ (f : File). instant_by layout.from layout.unit f b.input ≡ Ok b.count) (sym file) b.means in
-      let meant = subst (λ (n : ℤ). instant_by layout.from layout.unit a.file n ≡ Ok b.count) (sym input) by_file in
-      let count = same_count a.count b.count (sym a.means ∙ meant) in
-      let is = All-contains IsSoundFile files a.file sound.each a.among in
-      let there = subst (λ (f : File). Answers f.image.content (second_of layout.unit b.count) (Some b.state)) (sym file) b.answers in
-      let other = subst (λ (n : ℤ). Answers a.file.image.content (second_of layout.unit n) (Some b.state)) (sym count) there in
-      let state = same_Some a.state b.state (answers.only a.file.image.octets a.file.image.content is.read (second_of layout.unit a.count) (Some a.state) (Some b.state) a.answers other) in
-      let start : start_text layout row_record.own a.file.name a.input ≡ start_text layout row_record.own b.file.name b.input = rw (file, input) refl in
-      let rest : rest_by layout.delimiter layout.style layout.from layout.unit a.count a.state ≡ rest_by layout.delimiter layout.style layout.from layout.unit b.count b.state = rw (count, state) refl in
+      let (file, input, count, state) = one_has layout row_record a.has b.has in
+      let start : start_text layout row_record.own a.has.file.name a.has.input ≡ start_text layout row_record.own b.has.file.name b.has.input = rw (file, input) refl in
+      let rest : rest_by layout.delimiter layout.style layout.from layout.unit a.has.count a.has.state ≡ rest_by layout.delimiter layout.style layout.from layout.unit b.has.count b.has.state = rw (count, state) refl in
       a.is ∙ ap₂ (λ (x y : List ℕ). x ++ y) start rest ∙ sym b.is
 
-  -- files answer a record once
+  -- and the answer
   one_answer_by : (layout : Layout) (row_record : CsvRecord) (t u : List ℕ) → IsAnswerBy layout files row_record t → IsAnswerBy layout files row_record u → t ≡ u
   one_answer_by layout row_record t u a b =
-      let file = one_file a.file b.file a.among b.among (a.named ∙ sym b.named) in
-      let input = same_Some a.input b.input (sym a.says ∙ b.says) in
-      let by_file = subst (λ (f : File). instant_by layout.from layout.unit f b.input ≡ Ok b.count) (sym file) b.means in
-      let meant = subst (λ (n : ℤ). instant_by layout.from layout.unit a.file n ≡ Ok b.count) (sym input) by_file in
-      let count = same_count a.count b.count (sym a.means ∙ meant) in
-      let is = All-contains IsSoundFile files a.file sound.each a.among in
-      let there = subst (λ (f : File). Answers f.image.content (second_of layout.unit b.count) (Some b.state)) (sym file) b.answers in
-      let other = subst (λ (n : ℤ). Answers a.file.image.content (second_of layout.unit n) (Some b.state)) (sym count) there in
-      let state = same_Some a.state b.state (answers.only a.file.image.octets a.file.image.content is.read (second_of layout.unit a.count) (Some a.state) (Some b.state) a.answers other) in
-      let rest : rest_by layout.delimiter layout.style layout.from layout.unit a.count a.state ≡ rest_by layout.delimiter layout.style layout.from layout.unit b.count b.state = rw (count, state) refl in
+      let (file, input, count, state) = one_has layout row_record a.has b.has in
+      let rest : rest_by layout.delimiter layout.style layout.from layout.unit a.has.count a.has.state ≡ rest_by layout.delimiter layout.style layout.from layout.unit b.has.count b.has.state = rw (count, state) refl in
       a.is ∙ rest ∙ sym b.is
 
   one_answer : (layout : Layout) (fault : Option RowKind) (row_record : CsvRecord) (t u : List ℕ) → IsAnswerAt layout files fault row_record t → IsAnswerAt layout files fault row_record u → t ≡ u

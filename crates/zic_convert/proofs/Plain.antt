@@ -108,34 +108,36 @@ module _ (layout : Layout) (plain : HasPlainRows layout) (files : List File) whe
   text_by own fields name field text two is =
       let says = rw two at is.says in
       record {
-        file = is.file;
-        among = is.among;
-        named = rw (plain.zone, two) (rw two at is.named);
-        input = is.instant;
-        says = rw (plain.time, plain.from, plain.unit, two, count_seconds field) says;
-        count = is.instant;
-        means = rw plain.from refl;
-        state = is.state;
-        answers = rw (plain.unit, second_one is.instant) is.answers;
+        has = record {
+          file = is.file;
+          among = is.among;
+          named = rw (plain.zone, two) (rw two at is.named);
+          input = is.instant;
+          says = rw (plain.time, plain.from, plain.unit, two, count_seconds field) says;
+          count = is.instant;
+          means = rw plain.from refl;
+          state = is.state;
+          answers = rw (plain.unit, second_one is.instant) is.answers;
+        };
         is = is.is ∙ sym (plain_row_text own is.file.name is.instant is.state);
       }
 
   -- and the other way round
   text_plainly : (row_record : CsvRecord) (name field text : List ℕ) → row_record.fields ≡ name ∷ field ∷ [] → IsTextBy layout files row_record text → IsTextOf files row_record.fields text
   text_plainly row_record name field text two is =
-      let says = rw (plain.time, plain.from, plain.unit, two, count_seconds field) at is.says in
-      let same : is.input ≡ is.count = same_instant is.input is.count (rw plain.from at is.means) in
+      let says = rw (plain.time, plain.from, plain.unit, two, count_seconds field) at is.has.says in
+      let same : is.has.input ≡ is.has.count = same_instant is.has.input is.has.count (rw plain.from at is.has.means) in
       record {
-        file = is.file;
-        among = is.among;
-        named = rw two (rw (plain.zone, two) at is.named);
-        instant = is.input;
+        file = is.has.file;
+        among = is.has.among;
+        named = rw two (rw (plain.zone, two) at is.has.named);
+        instant = is.has.input;
         says = rw two says;
-        state = is.state;
-        answers = subst (λ (t : ℤ). Answers is.file.image.content t (Some is.state)) (sym same) (rw (plain.unit, second_one is.count) at is.answers);
+        state = is.has.state;
+        answers = subst (λ (t : ℤ). Answers is.has.file.image.content t (Some is.has.state)) (sym same) (rw (plain.unit, second_one is.has.count) at is.has.answers);
         is = is.is
-            ∙ ap (λ (t : ℤ). start_text layout row_record.own is.file.name is.input ++ rest_by layout.delimiter layout.style layout.from layout.unit t is.state) (sym same)
-            ∙ plain_row_text row_record.own is.file.name is.input is.state;
+            ∙ ap (λ (t : ℤ). start_text layout row_record.own is.has.file.name is.has.input ++ rest_by layout.delimiter layout.style layout.from layout.unit t is.has.state) (sym same)
+            ∙ plain_row_text row_record.own is.has.file.name is.has.input is.has.state;
       }
 
   -- a record without a fault has two fields

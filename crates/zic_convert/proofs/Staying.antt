@@ -26,7 +26,7 @@ use Rattle.zic_row_text.specs.Count.{second_of}
 use Rattle.zic_zones.specs.declared.zones.Releases.{Releases}
 use Rattle.zic_zones.specs.Zones.{Agree, OldAgree, ReleasesAgree, is_named, number_of, zone_in}
 use Rattle.zic_piece_rows.specs.Rows.{is_closed, is_row_instant}
-use Rattle.zic_piece_rows.specs.LayoutRows.{RecordsConvertBy, IsAnswer, IsAnswerAt, IsAnswerBy, IsRowAt, IsRowBy, IsTextBy, IsWrittenWith, admits_stray, count_in, ending, ends_by, fault_by, faults_by, file_at, file_named, noted, time_by, ok_count, err_fault}
+use Rattle.zic_piece_rows.specs.LayoutRows.{HasAnswer, RecordsConvertBy, IsAnswer, IsAnswerAt, IsAnswerBy, IsRowAt, IsRowBy, IsTextBy, IsWrittenWith, admits_stray, count_in, ending, ends_by, fault_by, faults_by, file_at, file_named, noted, time_by, ok_count, err_fault}
 use Rattle.zic_convert.specs.code.Row.{fields_of_all}
 use Rattle.zic_piece_rows.specs.PieceRows.{AreRowsOf, RowsOf}
 use Rattle.zic_piece_rows.proofs.MadeTexts.{among}
@@ -103,39 +103,33 @@ module _ (known files : List File) (still : (file : File) → Contains known fil
     pub fault_same : (number : ℕ) (w : CsvRecord) → IsKnownZone layout.zone known files w → fault_by layout known most number w ≡ fault_by layout files most number w
     fault_same number w only = fault_made number w.own w.fields only
 
+    -- and what they answer
+    has_same : (row_record : CsvRecord) → HasAnswer layout known row_record → HasAnswer layout files row_record
+    has_same row_record has = record {
+      file = has.file;
+      among = still has.file has.among;
+      named = has.named;
+      input = has.input;
+      says = has.says;
+      count = has.count;
+      means = has.means;
+      state = has.state;
+      answers = has.answers;
+    }
+
     -- and the row
     text_same : (row_record : CsvRecord) (text : List ℕ) → IsTextBy layout known row_record text → IsTextBy layout files row_record text
-    text_same row_record text is = record {
-      file = is.file;
-      among = still is.file is.among;
-      named = is.named;
-      input = is.input;
-      says = is.says;
-      count = is.count;
-      means = is.means;
-      state = is.state;
-      answers = is.answers;
-      is = is.is;
-    }
+    unfolding has_same
+    text_same row_record text is = record { has = has_same row_record is.has; is = is.is }
 
     row_same : (fault : Option RowKind) (row_record : CsvRecord) (text : List ℕ) → IsRowAt layout known fault row_record text → IsRowAt layout files fault row_record text
     row_same None row_record text is = text_same row_record text is
     row_same (Some kind) row_record text is = is
 
-    -- what they answer
+    -- which ends with the answer
     answer_text_same : (row_record : CsvRecord) (answer : List ℕ) → IsAnswerBy layout known row_record answer → IsAnswerBy layout files row_record answer
-    answer_text_same row_record answer is = record {
-      file = is.file;
-      among = still is.file is.among;
-      named = is.named;
-      input = is.input;
-      says = is.says;
-      count = is.count;
-      means = is.means;
-      state = is.state;
-      answers = is.answers;
-      is = is.is;
-    }
+    unfolding has_same
+    answer_text_same row_record answer is = record { has = has_same row_record is.has; is = is.is }
 
     answer_at_same : (fault : Option RowKind) (row_record : CsvRecord) (answer : List ℕ) → IsAnswerAt layout known fault row_record answer → IsAnswerAt layout files fault row_record answer
     answer_at_same None row_record answer is = answer_text_same row_record answer is

@@ -74,15 +74,17 @@ module _ (layout : Layout) (files : List File) (most : ℕ) (known : All IsKnown
       let (state, answers) = All-contains IsKnown files file known has (second_of layout.unit count) in (
         start_text layout row_record.own file.name input ++ rest_by layout.delimiter layout.style layout.from layout.unit count state,
         record {
-          file = file;
-          among = has;
-          named = called;
-          input = input;
-          says = said;
-          count = count;
-          means = means;
-          state = state;
-          answers = answers;
+          has = record {
+            file = file;
+            among = has;
+            named = called;
+            input = input;
+            says = said;
+            count = count;
+            means = means;
+            state = state;
+            answers = answers;
+          };
           is = refl;
         },
       )
@@ -99,21 +101,7 @@ module _ (layout : Layout) (files : List File) (most : ℕ) (known : All IsKnown
   have_answer number row_record = by_fault (fault_by layout files most number row_record) refl where
     by_fault : (fault : Option RowKind) → fault_by layout files most number row_record ≡ fault → (answer : List ℕ) × IsAnswerAt layout files fault row_record answer
     by_fault None e =
-        let (text, is) = have_text number row_record e in (
-          rest_by layout.delimiter layout.style layout.from layout.unit is.count is.state,
-          record {
-            file = is.file;
-            among = is.among;
-            named = is.named;
-            input = is.input;
-            says = is.says;
-            count = is.count;
-            means = is.means;
-            state = is.state;
-            answers = is.answers;
-            is = refl;
-          },
-        )
+        let (text, is) = have_text number row_record e in (rest_by layout.delimiter layout.style layout.from layout.unit is.has.count is.has.state, record { has = is.has; is = refl })
     by_fault (Some fault) e = (empty_fields layout, refl)
 
 module _ (layout : Layout) (releases : Releases) (most : ℕ) (known : All IsKnown releases.zones × IfSome releases.old (All IsKnown)) where

@@ -81,26 +81,28 @@ delimited d names = flat_map (λ name. d ∷ name) names
 -- the name of the field that a row begins with after the zone's name: own choice
 abbrev pub time_name : TimeFrom → List ℕ
 time_name from.Count = codes "instant"
-time_name from.Rfc3339 = codes "instant"
+time_name (from.Text form) = codes "instant"
 time_name (from.Local choice) = codes "local"
 
 -- the names of the fields that a row adds to its record: own choice
 abbrev pub added_names : Style → TimeFrom → List (List ℕ)
 added_names styles.Fields from.Count = codes "local" ∷ codes "offset" ∷ codes "daylight" ∷ codes "abbreviation" ∷ []
-added_names styles.Fields from.Rfc3339 = codes "local" ∷ codes "offset" ∷ codes "daylight" ∷ codes "abbreviation" ∷ []
+added_names styles.Fields (from.Text form) = codes "local" ∷ codes "offset" ∷ codes "daylight" ∷ codes "abbreviation" ∷ []
 added_names styles.Fields (from.Local choice) = codes "instant" ∷ codes "offset" ∷ codes "daylight" ∷ codes "abbreviation" ∷ []
 added_names styles.Iso from.Count = codes "local" ∷ codes "daylight" ∷ codes "abbreviation" ∷ []
-added_names styles.Iso from.Rfc3339 = codes "local" ∷ codes "daylight" ∷ codes "abbreviation" ∷ []
+added_names styles.Iso (from.Text form) = codes "local" ∷ codes "daylight" ∷ codes "abbreviation" ∷ []
 added_names styles.Iso (from.Local choice) = codes "instant" ∷ codes "time" ∷ codes "daylight" ∷ codes "abbreviation" ∷ []
 
 -- the names of the fields that another release answers, after all others, where there is one: own choice
-abbrev pub names_after : Option (List File) → Style → TimeFrom → List (List ℕ)
-names_after None style time = []
-names_after (Some old) style time = map (λ name. codes "old_" ++ name) (added_names style time)
+abbrev pub names_after : Option (List File) → List (List ℕ) → List (List ℕ)
+names_after None names = []
+names_after (Some old) names = map (λ name. codes "old_" ++ name) names
 
--- the names of all fields that a row by a layout adds to its record, each after the delimiter
+-- the names of all fields that a row by a layout adds to its record, each with the layout's prefix and after the delimiter
 abbrev pub names_added : Layout → Option (List File) → List ℕ
-names_added layout old = delimited layout.delimiter (added_names layout.style layout.from ++ names_after old layout.style layout.from)
+names_added layout old =
+    let names : List (List ℕ) = added_names layout.style layout.from in
+    delimited layout.delimiter (map (λ name. layout.prefix ++ name) (names ++ names_after old names))
 
 -- the line of the names of all fields of rows that begin with a zone's name
 abbrev pub row_names : Layout → Option (List File) → List ℕ

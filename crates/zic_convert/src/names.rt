@@ -3,13 +3,14 @@
 ghost use Rattle.std.specs.Prelude.{◌≡◌, ◌+◌, ◌*◌, ◌≤◌, ◌++◌, ◌∷◌, All, length, map};
 ghost use Rattle.arrayvec.specs.ArrayVec.{array_vec_len};
 ghost use Rattle.zic_convert.specs.Column.{added_names, delimited, names_added, row_names, time_name};
+ghost use Rattle.zic_layouts.specs.declared.prefix.TheConstants.{MAX_PREFIX};
 
 use arrayvec::ArrayVec;
-use zic_layouts::{Layout, Style, TimeFrom};
+use zic_layouts::{Layout, MAX_PREFIX, Style, TimeFrom};
 use zic_zones::RowZones;
 
-/// The room for a line of names, in bytes. The longest line has 101.
-const NAMES_ROOM: usize = 160;
+/// The room for a line of names, in bytes: eight names of 81 with their delimiters, and 40 more.
+const NAMES_ROOM: usize = 688;
 
 /// A line of names, or a part of one.
 pub(crate) type Names = ArrayVec<u8, NAMES_ROOM>;
@@ -20,7 +21,7 @@ fn time_name(from: TimeFrom) -> &'static [u8]
     ensures short { length result.now ≤ 12 }
 {
     match from {
-        TimeFrom::Count | TimeFrom::Rfc3339 => b"instant",
+        TimeFrom::Count | TimeFrom::Text(_) => b"instant",
         TimeFrom::Local(_) => b"local",
     }
 }
@@ -32,58 +33,84 @@ fn added_names(style: Style, from: TimeFrom) -> &'static [&'static [u8]]
     ensures short { All (λ name. length name.now ≤ 12) result.now }
 {
     match (style, from) {
-        (Style::Fields, TimeFrom::Count | TimeFrom::Rfc3339) => {
+        (Style::Fields, TimeFrom::Count | TimeFrom::Text(_)) => {
             &[b"local", b"offset", b"daylight", b"abbreviation"]
         }
         (Style::Fields, TimeFrom::Local(_)) => {
             &[b"instant", b"offset", b"daylight", b"abbreviation"]
         }
-        (Style::Iso, TimeFrom::Count | TimeFrom::Rfc3339) => {
+        (Style::Iso, TimeFrom::Count | TimeFrom::Text(_)) => {
             &[b"local", b"daylight", b"abbreviation"]
         }
         (Style::Iso, TimeFrom::Local(_)) => &[b"instant", b"time", b"daylight", b"abbreviation"],
     }
 }
 
-/// Appends a delimiter and a name with a prefix.
-fn push_name(text: &mut Names, delimiter: u8, prefix: &[u8], name: &[u8])
-    requires { array_vec_len text.old + 1 + length prefix.now + length name.now ≤ NAMES_ROOM }
-    ensures items { text.new.items ≡ text.old.items ++ delimiter ∷ (prefix.now ++ name.now) }
-    ensures len { array_vec_len text.new
-        ≡ array_vec_len text.old + 1 + length prefix.now + length name.now }
+/// What a name in a header stands after: a delimiter, the layout's prefix, and what tells a release.
+#[derive(Clone, Copy, Drop)]
+struct NameStart<'a> {
+    delimiter: u8,
+    prefix: &'a [u8],
+    release: &'a [u8],
+}
+
+/// Appends a name, and what it stands after.
+fn push_name(text: &mut Names, start: NameStart<'_>, name: &[u8])
+    requires { array_vec_len text.old + 1 + length start.prefix.now + length start.release.now
+        + length name.now ≤ NAMES_ROOM }
+    ensures items { text.new.items ≡ text.old.items
+        ++ start.entry.delimiter ∷ (start.entry.prefix.now ++ (start.entry.release.now ++ name.now)) }
+    ensures len { array_vec_len text.new ≡ array_vec_len text.old + 1 + length start.entry.prefix.now
+        + length start.entry.release.now + length name.now }
 {
-    text.push(delimiter);
-    text.try_extend_from_slice(prefix).unwrap();
+    text.push(start.delimiter);
+    text.try_extend_from_slice(start.prefix).unwrap();
+    text.try_extend_from_slice(start.release).unwrap();
     text.try_extend_from_slice(name).unwrap();
 }
 
-/// Appends names, each after a delimiter and with the same prefix.
-fn push_names(text: &mut Names, delimiter: u8, prefix: &[u8], names: &[&[u8]])
-    requires room { array_vec_len text.old + 17 * length names.now ≤ NAMES_ROOM }
-    requires prefix { length prefix.now ≤ 4 }
+/// Appends names, each after the same.
+fn push_names(text: &mut Names, start: NameStart<'_>, names: &[&[u8]])
+    requires room { array_vec_len text.old + 81 * length names.now ≤ NAMES_ROOM }
+    requires prefix { length start.prefix.now ≤ MAX_PREFIX }
+    requires release { length start.release.now ≤ 4 }
     requires short { All (λ name. length name.now ≤ 12) names.now }
-    ensures items { text.new.items ≡ text.old.items ++ delimited delimiter
-        (map (λ name. prefix.now ++ name) (map (λ name. name.now) names.now)) }
-    ensures len { array_vec_len text.new ≤ array_vec_len text.old + 17 * length names.now }
+    ensures items { text.new.items ≡ text.old.items ++ delimited start.entry.delimiter
+        (map (λ name. start.entry.prefix.now ++ (start.entry.release.now ++ name))
+        (map (λ name. name.now) names.now)) }
+    ensures len { array_vec_len text.new ≤ array_vec_len text.old + 81 * length names.now }
 {
     for name in names {
-        push_name(text, delimiter, prefix, name);
+        push_name(text, start, name);
+    }
+}
+
+/// Returns what the names of a release's fields stand after.
+fn name_start<'a>(layout: &'a Layout, release: &'a [u8]) -> NameStart<'a>
+    ensures delimiter { result.delimiter ≡ layout.now.delimiter }
+    ensures prefix { result.prefix.now ≡ layout.now.prefix }
+    ensures short { length layout.now.prefix ≤ MAX_PREFIX }
+    ensures release { result.release.now ≡ release.now }
+{
+    NameStart {
+        delimiter: layout.delimiter.byte(),
+        prefix: layout.prefix.bytes(),
+        release,
     }
 }
 
 /// Appends the names of the fields that a row adds to its record, each after the layout's delimiter:
 /// also those of another release's fields, where there is one.
 pub(crate) fn push_added(text: &mut Names, layout: &Layout, old: &Option<RowZones<'_>>)
-    requires { array_vec_len text.old + 136 ≤ NAMES_ROOM }
+    requires { array_vec_len text.old + 648 ≤ NAMES_ROOM }
     ensures items { text.new.items ≡ text.old.items ++ names_added layout.now old.now }
-    ensures len { array_vec_len text.new ≤ array_vec_len text.old + 136 }
+    ensures len { array_vec_len text.new ≤ array_vec_len text.old + 648 }
 {
-    let delimiter = layout.delimiter.byte();
     let names = added_names(layout.style, layout.from);
-    push_names(text, delimiter, b"", names);
+    push_names(text, name_start(layout, b""), names);
     match old {
         None => {}
-        Some(_) => push_names(text, delimiter, b"old_", names),
+        Some(_) => push_names(text, name_start(layout, b"old_"), names),
     }
 }
 
@@ -93,12 +120,8 @@ pub(crate) fn row_names(layout: &Layout, old: &Option<RowZones<'_>>) -> Names
 {
     let mut text = Names::new();
     text.try_extend_from_slice(b"zone").unwrap();
-    push_name(
-        &mut text,
-        layout.delimiter.byte(),
-        b"",
-        time_name(layout.from),
-    );
+    text.push(layout.delimiter.byte());
+    text.try_extend_from_slice(time_name(layout.from)).unwrap();
     push_added(&mut text, layout, old);
     text.push(b'\n');
     text

@@ -57,14 +57,10 @@ const GROUP_1: [Entry; 6] = [
         meaning: "A record has more bytes than `--max-record` allows, without its line end.",
         says: r#"  A record has more bytes than `--max-record` allows, without its line end.
   With `--keep-going` and `--records lines` the command goes on at the next
-  line, and writes the first bytes of the record, four more than the option
-  allows. Otherwise it ends the command. No more of such a record is held than
-  that and what one read gives. A header that is too long is row 0, and ends
-  the command always.
+  line, and writes the record's first bytes, four more than the option allows.
+  Else it ends, and always by a longer header, which is row 0.
 "#,
-        expected: r#"  At most as many bytes as the option says. Without it a record may have any
-  number of bytes.
-"#,
+        expected: "  At most as many bytes as the option says; without it any number.\n",
         setup: SETUP_1,
         wrong: "  $ echo 'Etc/UTC,0' | pzic convert --max-record 8 utc.zi\n",
         prints: "  row 1: RowTooLong\n",
@@ -79,9 +75,8 @@ const GROUP_1: [Entry; 6] = [
         says: r#"  A double quote is stray: it's still open at the end of its record, or a byte
   other than a delimiter or line end follows the one that ends a field. With
   `--quotes lenient`, the default for a plain column, it's no fault, unless it
-  is open at the end of a line with `--records lines`. With `--keep-going`, and
-  without `--rejects`, the record is written as it stands, without empty fields
-  of local time. A header with one is row 0.
+  is open at the end of a line with `--records lines`. With `--keep-going` the
+  row is the record as it stands. A header with one is row 0.
 "#,
         expected: r#"  A field that begins with a double quote ends with one, and has each that is
   in it twice: `"5"" wide"`. In other fields double quotes are text.
@@ -90,9 +85,9 @@ const GROUP_1: [Entry; 6] = [
         wrong: "  $ echo 'Etc/UTC,0,\"5\" wide' | pzic convert --append utc.zi\n",
         prints: "  row 1: RowQuote\n",
         right: "  $ echo 'Etc/UTC,0,\"5\"\" wide\"' | pzic convert --append utc.zi\n",
-        cause: r#"  Text with a double quote that isn't written twice. An open one takes the
-  lines after it into its record, up to the next one or to the end of the
-  column; with `--records lines` it costs one line.
+        cause: r#"  Text with a double quote that isn't written twice. An open one takes lines
+  into its record up to the next one, or to the end of the column; with
+  `--records lines` it costs one line.
 "#,
     },
     Entry {
@@ -100,11 +95,10 @@ const GROUP_1: [Entry; 6] = [
         meaning: "A record has too few or too many fields.",
         says: r#"  A record has too few or too many fields. There must be two, or one with
   `--zone`; with `--zone-field`, `--time-field` or `--append` as many as are
-  read, or more. With `--keep-going`, and without `--rejects`, the record is
-  written as it stands, without empty fields of local time.
+  read, or more. With `--keep-going` the row is the record as it stands.
 "#,
-        expected: r#"  `NAME,SECONDS` with one comma, or the fields that `--zone`, `--zone-field`
-  and `--time-field` name, with what `--delimiter` names between them.
+        expected: r#"  `NAME,SECONDS`, or the fields that `--zone`, `--zone-field` and `--time-field`
+  name, with what `--delimiter` names between them.
 "#,
         setup: SETUP_1,
         wrong: "  $ echo 'Etc/UTC;0' | pzic convert utc.zi\n",
@@ -139,20 +133,21 @@ const GROUP_1: [Entry; 6] = [
         name: "RowInstant",
         meaning: "The field of the instant doesn't hold an instant.",
         says: "  The field of the instant doesn't hold an instant.\n",
-        expected: r#"  Seconds since 1970-01-01T00:00:00 UT: 1 to 18 digits, with `-` before them
-  for earlier instants, without `+`, spaces or a fraction. With `--unit` 3, 6
-  or 9 digits more. With `--from rfc3339` a date and a time with a UT offset or
-  `Z`, as `1970-01-01T00:00:00Z`, in the years 1 to 9999, with a fraction of at
-  most as many digits.
+        expected: r#"  Seconds since 1970-01-01T00:00:00 UT: 1 to 18 digits, perhaps after `-`,
+  without `+`, spaces or a fraction. With `--unit` 3, 6 or 9 digits more. With
+  `--from seconds` perhaps a fraction, with `rfc3339` a date and a time with a
+  UT offset or `Z`, as `1970-01-01T00:00:00Z`, with `utc` one without, in the
+  years 1 to 9999. A fraction is a whole number of units.
 "#,
         setup: SETUP_1,
         wrong: "  $ echo 'Etc/UTC,1970-01-01T00:00:00Z' | pzic convert utc.zi\n",
         prints: "  row 1: RowInstant\n",
         right: "  $ echo 'Etc/UTC,1970-01-01T00:00:00Z' | pzic convert --from rfc3339 utc.zi\n",
-        cause: r#"  A date, which `--from rfc3339` takes with a time and a UT offset, and
-  `--from local` without one, a number with a fraction, or the two fields
-  swapped. A leap second, `23:59:60`, is none. Or, in a plain column, a stray
-  double quote before the instant, which `--quotes strict` finds.
+        cause: r#"  A date, which `--from rfc3339` takes with a time and a UT offset, and `utc`
+  and `local` without one, a number with a fraction, which `--from seconds`
+  takes, or the two fields swapped. A leap second, `23:59:60`, is none. Or, in a
+  plain column, a stray double quote before the instant, which `--quotes strict`
+  finds.
 "#,
     },
     Entry {
@@ -190,16 +185,16 @@ const GROUP_2: [Entry; 6] = [
         name: "RowLocal",
         meaning: "The field of the local time doesn't hold a local time.",
         says: "  The field of the local time doesn't hold a local time.\n",
-        expected: r#"  A date and a time of day with seconds and without a UT offset, as
-  `1970-01-01T00:00:00` or with a space in place of the `T`, in the years 1 to
-  9999. With `--unit` a fraction of at most 3, 6 or 9 digits.
+        expected: r#"  A date and a time of day without a UT offset, as `1970-01-01T00:00:00` or
+  `1970-01-01 00:00`, in the years 1 to 9999. A fraction has 1 to 9 digits, a
+  whole number of units: for `.25` give `--unit ms`, `us` or `ns`.
 "#,
         setup: SETUP_1,
         wrong: "  $ echo 'Etc/UTC,1970-01-01T00:00:00Z' | pzic convert --from local utc.zi\n",
         prints: "  row 1: RowLocal\n",
         right: "  $ echo 'Etc/UTC,1970-01-01T00:00:00' | pzic convert --from local utc.zi\n",
-        cause: r#"  A time without its seconds, a date without a time of day, a `Z` or a UT
-  offset, which `--from rfc3339` takes, or the two fields swapped.
+        cause: r#"  A date without a time of day, a `Z` or a UT offset, which `--from rfc3339`
+  takes, or the two fields swapped.
 "#,
     },
     Entry {
@@ -214,13 +209,12 @@ const GROUP_2: [Entry; 6] = [
   $ echo 'Test/One,2000-01-01T00:30:00' | pzic convert --from local one.zi
 "#,
         prints: "  row 1: RowSkipped\n",
-        right: r#"  $ printf 'Zone Test/One 0 - UTC 2000\n 1 - CET\n' >one.zi
-  $ echo 'Test/One,2000-01-01T00:30:00' | \
+        right: r#"  $ echo 'Test/One,2000-01-01T00:30:00' | \
   >   pzic convert --from local --ambiguous compatible one.zi
 "#,
         cause: r#"  A time of day that daylight saving time leaves out on one day of the year.
-  With `--ambiguous later` or `compatible` it is read by the UT offset before
-  the gap, and with `earlier` by the one after it.
+  `--ambiguous later` or `compatible` reads it by the UT offset before the gap,
+  `earlier` by that after it.
 "#,
     },
     Entry {
@@ -235,8 +229,7 @@ const GROUP_2: [Entry; 6] = [
   $ echo 'Test/One,1999-12-31T23:30:00' | pzic convert --from local one.zi
 "#,
         prints: "  row 1: RowRepeated\n",
-        right: r#"  $ printf 'Zone Test/One 1 - CET 2000\n 0 - UTC\n' >one.zi
-  $ echo 'Test/One,1999-12-31T23:30:00' | \
+        right: r#"  $ echo 'Test/One,1999-12-31T23:30:00' | \
   >   pzic convert --from local --ambiguous later one.zi
 "#,
         cause: r#"  A time of day in the hour that comes twice at the end of daylight saving
@@ -246,11 +239,11 @@ const GROUP_2: [Entry; 6] = [
     },
     Entry {
         name: "HeaderIsRow",
-        meaning: "The record that `--header` or `--skip-header` takes names a zone that there is, and has an instant or a local time: it's a row.",
+        meaning: "The record that `--header` or `--skip-header` takes names a zone that there is, and has an instant or a local time, also one out of range or that clocks don't show once: it's a row.",
         says: r#"  The record that `--header` or `--skip-header` takes names a zone that there
-  is, and has an instant or a local time: it's a row. It is row 0, and ends the
-  command, also with `--keep-going`. A time that is out of range, or that
-  clocks don't show once, makes a row of it too.
+  is, and has an instant or a local time, also one out of range or that clocks
+  don't show once: it's a row. It is row 0, and ends the command, also with
+  `--keep-going`.
 "#,
         expected: r#"  A header has another text than a known zone's name, or than a time, in these
   fields: `zone,instant`.
@@ -268,8 +261,8 @@ const GROUP_2: [Entry; 6] = [
         meaning: "The column has more bytes than `--max-bytes` allows.",
         says: "  The column has more bytes than `--max-bytes` allows.\n",
         expected: r#"  At most 4,294,967,296 bytes, or the number given with the option. The rows
-  that were written are the first of the column. With `--keep-going` the last
-  lines are as after TooManyRows.
+  written are the column's first. With `--keep-going` the last lines are as
+  after TooManyRows.
 "#,
         setup: SETUP_1,
         wrong: "  $ echo 'Etc/UTC,0' | pzic convert --max-bytes 9 utc.zi\n",
@@ -482,8 +475,8 @@ const GROUP_5: [Entry; 6] = [
     Entry {
         name: "cannot read column",
         meaning: "Standard input can't be read.",
-        says: r#"  Standard input can't be read. Status 3. The rows that were written are the
-  first rows of the column.
+        says: r#"  Standard input can't be read. Status 3. The rows written are the column's
+  first.
 "#,
         expected: "  Standard input that is open and isn't a folder.\n",
         setup: SETUP_1,

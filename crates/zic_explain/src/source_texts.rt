@@ -329,7 +329,7 @@ const GROUP_4: [Entry; 6] = [
         name: "DuplicateName",
         meaning: "A Zone or Link line has the name of an earlier Zone or Link line.",
         says: "  A Zone or Link line has the name of an earlier Zone or Link line.\n",
-        expected: "  Each name once in all the sources that are given together.\n",
+        expected: "  Each name once in all sources.\n",
         setup: "",
         wrong: r#"  Zone Etc/UTC 0 - UTC
   Zone Etc/UTC 0 - UTC
@@ -362,8 +362,8 @@ const GROUP_4: [Entry; 6] = [
         name: "UnknownRules",
         meaning: "RULES names a rule set that has no Rule line.",
         says: "  RULES names a rule set that has no Rule line.\n",
-        expected: r#"  A Rule line of that name, before or after the zone, in any of the sources
-  that are given together. Names are case-sensitive.
+        expected: r#"  A Rule line of that name, before or after the zone, in any of the sources.
+  Names are case-sensitive.
 "#,
         setup: "",
         wrong: "  Zone Europe/Paris 1:00 EU CE%sT\n",
@@ -523,8 +523,8 @@ const GROUP_5: [Entry; 6] = [
   Rule A 2000 max - Oct lastSun 3:00 0 S
   Zone Etc/Test 1:00 A C%sT
 "#,
-        cause: r#"  Some of the rules have ended: give those a last year. If all of them really
-  go on, give all of them a last year.
+        cause: r#"  Some of the rules have ended: give those a last year. If all really go on,
+  give all a last year.
 "#,
     },
     Entry {

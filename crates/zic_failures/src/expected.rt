@@ -7,11 +7,12 @@ use crate::record::RecordForm;
 use std::alloc::{AllocError, Global};
 use zic_base::RowKind;
 use zic_explain::cases::{
-    ROW_INSTANT_FROM_RFC3339, ROW_INSTANT_UNIT_MS, ROW_INSTANT_UNIT_NS, ROW_INSTANT_UNIT_US,
-    ROW_RANGE_FROM_RFC3339, ROW_RANGE_UNIT_MS, ROW_RANGE_UNIT_NS, ROW_RANGE_UNIT_US,
+    ROW_INSTANT_FROM_RFC3339, ROW_INSTANT_FROM_SECONDS, ROW_INSTANT_FROM_UTC, ROW_INSTANT_UNIT_MS,
+    ROW_INSTANT_UNIT_NS, ROW_INSTANT_UNIT_US, ROW_RANGE_FROM_RFC3339, ROW_RANGE_FROM_SECONDS,
+    ROW_RANGE_UNIT_MS, ROW_RANGE_UNIT_NS, ROW_RANGE_UNIT_US,
 };
 use zic_explain::{Entry, Expectation, entry_named, push_bytes, push_section};
-use zic_layouts::{FieldCount, TimeFrom, Unit};
+use zic_layouts::{FieldCount, InstantText, TimeFrom, Unit};
 
 /// Returns the sections that say what is expected, and what people usually meant, where an error has
 /// this name, or an empty text where none has it.
@@ -90,12 +91,16 @@ impl Expected {
     /// the form of instants.
     fn by_options(&self, kind: RowKind, entry: &Entry) -> Expectation {
         match (kind, self.form.from, self.form.unit) {
-            (RowKind::RowInstant, TimeFrom::Rfc3339 | TimeFrom::Local(_), _) =>
+            (RowKind::RowInstant, TimeFrom::Text(InstantText::Seconds), _) =>
+                ROW_INSTANT_FROM_SECONDS,
+            (RowKind::RowInstant, TimeFrom::Text(InstantText::Utc), _) => ROW_INSTANT_FROM_UTC,
+            (RowKind::RowInstant, TimeFrom::Text(_) | TimeFrom::Local(_), _) =>
                 ROW_INSTANT_FROM_RFC3339,
             (RowKind::RowInstant, _, Unit::Millisecond) => ROW_INSTANT_UNIT_MS,
             (RowKind::RowInstant, _, Unit::Microsecond) => ROW_INSTANT_UNIT_US,
             (RowKind::RowInstant, _, Unit::Nanosecond) => ROW_INSTANT_UNIT_NS,
-            (RowKind::RowRange, TimeFrom::Rfc3339 | TimeFrom::Local(_), _) =>
+            (RowKind::RowRange, TimeFrom::Text(InstantText::Seconds), _) => ROW_RANGE_FROM_SECONDS,
+            (RowKind::RowRange, TimeFrom::Text(_) | TimeFrom::Local(_), _) =>
                 ROW_RANGE_FROM_RFC3339,
             (RowKind::RowRange, _, Unit::Millisecond) => ROW_RANGE_UNIT_MS,
             (RowKind::RowRange, _, Unit::Microsecond) => ROW_RANGE_UNIT_US,

@@ -3,7 +3,7 @@
 use crate::faulty::Part;
 use zic_base::RowKind;
 use zic_explain::Span;
-use zic_layouts::{TimeFrom, Unit};
+use zic_layouts::{InstantText, TimeFrom, Unit};
 
 /// Where the records of a column have the zone and the instant of a row.
 #[derive(Clone, Copy, Debug)]
@@ -42,7 +42,8 @@ impl RecordForm {
     pub fn label(self, kind: RowKind) -> &'static str {
         match (kind, self.from, self.unit) {
             (RowKind::RowZone, _, _) => "NAME",
-            (_, TimeFrom::Rfc3339, _) => "INSTANT",
+            (_, TimeFrom::Text(InstantText::Seconds), _) => "SECONDS",
+            (_, TimeFrom::Text(_), _) => "INSTANT",
             (_, TimeFrom::Local(_), _) => "LOCAL TIME",
             (_, TimeFrom::Count, Unit::Second) => "SECONDS",
             (_, TimeFrom::Count, Unit::Millisecond) => "MILLISECONDS",

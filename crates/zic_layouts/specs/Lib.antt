@@ -1,4 +1,5 @@
 pub mod Plan
 pub mod Delimiter
+pub mod Prefix
 pub mod Layout
 pub mod Noted

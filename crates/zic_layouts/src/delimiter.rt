@@ -1,7 +1,7 @@
 //! What stands between the fields of records and of rows.
 
 ghost use Rattle.std.specs.Prelude.{◌≡◌, true, false, IfSome, IfNone};
-ghost use Rattle.zic_layouts.specs.Delimiter.{is_delimiter};
+ghost use Rattle.zic_layouts.specs.Delimiter.{is_delimiter, is_row_byte};
 
 use std::marker::Model;
 
@@ -56,13 +56,19 @@ impl Delimiter {
 fn is_delimiter(byte: u8) -> bool
     ensures { result ≡ is_delimiter byte }
 {
-    let in_field = byte.is_ascii_alphanumeric()
+    let of_csv = byte == b'"' || byte == b'\n' || byte == b'\r';
+    byte < 128 && !is_row_byte(byte) && !of_csv
+}
+
+/// Returns whether a field of a row can have a byte.
+pub(crate) fn is_row_byte(byte: u8) -> bool
+    ensures { result ≡ is_row_byte byte }
+{
+    byte.is_ascii_alphanumeric()
         || byte == b'+'
         || byte == b'-'
         || byte == b'.'
         || byte == b'/'
         || byte == b':'
-        || byte == b'_';
-    let of_csv = byte == b'"' || byte == b'\n' || byte == b'\r';
-    byte < 128 && !in_field && !of_csv
+        || byte == b'_'
 }

@@ -1,10 +1,11 @@
 //! How a column is read, and what its rows are.
 
-ghost use Rattle.std.specs.Prelude.{◌≡◌};
+ghost use Rattle.std.specs.Prelude.{◌≡◌, []};
 ghost use Rattle.zic_layouts.specs.Layout.{HasPlainRows, has_count};
 
 use crate::delimiter::Delimiter;
 use crate::disambiguation::Disambiguation;
+use crate::prefix::Prefix;
 
 /// What an instant counts from 1970-01-01T00:00:00 UT, without leap seconds.
 #[derive(Clone, Copy, Debug, PartialEq, Eq)]
@@ -15,13 +16,24 @@ pub enum Unit {
     Nanosecond,
 }
 
+/// How an instant is written that is no count of units.
+#[derive(Clone, Copy, Debug, PartialEq, Eq)]
+pub enum InstantText {
+    /// As seconds, perhaps with a fraction, `1173596399.25`.
+    Seconds,
+    /// As a date and a time of day with a UT offset, `2007-03-11T01:59:59-05:00`. RFC 3339, 5.6.
+    Rfc3339,
+    /// As a date and a time of day in UT, `2007-03-11T06:59:59`.
+    Utc,
+}
+
 /// How the field of the instant, or of the local time, is written.
 #[derive(Clone, Copy, Debug, PartialEq, Eq)]
 pub enum TimeFrom {
     /// As a count of units.
     Count,
-    /// As a date and a time of day with a UT offset, `2007-03-11T01:59:59-05:00`. RFC 3339, 5.6.
-    Rfc3339,
+    /// As a text of this form.
+    Text(InstantText),
     /// As a date and a time of day on the clocks of the row's zone, `2007-03-11T01:59:59`. The choice
     /// says which instant is meant in gaps and folds.
     Local(Disambiguation),
@@ -131,7 +143,7 @@ pub enum Notes {
 }
 
 /// How a column is read, and what its rows are.
-#[derive(Debug, Drop)]
+#[derive(Drop)]
 pub struct Layout {
     /// Where a row's zone comes from.
     pub zone: ZoneFrom,
@@ -155,6 +167,8 @@ pub struct Layout {
     pub max_record: Option<u64>,
     /// What a row begins with.
     pub start: RowStart,
+    /// What the names of the fields begin with, in a header, that rows add.
+    pub prefix: Prefix,
     /// How a row has its local time and its UT offset.
     pub style: Style,
     /// What a row with a fault does.
@@ -171,6 +185,7 @@ impl Layout {
     pub fn plain(header: Header) -> Layout
         ensures rows { HasPlainRows result }
         ensures header { result.header ≡ header }
+        ensures prefix { result.prefix ≡ [] }
     {
         Layout {
             zone: ZoneFrom::Field(0),
@@ -184,6 +199,7 @@ impl Layout {
             header,
             max_record: None,
             start: RowStart::Fields,
+            prefix: Prefix::none(),
             style: Style::Fields,
             at_fault: AtFault::End,
             notes: Notes::Faults,

@@ -10,12 +10,12 @@ use Rattle.zic_piece_rows.specs.LayoutRows.{answered}
 pub four : (style : Style) (time : TimeFrom) → (answered style time ≡ 3 → ⊥) → answered style time ≡ 4
 four styles.Fields time not = refl
 four styles.Iso from.Count not = absurd (not refl)
-four styles.Iso from.Rfc3339 not = absurd (not refl)
+four styles.Iso (from.Text form) not = absurd (not refl)
 four styles.Iso (from.Local choice) not = refl
 
 -- so many of four delimiters
 pub delimiters : (style : Style) (time : TimeFrom) (d : ℕ) → take (answered style time) (d ∷ d ∷ d ∷ d ∷ []) ≡ replicate (answered style time) d
 delimiters styles.Fields time d = refl
 delimiters styles.Iso from.Count d = refl
-delimiters styles.Iso from.Rfc3339 d = refl
+delimiters styles.Iso (from.Text form) d = refl
 delimiters styles.Iso (from.Local choice) d = refl

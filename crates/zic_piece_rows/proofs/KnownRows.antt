@@ -45,7 +45,7 @@ may_row t is = both (int_le FIRST_INSTANT t) (int_le t LAST_INSTANT) (grind (ari
 -- an instant means itself
 instant_itself : (time_from : TimeFrom) (u : Unit) (file : File) (count : ℤ) → ((choice : Disambiguation) → time_from ≡ times.Local choice → ⊥) → instant_by time_from u file count ≡ Ok count
 instant_itself times.Count u file count instants = refl
-instant_itself times.Rfc3339 u file count instants = refl
+instant_itself (times.Text form) u file count instants = refl
 instant_itself (times.Local choice) u file count instants = absurd (instants choice refl)
 
 -- what a count lies after its whole second is less than one
@@ -97,7 +97,7 @@ module _ (piece : Piece) (given : Record) where
       by_from : (f : TimeFrom) → piece.layout.now.from ≡ f → IsCountFor f piece.layout.now.unit count
           → IsInput piece given (input_of f time) × (input_in piece given (input_of f time) ≡ input_text piece.layout.now.from piece.layout.now.unit count)
       by_from times.Count e fits = absurd (dated e)
-      by_from times.Rfc3339 e fits = rw (back, e) (tt, refl)
+      by_from (times.Text form) e fits = rw (back, e) (tt, refl)
       by_from (times.Local choice) e fits = rw (back, e) (fits, refl)
 
   -- the same for the zones of another release
@@ -185,7 +185,7 @@ module _ (piece : Piece) (given : Record) where
     known_is is = by_from piece.layout.now.from refl is where
       by_from : (f : TimeFrom) → piece.layout.now.from ≡ f → IsInstantFrom f piece.zones.now file input time → IsKnown piece given input known_of shown
       by_from times.Count e same = at_instant (λ choice local. cc (sym e ∙ local)) same
-      by_from times.Rfc3339 e same = at_instant (λ choice local. cc (sym e ∙ local)) same
+      by_from (times.Text form) e same = at_instant (λ choice local. cc (sym e ∙ local)) same
       by_from (times.Local choice) e only = at_only choice e only
 
   module _ (input : RowTime) (known : TableAnswer) (shown : Shown) (is : IsKnown piece given input known shown) where

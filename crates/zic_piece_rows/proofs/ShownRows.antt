@@ -46,7 +46,7 @@ module _ (u : Unit) (count : ℤ) (time : RowTime) (is : IsTimeOf u count time) 
   pub rest_timed : (d : ℕ) (style : Style) (time_from : TimeFrom) (state : Shown) → rest_at d style time_from time state ≡ rest_by d style time_from u count state
   unfolding counted_rest_text
   rest_timed d style from.Count state = rw (is.unit, is.second, is.fraction) refl
-  rest_timed d style from.Rfc3339 state = rw (is.unit, is.second, is.fraction) refl
+  rest_timed d style (from.Text form) state = rw (is.unit, is.second, is.fraction) refl
   rest_timed d style (from.Local choice) state = rw (count_back, state_timed d style state) refl
 
 module _ (piece : Piece) (given : Record) (answer : Answer) (is : IsShownRow piece given answer) where

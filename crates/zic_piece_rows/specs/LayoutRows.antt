@@ -9,7 +9,7 @@ use Rattle.zic_base.specs.Check.{Check, first_failed}
 use Rattle.zic_base.specs.State.{Shown}
 use Rattle.zic_tzif.specs.Answer.{Answers}
 use Rattle.zic_row_text.specs.Count.{count_of, counted_rest_text, fraction_of, local_count_text, second_of, units_of_second}
-use Rattle.zic_row_text.specs.DateTime.{local_count_of, rfc3339_count_of}
+use Rattle.zic_row_text.specs.DateTime.{local_count_of, text_count_of}
 use Rattle.zic_row_text.specs.Row.{state_text}
 use Rattle.zic_local.specs.declared.local_time.Unresolved.{Unresolved}
 use Rattle.zic_local.specs.declared.local_time.Unresolved.TheVariants as unresolved
@@ -40,10 +40,10 @@ use Rattle.zic_zones.specs.Zones.{field_at, is_named, number_of, zone_in}
 use Rattle.zic_zones.specs.declared.zones.Releases.{Releases}
 use Rattle.zic_piece_rows.specs.Rows.{is_closed, is_row_instant, row_checks}
 
--- the count that a field has: of an instant, in decimals or as a date and a time of day with a UT offset, or of a local time
+-- the count that a field has: of an instant, in decimals or as a text, or of a local time
 abbrev pub count_by : TimeFrom → Unit → List ℕ → Option ℤ
 count_by from.Count u field = count_of u field
-count_by from.Rfc3339 u field = rfc3339_count_of u field
+count_by (from.Text form) u field = text_count_of form u field
 count_by (from.Local choice) u field = local_count_of u field
 
 -- the count that the field of the instant has, or of the local time
@@ -53,7 +53,7 @@ count_in layout fields = count_by layout.from layout.unit (field_at fields layou
 -- the fault of a field that has none
 abbrev pub missing : TimeFrom → RowKind
 missing from.Count = kind.RowInstant
-missing from.Rfc3339 = kind.RowInstant
+missing (from.Text form) = kind.RowInstant
 missing (from.Local choice) = kind.RowLocal
 
 -- The count of the instant that is meant by a local time, with its fraction of a second, or the fault of a row that means none: in a gap, or in
@@ -67,7 +67,7 @@ moved u local (Err unresolved.Unspecified) = Err kind.RowSkipped
 -- the count of the instant that a count in a field means: itself, or what it means as local time of the file's clocks
 abbrev pub instant_by : TimeFrom → Unit → File → ℤ → Result ℤ RowKind
 instant_by from.Count u file count = Ok count
-instant_by from.Rfc3339 u file count = Ok count
+instant_by (from.Text form) u file count = Ok count
 instant_by (from.Local choice) u file local = moved u local (resolved file.image.octets (second_of u local) choice)
 
 -- the file with this number, and the file of a name, where there is one
@@ -123,7 +123,7 @@ fault_by layout files most number row_record = first_failed (checks_by layout fi
 -- the text of the count in a field: its decimals, or the local time
 abbrev pub input_text : TimeFrom → Unit → ℤ → List ℕ
 input_text from.Count u count = signed_decimal count
-input_text from.Rfc3339 u count = signed_decimal count
+input_text (from.Text form) u count = signed_decimal count
 input_text (from.Local choice) u local = local_count_text u local
 
 -- what a row begins with: the name, the delimiter and that text, or the record's own bytes
@@ -143,12 +143,11 @@ state_after delimiter styles.Iso u count state = counted_rest_text delimiter sty
 -- what follows: the local time of an instant, or the instant of a local time, and the state, each field after a delimiter
 abbrev pub rest_by : ℕ → Style → TimeFrom → Unit → ℤ → Shown → List ℕ
 rest_by delimiter style from.Count u count state = counted_rest_text delimiter style u count state
-rest_by delimiter style from.Rfc3339 u count state = counted_rest_text delimiter style u count state
+rest_by delimiter style (from.Text form) u count state = counted_rest_text delimiter style u count state
 rest_by delimiter style (from.Local choice) u count state = delimiter ∷ (signed_decimal count ++ state_after delimiter style u count state)
 
--- The text of a record's row: what rows begin with, and the state that the file of the zone's name answers at the whole second of the
--- instant's count. No name of a file and no field that a row adds to a record has the delimiter.
-pub record IsTextBy (layout : Layout) (files : List File) (row_record : CsvRecord) (text : List ℕ) : Type 0 where
+-- Files answer a record: the one of its zone's name shows a state at the whole second of the instant's count.
+pub record HasAnswer (layout : Layout) (files : List File) (row_record : CsvRecord) : Type 0 where
   pub file : File
   pub among : Contains files file
   pub named : file.name ≡ zone_in layout.zone row_record.fields
@@ -158,14 +157,19 @@ pub record IsTextBy (layout : Layout) (files : List File) (row_record : CsvRecor
   pub means : instant_by layout.from layout.unit file input ≡ Ok count
   pub state : Shown
   pub answers : Answers file.image.content (second_of layout.unit count) (Some state)
-  pub is : text ≡ start_text layout row_record.own file.name input ++ rest_by layout.delimiter layout.style layout.from layout.unit count state
+
+-- The text of a record's row: what rows begin with, and what files answer. No name of a file and no field that a row adds to a record has the
+-- delimiter.
+pub record IsTextBy (layout : Layout) (files : List File) (row_record : CsvRecord) (text : List ℕ) : Type 0 where
+  pub has : HasAnswer layout files row_record
+  pub is : text ≡ start_text layout row_record.own has.file.name has.input ++ rest_by layout.delimiter layout.style layout.from layout.unit has.count has.state
 
 -- how many fields a file answers: local time or instant, offset, flag and abbreviation; in one field local time and offset, which follow the
 -- instant of a local time
 abbrev pub answered : Style → TimeFrom → ℕ
 answered styles.Fields time = 4
 answered styles.Iso from.Count = 3
-answered styles.Iso from.Rfc3339 = 3
+answered styles.Iso (from.Text form) = 3
 answered styles.Iso (from.Local choice) = 4
 
 -- these fields without text, and the end of a row
@@ -230,19 +234,10 @@ IsRowAt layout files (Some kind) row_record text = text ≡ faulty_text layout k
 abbrev pub IsRowBy : Layout → List File → ℕ → ℕ → CsvRecord → List ℕ → Type 0
 IsRowBy layout files most number row_record text = IsRowAt layout files (fault_by layout files most number row_record) row_record text
 
--- What files answer a record: all that its row has after its beginning. It shows the state that the file of the zone's name answers at the
--- whole second of the instant's count.
+-- what files answer a record, as its row has it after its beginning
 pub record IsAnswerBy (layout : Layout) (files : List File) (row_record : CsvRecord) (answer : List ℕ) : Type 0 where
-  pub file : File
-  pub among : Contains files file
-  pub named : file.name ≡ zone_in layout.zone row_record.fields
-  pub input : ℤ
-  pub says : count_in layout row_record.fields ≡ Some input
-  pub count : ℤ
-  pub means : instant_by layout.from layout.unit file input ≡ Ok count
-  pub state : Shown
-  pub answers : Answers file.image.content (second_of layout.unit count) (Some state)
-  pub is : answer ≡ rest_by layout.delimiter layout.style layout.from layout.unit count state
+  pub has : HasAnswer layout files row_record
+  pub is : answer ≡ rest_by layout.delimiter layout.style layout.from layout.unit has.count has.state
 
 -- what files answer a record that has this fault as a row, or none
 abbrev pub IsAnswerAt : Layout → List File → Option RowKind → CsvRecord → List ℕ → Type 0

@@ -282,7 +282,7 @@ fn instant_of(piece: &Piece<'_, '_>, file: usize, time: RowTime) -> Option<RowTi
     ensures { IfSome result (IsInstantOf piece.now file time) }
 {
     match piece.layout.from {
-        TimeFrom::Count | TimeFrom::Rfc3339 => Some(time),
+        TimeFrom::Count | TimeFrom::Text(_) => Some(time),
         TimeFrom::Local(_) => only_instant(piece.zones, file, time),
     }
 }

@@ -97,7 +97,7 @@ pub(crate) fn answered(style: Style, from: TimeFrom) -> usize
     ensures { result ≡ answered style from }
 {
     match (style, from) {
-        (Style::Iso, TimeFrom::Count | TimeFrom::Rfc3339) => 3,
+        (Style::Iso, TimeFrom::Count | TimeFrom::Text(_)) => 3,
         (Style::Iso, TimeFrom::Local(_)) | (Style::Fields, _) => 4,
     }
 }

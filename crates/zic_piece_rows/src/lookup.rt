@@ -16,8 +16,8 @@ use zic_columns::Record;
 use zic_layouts::{Disambiguation, TimeFrom, Unit};
 use zic_local::Unresolved;
 use zic_row_text::{
-    FIRST_INSTANT, LAST_INSTANT, count_from, moment_of, parse_count, parse_local_time,
-    parse_rfc3339,
+    FIRST_INSTANT, LAST_INSTANT, count_from, moment_of, parse_count, parse_instant_text,
+    parse_local_time,
 };
 
 /// The counts of a record: `input` is the one in its field, of an instant or of a local time, and `count`
@@ -52,7 +52,7 @@ pub(crate) fn read_input(
     let unit = piece.layout.unit;
     Ok(match piece.layout.from {
         TimeFrom::Count => parse_count(&text, unit),
-        TimeFrom::Rfc3339 => parse_rfc3339(&text, unit),
+        TimeFrom::Text(form) => parse_instant_text(&text, form, unit),
         TimeFrom::Local(_) => parse_local_time(&text, unit),
     })
 }
@@ -87,7 +87,7 @@ fn missing(from: TimeFrom) -> RowKind
     ensures { result ≡ missing from }
 {
     match from {
-        TimeFrom::Count | TimeFrom::Rfc3339 => RowKind::RowInstant,
+        TimeFrom::Count | TimeFrom::Text(_) => RowKind::RowInstant,
         TimeFrom::Local(_) => RowKind::RowLocal,
     }
 }

@@ -33,7 +33,7 @@ pub(crate) fn input_of(layout: &Layout, time: RowTime) -> Input
 {
     match layout.from {
         TimeFrom::Count => Input::Field,
-        TimeFrom::Rfc3339 | TimeFrom::Local(_) => {
+        TimeFrom::Text(_) | TimeFrom::Local(_) => {
             Input::Count(count_from(time.second, time.fraction, time.unit))
         }
     }

@@ -13,7 +13,7 @@ use crate::lookup::is_in_range;
 use crate::piece::Piece;
 use zic_columns::{BATCH, Field, Record, Span};
 use zic_layouts::{TimeFrom, Unit};
-use zic_row_text::{RowTime, parse_local_time, parse_rfc3339, quick_time};
+use zic_row_text::{RowTime, parse_instant_text, parse_local_time, quick_time};
 
 /// The second of a time that isn't known. No row may have it.
 pub(crate) const NO_TIME: i64 = i64::MIN;
@@ -65,7 +65,7 @@ fn read_time(piece: &Piece<'_, '_>, given: &Record) -> RowTime
     };
     match piece.layout.from {
         TimeFrom::Count => read_plain(piece, piece.layout.unit, span),
-        TimeFrom::Rfc3339 | TimeFrom::Local(_) => read_date(piece, given, span),
+        TimeFrom::Text(_) | TimeFrom::Local(_) => read_date(piece, given, span),
     }
 }
 
@@ -86,7 +86,7 @@ pub(crate) fn read_plain(piece: &Piece<'_, '_>, unit: Unit, span: Span) -> RowTi
     }
 }
 
-/// Reads a date with a time of day, or a local time, which stands there in a record's field.
+/// Reads the text of an instant, or a local time, which stands there in a record's field.
 #[inline(never)]
 fn read_date(piece: &Piece<'_, '_>, given: &Record, span: Span) -> RowTime
     requires split { IsGiven piece.now given.now }
@@ -101,7 +101,7 @@ fn read_date(piece: &Piece<'_, '_>, given: &Record, span: Span) -> RowTime
     }
 }
 
-/// Returns the count of a date or a local time, which stands there in a record's field.
+/// Returns the count of the text of an instant, or of a local time, which stands there in a record's field.
 fn date_count(piece: &Piece<'_, '_>, given: &Record, span: Span) -> Option<i128>
     requires split { IsGiven piece.now given.now }
     requires from { piece.now.layout.now.from ≢ from.Count }
@@ -112,7 +112,7 @@ fn date_count(piece: &Piece<'_, '_>, given: &Record, span: Span) -> Option<i128>
     let text = span.of(piece.bytes);
     match piece.layout.from {
         TimeFrom::Local(_) => parse_local_time(text, piece.layout.unit),
-        TimeFrom::Rfc3339 => parse_rfc3339(text, piece.layout.unit),
+        TimeFrom::Text(form) => parse_instant_text(text, form, piece.layout.unit),
         TimeFrom::Count => None,
     }
 }

@@ -13,3 +13,10 @@ pub mod ClockTexts
 pub mod DateTimes
 pub mod LocalTimes
 pub mod IsoTexts
+pub mod LastSigns
+pub mod ReadDigits
+pub mod ReadFractions
+pub mod ReadDates
+pub mod ReadOffsets
+pub mod OffsetPlaces
+pub mod ReadBack

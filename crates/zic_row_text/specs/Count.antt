@@ -1,6 +1,7 @@
 -- The instant of a row as a count of units, perhaps parts of a second, from 1970-01-01T00:00:00 UT, without leap seconds: own choice.
-use Rattle.std.specs.Prelude.{ℕ, ◌+◌, ◌/◌, ◌%◌, ℤ, pos, unsigned_abs, List, [], ◌∷◌, ◌++◌, Option}
+use Rattle.std.specs.Prelude.{ℕ, ◌+◌, ◌*◌, ◌/◌, ◌%◌, ◌^◌, ◌==◌, ◌&&◌, nat_le, ℤ, pos, unsigned_abs, List, [], ◌∷◌, ◌++◌, length, drop, Option, Some, None, if◌then◌else◌}
 use Rattle.std.specs.Int.{int_div_euclid, int_rem_euclid}
+use Rattle.std.specs.List.{before_first}
 use Rattle.std.specs.Fmt.{signed_decimal}
 use Rattle.zic_base.specs.Digits.{two_digits}
 use Rattle.zic_base.specs.Number.{number, signed}
@@ -10,6 +11,7 @@ use Rattle.zic_layouts.specs.declared.layout.Style.TheVariants as styles
 use Rattle.zic_layouts.specs.declared.layout.Unit.{Unit}
 use Rattle.zic_layouts.specs.declared.layout.Unit.TheVariants as unit
 use Rattle.zic_row_text.specs.declared.count.TheConstants.{MAX_DIGITS}
+use Rattle.zic_row_text.specs.declared.seconds.TheConstants.{MAX_FRACTION}
 use Rattle.zic_row_text.specs.Local.{local_time}
 use Rattle.zic_row_text.specs.Row.{civil_text, local_text, styled_text}
 
@@ -30,6 +32,29 @@ units_of_second unit.Nanosecond = 1_000_000_000
 -- the count of a field: a number of 1 to 18 digits and those of a fraction, perhaps after a `-`
 unfoldable pub count_of : Unit → List ℕ → Option ℤ
 count_of u field = signed (number (MAX_DIGITS + fraction_digits u)) field
+
+-- These parts of a second as units, if they are a whole number of units; the scale is how many parts a second has.
+abbrev pub whole_units : Unit → ℕ → Option ℕ → Option ℕ
+whole_units u scale None = None
+whole_units u scale (Some parts) = if parts * units_of_second u % scale == 0 then Some (parts * units_of_second u / scale) else None
+
+-- the units of a fraction of a second, as `.5` or `.500`: a point and 1 to 9 digits, or no text
+unfoldable pub fraction_in : Unit → List ℕ → Option ℕ
+fraction_in u [] = Some 0
+fraction_in u (point ∷ digits) = if (point == 46) && nat_le (length digits) MAX_FRACTION then whole_units u (10 ^ length digits) (number (length digits) digits) else None
+
+-- these seconds and units, as units
+abbrev pub size_from : Unit → Option ℕ → Option ℕ → Option ℕ
+size_from u (Some seconds) (Some n) = Some (seconds * units_of_second u + n)
+size_from u _ _ = None
+
+-- seconds of 1 to 18 digits, perhaps with a fraction, as units
+abbrev pub size_in : Unit → List ℕ → Option ℕ
+size_in u text = let whole : List ℕ = before_first (λ byte. byte == 46) text in size_from u (number MAX_DIGITS whole) (fraction_in u (drop (length whole) text))
+
+-- the count of a field of seconds, as `1173596399.25`, perhaps after a `-`
+unfoldable pub seconds_count_of : Unit → List ℕ → Option ℤ
+seconds_count_of u field = signed (size_in u) field
 
 -- the whole second of a count, rounded down, also before 1970
 abbrev pub second_of : Unit → ℤ → ℤ

@@ -1,6 +1,6 @@
 //! Instants as counts of units, perhaps parts of a second, and their limits.
 
-ghost use Rattle.std.specs.Prelude.{◌≡◌, ◌<◌, ◌*ℤ◌, ◌+ℤ◌, pos};
+ghost use Rattle.std.specs.Prelude.{◌≡◌, ◌<◌, ◌^◌, ◌*ℤ◌, ◌+ℤ◌, pos, unsigned_abs};
 ghost use Rattle.zic_row_text.specs.Count.{count_of, fraction_of, fraction_digits, second_of, three_digits, units_of_second};
 
 use crate::digits::number;
@@ -85,7 +85,8 @@ pub fn moment_of(count: i128, unit: Unit) -> Moment
 
 /// Returns the count of units from 1970 to this fraction after a whole second.
 pub fn count_from(second: i64, fraction: u32, unit: Unit) -> i128
-    ensures { result ≡ (second *ℤ pos (units_of_second unit)) +ℤ pos fraction }
+    ensures value { result ≡ (second *ℤ pos (units_of_second unit)) +ℤ pos fraction }
+    ensures near { unsigned_abs result < 2 ^ 100 }
 {
     let second = i128::from(second);
     let fraction = i128::from(fraction);

@@ -1,28 +1,47 @@
 //! Dates with a time of day in fields, as `2007-03-11T01:59:59`: RFC 3339, 5.6.
 
-ghost use Rattle.std.specs.Prelude.{◌≡◌, ◌/◌, ◌%◌, ◌<◌, ◌≤◌, ◌-ℤ◌, ◌^◌, drop, length, take, unsigned_abs, IfSome, ◌+ℤ◌, ◌*◌, pos};
+ghost use Rattle.std.specs.Prelude.{◌≡◌, IsTrue, ◌/◌, ◌%◌, ◌<◌, ◌≤◌, ◌^◌, drop, length, take, unsigned_abs, IfSome, ◌+ℤ◌, ◌-ℤ◌, ◌*ℤ◌, ◌*◌, pos};
+ghost use Rattle.std.specs.List.{before_last};
 ghost use Rattle.zic_row_text.specs.Count.{second_of, units_of_second};
-ghost use Rattle.zic_row_text.specs.DateTime.{civil_in, civil_second, fraction_in, has_marks, is_clock, is_date, second_in, local_count_of, offset_in, offset_place, offset_size, rfc3339_count_of};
+ghost use Rattle.zic_row_text.specs.DateTime.{civil_in, civil_second, clock_second, fraction_place, has_marks, is_clock, is_date, is_sign, second_in};
+ghost use Rattle.zic_row_text.specs.DateTime.{local_count_of, offset_from, offset_in, offset_place, offset_size, rfc3339_count_of, text_count_of};
 ghost use Rattle.zic_row_text.specs.Local.{IsLocalSecond};
 ghost use Rattle.zic_row_text.specs.code.Civils.{IsCivil};
-ghost use Rattle.zic_row_text.specs.Instant.{IsRowInstant, IsRowOffset};
 
-use crate::count::{DAY, DAYS, DAYS_TO_1970, count_from, fraction_digits};
+use crate::count::{DAY, DAYS, DAYS_TO_1970, count_from};
 use crate::digits::short_number;
+use crate::seconds::{parse_fraction, parse_seconds};
 use zic_calendar::{Civil, On, SECONDS_OF_DAY, day_of, days_in_month};
-use zic_layouts::Unit;
+use zic_layouts::{InstantText, Unit};
 
-/// The length of a date with a time of day, in bytes.
-const DATE_TIME: usize = 19;
+/// The length of a date with hours and minutes, in bytes.
+const TO_MINUTES: usize = 16;
+
+/// The length of a date with hours, minutes and seconds, in bytes.
+const TO_SECONDS: usize = 19;
+
+/// Returns the instant of a field of this form, as a count of units from 1970-01-01T00:00:00 UT:
+/// seconds, perhaps with a fraction; a local time as [`parse_local_time`] reads it, followed by a UT
+/// offset; or such a time in UT.
+pub fn parse_instant_text(field: &[u8], form: InstantText, unit: Unit) -> Option<i128>
+    ensures { result ≡ text_count_of form unit field.now }
+{
+    match form {
+        InstantText::Seconds => parse_seconds(field, unit),
+        InstantText::Rfc3339 => parse_rfc3339(field, unit),
+        InstantText::Utc => parse_local_time(field, unit),
+    }
+}
 
 /// Returns the local time of a field, as a count of units from 1970-01-01T00:00:00 on the clocks of
-/// the place: `YYYY-MM-DDThh:mm:ss`, with a `T` or a space between date and time of day, and perhaps
-/// a fraction of at most as many digits as one of these units has. RFC 3339, 5.6, without an offset.
-/// The years are 1 to 9999.
+/// the place: `YYYY-MM-DDThh:mm:ss`, with a `T`, a `t` or a space between date and time of day, and
+/// perhaps a fraction of at most 9 digits, or without the seconds. RFC 3339, 5.6, without an offset.
+/// The years are 1 to 9999. A fraction that isn't a whole number of units is no local time.
 #[tactic(auto, unfolding(crate::specs::DateTime::local_count_of))]
 pub fn parse_local_time(field: &[u8], unit: Unit) -> Option<i128>
     ensures value { result ≡ local_count_of unit field.now }
     ensures local { IfSome result (λ count. IsLocalSecond (second_of unit count)) }
+    ensures near { IfSome result (λ count. unsigned_abs count < 2 ^ 100) }
 {
     let (date_time, fraction) = split(field);
     let second = parse_second(date_time)?;
@@ -30,41 +49,53 @@ pub fn parse_local_time(field: &[u8], unit: Unit) -> Option<i128>
     Some(count_from(second, units, unit))
 }
 
-/// Returns the instant of a field as RFC 3339 writes it, as a count of units from
-/// 1970-01-01T00:00:00 UT: a local time as [`parse_local_time`] reads it, followed by `Z` or a UT
-/// offset such as `+02:00` or `-00:00`. RFC 3339, 5.6, without the second 60, the year 0, lower-case
-/// letters, and fractions finer than the unit.
+/// Returns the instant of a field that has a local time, as [`parse_local_time`] reads it, and then its
+/// UT offset: `Z`, `z`, or as `+02`, `+0200`, `+02:00`, `-00:00` or `-04:56:02`. RFC 3339, 5.6, without
+/// the second 60 and the year 0.
 #[tactic(auto, unfolding(crate::specs::DateTime::rfc3339_count_of))]
-pub fn parse_rfc3339(field: &[u8], unit: Unit) -> Option<i128>
+fn parse_rfc3339(field: &[u8], unit: Unit) -> Option<i128>
     ensures { result ≡ rfc3339_count_of unit field.now }
 {
     let (local, offset) = field.split_at(offset_place(field));
-    let (date_time, fraction) = split(local);
-    let second = parse_second(date_time)?;
+    let count = parse_local_time(local, unit)?;
     let offset = parse_offset(offset)?;
-    let units = parse_fraction(fraction, unit)?;
-    Some(count_from(less_offset(second, offset), units, unit))
+    Some(less_offset(count, offset, unit))
 }
 
-/// Splits a text into a date with a time of day and what follows it.
-fn split(text: &[u8]) -> (&[u8], &[u8])
-    ensures front { result.0.now ≡ take 19 text.now }
-    ensures back { result.1.now ≡ drop 19 text.now }
-{
-    text.split_at(DATE_TIME.min(text.len()))
-}
-
-/// Returns the second in UT of one of clocks with a UT offset.
-fn less_offset(second: i64, offset: i64) -> i64
-    requires second { unsigned_abs second < 2 ^ 40 }
+/// Returns a count of clocks with a UT offset in UT.
+fn less_offset(count: i128, offset: i64, unit: Unit) -> i128
+    requires count { unsigned_abs count < 2 ^ 100 }
     requires offset { unsigned_abs offset < 86_400 }
-    ensures value { result ≡ second -ℤ offset }
-    ensures near { unsigned_abs result < 2 ^ 41 }
+    ensures { result ≡ count -ℤ (offset *ℤ pos (units_of_second unit)) }
 {
-    second - offset
+    let offset = i128::from(offset);
+    match unit {
+        Unit::Second => count - offset,
+        Unit::Millisecond => count - offset * 1_000,
+        Unit::Microsecond => count - offset * 1_000_000,
+        Unit::Nanosecond => count - offset * 1_000_000_000,
+    }
 }
 
-/// Returns the second of a text of 19 bytes, from 1970-01-01T00:00:00 of the same clocks.
+/// Splits a local time into a date with a time of day and its fraction.
+fn split(text: &[u8]) -> (&[u8], &[u8])
+    ensures front { result.0.now ≡ take (fraction_place text.now) text.now }
+    ensures back { result.1.now ≡ drop (fraction_place text.now) text.now }
+{
+    text.split_at(fraction_place(text).min(text.len()))
+}
+
+/// Returns where the fraction of a local time begins, which follows its seconds.
+fn fraction_place(text: &[u8]) -> usize
+    ensures { result ≡ fraction_place text.now }
+{
+    match text.get(TO_MINUTES) {
+        Some(b':') => TO_SECONDS,
+        _ => text.len(),
+    }
+}
+
+/// Returns the second of a date with a time of day, from 1970-01-01T00:00:00 of the same clocks.
 fn parse_second(text: &[u8]) -> Option<i64>
     ensures value { result ≡ second_in text.now }
     ensures near { IfSome result (λ second. unsigned_abs second < 2 ^ 40) }
@@ -74,14 +105,18 @@ fn parse_second(text: &[u8]) -> Option<i64>
     Some(second_of(&civil))
 }
 
-/// Returns whether a byte stands between the numbers of a date with a time of day where one must.
+/// Returns whether a text is as long as a date with hours and minutes, and a byte stands between its
+/// numbers where one must.
 fn has_marks(text: &[u8]) -> bool
-    requires { length text.now ≡ 19 }
-    ensures { result ≡ has_marks text.now }
+    ensures value { result ≡ has_marks text.now }
+    ensures long { IsTrue result → 16 ≤ length text.now }
 {
+    if text.len() < TO_MINUTES {
+        return false;
+    }
     let date = text[4] == b'-' && text[7] == b'-';
-    let between = text[10] == b'T' || text[10] == b' ';
-    date && between && text[13] == b':' && text[16] == b':'
+    let between = text[10] == b'T' || text[10] == b't' || text[10] == b' ';
+    date && between && text[13] == b':'
 }
 
 /// Returns whether the date of a civil time is one of the calendar, from the year 1 on.
@@ -102,27 +137,41 @@ fn is_clock(civil: &Civil) -> bool
     civil.hour <= 23 && civil.minute <= 59 && civil.second <= 59
 }
 
-/// Returns the civil time of a text of 19 bytes.
+/// Returns the civil time of a text as `2007-03-11T01:59:59` or `2007-03-11T01:59`.
 #[tactic(auto, unfolding(crate::specs::DateTime::civil_in))]
 fn parse_civil(text: &[u8]) -> Option<Civil>
     ensures value { result ≡ civil_in text.now }
     ensures is { IfSome result IsCivil }
 {
-    if text.len() != DATE_TIME || !has_marks(text) {
+    if !has_marks(text) {
         return None;
     }
+    let (_, second) = text.split_at(TO_MINUTES);
     let civil = Civil {
         year: short_number(&text[0..4], 4)? as i64,
         month: short_number(&text[5..7], 2)? as u8,
         day: short_number(&text[8..10], 2)? as u8,
         hour: short_number(&text[11..13], 2)? as u8,
         minute: short_number(&text[14..16], 2)? as u8,
-        second: short_number(&text[17..19], 2)? as u8,
+        second: clock_second(second)? as u8,
     };
     if is_date(&civil) && is_clock(&civil) {
         return Some(civil);
     }
     None
+}
+
+/// Returns the second that follows hours and minutes: 0 where there is no text.
+#[tactic(auto, unfolding(crate::specs::DateTime::clock_second))]
+fn clock_second(text: &[u8]) -> Option<u64>
+    ensures value { result ≡ clock_second text.now }
+    ensures small { IfSome result (λ n. n < 100) }
+{
+    match text {
+        [] => Some(0),
+        [b':', digits @ ..] if digits.len() == 2 => short_number(digits, 2),
+        _ => None,
+    }
 }
 
 /// Returns the seconds of a civil time from 1970-01-01T00:00:00 of the same clocks.
@@ -137,35 +186,36 @@ fn second_of(civil: &Civil) -> i64
     SECONDS_OF_DAY * day + i64::from(clock)
 }
 
-/// Returns the units of a fraction of a second: none of an empty text.
-#[tactic(auto, unfolding(crate::specs::DateTime::fraction_in))]
-fn parse_fraction(text: &[u8], unit: Unit) -> Option<u32>
-    ensures value { result ≡ fraction_in unit text.now }
-    ensures below { IfSome result (λ n. n < units_of_second unit) }
-{
-    match text {
-        [] => Some(0),
-        [b'.', digits @ ..] => {
-            let most = fraction_digits(unit);
-            if digits.len() > most {
-                return None;
-            }
-            let n = short_number(digits, digits.len())?;
-            Some(n as u32 * 10u32.pow((most - digits.len()) as u32))
-        }
-        _ => None,
-    }
-}
-
-/// Returns where the UT offset of a field begins: at a `Z` that ends it, or six bytes before its end.
+/// Returns where the UT offset of a field begins: at a letter for UT that ends it, or at its last sign.
 fn offset_place(field: &[u8]) -> usize
     ensures value { result ≡ offset_place field.now }
     ensures within { result ≤ length field.now }
 {
     match field {
-        [.., b'Z'] => field.len() - 1,
-        _ => field.len().saturating_sub(6),
+        [.., b'Z' | b'z'] => field.len() - 1,
+        _ => last_sign(field),
     }
+}
+
+/// Returns where the last sign of a field stands, or 0 where it has none.
+fn last_sign(field: &[u8]) -> usize
+    ensures value { result ≡ length (before_last is_sign field.now) }
+    ensures within { result ≤ length field.now }
+{
+    for after in 0..field.len() {
+        let place = field.len() - 1 - after;
+        if is_sign(field[place]) {
+            return place;
+        }
+    }
+    0
+}
+
+/// Returns whether a byte is a sign of a UT offset.
+fn is_sign(byte: u8) -> bool
+    ensures { result ≡ is_sign byte }
+{
+    byte == b'+' || byte == b'-'
 }
 
 /// Returns the UT offset of a text, in seconds, positive east.
@@ -174,34 +224,55 @@ fn parse_offset(text: &[u8]) -> Option<i64>
     ensures value { result ≡ offset_in text.now }
     ensures near { IfSome result (λ offset. unsigned_abs offset < 86_400) }
 {
-    if text.len() == 1 && text[0] == b'Z' {
-        return Some(0);
+    match text {
+        [b'Z' | b'z'] => Some(0),
+        [b'+', size @ ..] => offset_size(size),
+        [b'-', size @ ..] => {
+            let west = offset_size(size)?;
+            Some(-west)
+        }
+        _ => None,
     }
-    if text.len() != 6 || text[3] != b':' {
-        return None;
-    }
-    if text[0] == b'+' {
-        return offset_size(text);
-    }
-    if text[0] != b'-' {
-        return None;
-    }
-    let west = offset_size(text)?;
-    Some(-west)
 }
 
-/// Returns the hours and minutes of a UT offset, as `+02:00`, in seconds.
+/// Returns the seconds of `02`, `0200`, `02:00` or `02:00:00`.
 fn offset_size(text: &[u8]) -> Option<i64>
-    requires { length text.now ≡ 6 }
     ensures value { result ≡ offset_size text.now }
     ensures near { IfSome result (λ offset. unsigned_abs offset < 86_400) }
 {
-    let hours = short_number(&text[1..3], 2)?;
-    let minutes = short_number(&text[4..6], 2)?;
-    if hours > 23 || minutes > 59 {
+    match text.len() {
+        2 => offset_from(short_number(text, 2), Some(0), Some(0)),
+        4 => offset_from(
+            short_number(&text[..2], 2),
+            short_number(&text[2..], 2),
+            Some(0),
+        ),
+        5 if text[2] == b':' => {
+            offset_from(
+                short_number(&text[..2], 2),
+                short_number(&text[3..], 2),
+                Some(0),
+            )
+        }
+        8 if text[2] == b':' && text[5] == b':' => offset_from(
+            short_number(&text[..2], 2),
+            short_number(&text[3..5], 2),
+            short_number(&text[6..], 2),
+        ),
+        _ => None,
+    }
+}
+
+/// Returns the seconds of these hours, minutes and seconds.
+fn offset_from(hours: Option<u64>, minutes: Option<u64>, seconds: Option<u64>) -> Option<i64>
+    ensures value { result ≡ offset_from hours minutes seconds }
+    ensures near { IfSome result (λ offset. unsigned_abs offset < 86_400) }
+{
+    let (hours, minutes, seconds) = (hours?, minutes?, seconds?);
+    if hours > 23 || minutes > 59 || seconds > 59 {
         return None;
     }
-    Some((hours * 3600 + minutes * 60) as i64)
+    Some((hours * 3600 + minutes * 60 + seconds) as i64)
 }
 
 /// A day, counted from 0001-01-01, and a second of it.

@@ -3,8 +3,9 @@
 //! # What is proved
 //!
 //! `parse_count` gives the count of a field in units, or nothing where it is none (`count_of`;
-//! `moment_of` its second, of which `count_from` makes it), `parse_rfc3339` that of a date with an
-//! offset, and `parse_local_time` that of a local time. `RowText` is a text with room
+//! `moment_of` its second, of which `count_from` makes it), `parse_instant_text` that of seconds with a
+//! fraction or of a date with an offset or in UT (`text_count_of`), and `parse_local_time` that of a
+//! local time. `RowText` is a text with room
 //! (`with_capacity`, `clear`, `push`, `push_field`, `into_bytes`) to which rows are written with a
 //! delimiter: `push_row` appends the start of a row and what follows its instant, `push_rest` that
 //! alone (`timed_rest_text`), whatever row was before, and `push_local_time` and `push_state` parts
@@ -21,6 +22,7 @@ pub mod laws;
 mod minutes;
 mod row_text;
 mod row_time;
+mod seconds;
 mod state_text;
 mod store;
 mod timed_rest;
@@ -30,7 +32,7 @@ pub use count::{
     FARTHEST_OFFSET, FIRST_INSTANT, LAST_INSTANT, MAX_DIGITS, Moment, count_from, moment_of,
     parse_count,
 };
-pub use date_time::{parse_local_time, parse_rfc3339};
+pub use date_time::{parse_instant_text, parse_local_time};
 pub use row_text::RowText;
 pub use row_time::{RowTime, quick_time};
 pub use state_text::StateText;

@@ -49,11 +49,13 @@ pub fn quick_time(bytes: &[u8], start: usize, end: usize, unit: Unit) -> Option<
     requires within { end ≤ length bytes.now }
     ensures { IfSome result (IsPlainTime unit (slice_range bytes.now start end)) }
 {
-    let time = time_from(bytes, start, end, unit);
-    if time.is_some() {
-        return time;
+    if let Some(time) = time_from(bytes, start, end, unit) {
+        return Some(time);
     }
-    early_time(&bytes[start..end], unit)
+    // The time is moved by parts: where the call's answer is returned as it stands, the time above goes
+    // through memory too.
+    let early = early_time(&bytes[start..end], unit)?;
+    Some(early)
 }
 
 /// Reads an instant from 1970 on.

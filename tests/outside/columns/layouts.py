@@ -8,9 +8,10 @@ FOLDER has the folder `ours` with our files of SOURCE, and `old.zi`, another sou
 links, near transitions and elsewhere, counted in the unit of the column, and in one of a hundred records quotes round each field, with
 delimiters and line ends within the fields that aren't read. With --keep-going one of fifty records has a fault, the first and the last
 among them, and --faults lists them, beside a second option with their lines and values; with --max-faults the run ends after 700. With
---against the rows are those that zoneinfo shows differently by `old`. With --from rfc3339 Python's datetime writes the instants, by
-UT offsets at random, with a T or a space and without the zeros that end fractions. Each option is tried alone and with each other one, by 1
-and 4 workers. Prints a line for each, and the first differences; the status is 1 if there is one.
+--against the rows are those that zoneinfo shows differently by `old`. With --from rfc3339 and utc Python's datetime writes the instants, by
+UT offsets at random in each form, or none, with a T, a t or a space, and some without seconds that are 0; with --from seconds decimal does.
+Their fractions are without the zeros that end them, or with more. Each option is tried alone and with each other one, by 1 and 4 workers.
+Prints a line for each, and the first differences; the status is 1 if there is one.
 """
 import csv
 import functools
@@ -21,6 +22,7 @@ import subprocess
 import sys
 from collections import namedtuple
 from datetime import datetime, timedelta
+from decimal import Decimal
 from zoneinfo import ZoneInfo
 
 import files
@@ -45,7 +47,9 @@ OPTIONS = {
     "ms": ["--unit", "ms"],
     "us": ["--unit", "us"],
     "ns": ["--unit", "ns"],
+    "seconds": ["--from", "seconds"],
     "rfc3339": ["--from", "rfc3339"],
+    "utc": ["--from", "utc"],
     "header": ["--header"],
     "iso": ["--style", "iso"],
     "append": ["--append"],
@@ -53,7 +57,8 @@ OPTIONS = {
     "going": ["--keep-going", "--faults", "FILE"],
     "space": ["--delimiter", " "],
 }
-TOGETHER = [("delimiter", "semicolon"), ("delimiter", "space"), ("semicolon", "space"), ("ms", "us"), ("ms", "ns"), ("us", "ns")]      # that are one option
+ONE = [("delimiter", "semicolon", "space"), ("ms", "us", "ns"), ("seconds", "rfc3339", "utc")]                    # each the same option
+TOGETHER = [pair for words in ONE for pair in itertools.combinations(words, 2)]
 
 
 # ------------------------------------------------------------------ a column
@@ -68,15 +73,44 @@ def moments_of(folder, names):
         yield name, min(max(second, FIRST), LAST), random.randrange(10 ** 9)
 
 
+def fraction_of(number, fraction):
+    """a fraction of a second: as it is, without the zeros that end it, or with more of them"""
+    fraction = [fraction.rstrip("0"), fraction.ljust(9, "0"), fraction][number % 3]
+    return "." + fraction if fraction else ""
+
+
+def clock_of(number, second, fraction, delimiter):
+    """a date and a time of day, of which some have no seconds where these are 0"""
+    moment, fraction = datetime(1970, 1, 1) + timedelta(seconds=second), fraction_of(number, fraction)
+    between = " " if number % 4 == 0 and (delimiter != " " or number % 100 == 0) else "t" if number % 4 == 1 else "T"
+    is_short = moment.second == 0 and not fraction and number % 2
+    return moment.isoformat(between, "minutes" if is_short else "seconds") + fraction
+
+
+def offset_of(number, offset):
+    """a UT offset in one of the forms that can have it"""
+    sign = "-" if offset == 0 and number % 2 or offset < 0 else "+"
+    hours, minutes, seconds = abs(offset) // 3600, abs(offset) // 60 % 60, abs(offset) % 60
+    forms = [f"{hours:02}:{minutes:02}:{seconds:02}"]
+    if not seconds:
+        forms += [f"{hours:02}:{minutes:02}", f"{hours:02}{minutes:02}"]
+    if not seconds and not minutes:
+        forms.append(f"{hours:02}")
+    return sign + random.choice(forms)
+
+
 def written(number, second, fraction, delimiter):
-    """an instant as RFC 3339 writes it"""
-    offset = random.choice([None, 0, random.randint(-1439, 1439)])
-    local = datetime(1970, 1, 1) + timedelta(seconds=second, minutes=offset or 0)
-    between = " " if number % 4 == 0 and (delimiter != " " or number % 100 == 0) else "T"
-    sign = "-" if offset == 0 and number % 2 or (offset or 0) < 0 else "+"
-    zone = "Z" if offset is None else f"{sign}{abs(offset) // 60:02}:{abs(offset) % 60:02}"
-    fraction = fraction if number % 3 else fraction.rstrip("0")
-    return local.isoformat(between) + ("." + fraction if fraction else "") + zone
+    """an instant as RFC 3339 and others write it"""
+    minutes, hours = random.randint(-1439, 1439), random.randint(-23, 23)
+    offset = random.choice([None, 0, 60 * minutes, 3600 * hours, random.randint(-86399, 86399)])
+    zone = "zZ"[number % 2] if offset is None else offset_of(number, offset)
+    return clock_of(number, second + (offset or 0), fraction, delimiter) + zone
+
+
+def seconds_of(number, count, digits):
+    """a count of parts of a second, as seconds with a fraction"""
+    whole, _, fraction = f"{Decimal(count).scaleb(-digits):f}".partition(".")
+    return whole + fraction_of(number, fraction)
 
 
 def text_of(pairs, chosen, delimiter):
@@ -126,10 +160,13 @@ def column_of(moments, chosen):
     digits = max([UNITS.get(option, 0) for option in chosen], default=0)
     counts = [(name, second * 10 ** digits + nano // 10 ** (9 - digits)) for name, second, nano in moments]
     instants = [str(count) for _, count in counts]
-    if "rfc3339" in chosen:
-        instants = [written(number, second, f"{nano:09}"[:digits], delimiter) for number, (_, second, nano) in enumerate(moments)]
+    if "seconds" in chosen:
+        instants = [seconds_of(number, count, digits) for number, (_, count) in enumerate(counts)]
+    elif {"rfc3339", "utc"} & {*chosen}:
+        write = written if "rfc3339" in chosen else clock_of
+        instants = [write(number, second, f"{nano:09}"[:digits], delimiter) for number, (_, second, nano) in enumerate(moments)]
     text, starts, lines = text_of([(name, instant) for (name, _), instant in zip(counts, instants)], chosen, delimiter)
-    values = {"0": 0} if "rfc3339" not in chosen else {}
+    values = {} if {"rfc3339", "utc"} & {*chosen} else {"0": 0}
     values |= dict(zip(instants, (count for _, count in counts)))
     return Column(chosen, delimiter, digits, text, starts, list(records_of(text, chosen, delimiter)), lines, values)
 

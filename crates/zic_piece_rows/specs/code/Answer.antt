@@ -77,7 +77,7 @@ pub record IsOnlyInstant (files : List File) (file : ℕ) (local time : RowTime)
 -- the instant that is meant by the time in a field: itself, or what a local time means
 abbrev pub IsInstantFrom : TimeFrom → List File → ℕ → RowTime → RowTime → Type 0
 IsInstantFrom from.Count files file time instant = instant ≡ time
-IsInstantFrom from.Rfc3339 files file time instant = instant ≡ time
+IsInstantFrom (from.Text form) files file time instant = instant ≡ time
 IsInstantFrom (from.Local choice) files file time instant = IsOnlyInstant files file time instant
 
 abbrev pub IsInstantOf : Piece → ℕ → RowTime → RowTime → Type 0

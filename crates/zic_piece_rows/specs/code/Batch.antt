@@ -81,7 +81,7 @@ IsLocal time = (choice : Disambiguation) × (time ≡ from.Local choice)
 -- a count of a layout's fields, which is in the years 1 to 9999 where it is one of local time
 abbrev pub IsCountFor : TimeFrom → Unit → ℤ → Type 0
 IsCountFor from.Count u count = Prim.Unit {0}
-IsCountFor from.Rfc3339 u count = Prim.Unit {0}
+IsCountFor (from.Text form) u count = Prim.Unit {0}
 IsCountFor (from.Local choice) u count = IsLocalSecond (second_of u count)
 
 -- the field of a record's time has no double quotes, where a row has that as it is

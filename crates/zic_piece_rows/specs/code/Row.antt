@@ -35,13 +35,13 @@ local_rest delimiter style time state = delimiter ∷ (signed_decimal (time_coun
 -- what follows in a row, by the time of its instant
 abbrev pub rest_at : ℕ → Style → TimeFrom → RowTime → Shown → List ℕ
 rest_at delimiter style from.Count time state = timed_rest_text delimiter style time.unit time.second time.fraction state
-rest_at delimiter style from.Rfc3339 time state = timed_rest_text delimiter style time.unit time.second time.fraction state
+rest_at delimiter style (from.Text form) time state = timed_rest_text delimiter style time.unit time.second time.fraction state
 rest_at delimiter style (from.Local choice) time state = local_rest delimiter style time state
 
 -- what a row has of the time in the field of its record: the field as it is, where that has decimals, or else the time's count
 abbrev pub input_of : TimeFrom → RowTime → Input
 input_of from.Count time = given_by.Field
-input_of from.Rfc3339 time = given_by.Count (time_count time)
+input_of (from.Text form) time = given_by.Count (time_count time)
 input_of (from.Local choice) time = given_by.Count (time_count time)
 
 -- the files of a release, and those of another, if there is one

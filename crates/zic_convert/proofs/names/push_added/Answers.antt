@@ -1,7 +1,8 @@
 use Rattle.std.proofs.Common.{◌≡◌, ◌∙◌, ◌++◌, ◌∷◌, ℕ, List, append_assoc, map, ap, sym}
 use Rattle.std.specs.Prelude.{codes}
 use Rattle.std.proofs.lemmas.Grind.{flat_map-append}
-use Rattle.std.proofs.lemmas.List.{map-id}
+use Rattle.std.proofs.lemmas.List.{map-append}
+use Rattle.std.proofs.lemmas.Simd.{map-map}
 use Rattle.zic_convert.specs.Column.{added_names, delimited}
 use Rattle.zic_convert.proofs.names.push_added.Goals as goal
 
@@ -11,11 +12,16 @@ returns-in-Some-clause-items c =
     let d = layout.delimiter in
     let text = c.args.text.now.items in
     let names = added_names layout.style layout.from in
-    let old = map (λ (name : List ℕ). codes "old_" ++ name) names in
-    let first : c.push_names.new.text.items ≡ text ++ delimited d names =
-    rw (c.added_names-names.ensures.value, map-id names, c.byte-delimiter.ensures.byte) at c.push_names.ensures.items in
+    let begin : List ℕ → List ℕ = λ name. layout.prefix ++ name in
+    let of_old : List ℕ → List ℕ = λ name. codes "old_" ++ name in
+    let own = map begin names in
+    let old = map (λ (name : List ℕ). begin (of_old name)) names in
+    let first : c.push_names.new.text.items ≡ text ++ delimited d own =
+    rw (c.added_names-names.ensures.value, c.name_start.ensures.delimiter, c.name_start.ensures.prefix, c.name_start.ensures.release) at c.push_names.ensures.items in
     let then : c.push_names-in-Some.new.text.items ≡ c.push_names.new.text.items ++ delimited d old =
-    rw (c.added_names-names.ensures.value, c.byte-delimiter.ensures.byte) at c.push_names-in-Some.ensures.items in
+    rw (c.added_names-names.ensures.value, c.name_start-in-Some.ensures.delimiter, c.name_start-in-Some.ensures.prefix, c.name_start-in-Some.ensures.release) at c.push_names-in-Some.ensures.items in
+    let both : map begin (names ++ map of_old names) ≡ own ++ old = map-append begin names (map of_old names) ∙ ap (λ (l : List (List ℕ)). own ++ l) (map-map begin of_old names) in
+    let all : delimited d (map begin (names ++ map of_old names)) ≡ delimited d own ++ delimited d old =
+    ap (λ (l : List (List ℕ)). delimited d l) both ∙ flat_map-append (λ (name : List ℕ). d ∷ name) own old in
     rw c.in-Some.is
-    (then ∙ ap (λ (l : List ℕ). l ++ delimited d old) first ∙ append_assoc text (delimited d names) (delimited d old)
-    ∙ ap (λ (l : List ℕ). text ++ l) (sym (flat_map-append (λ (name : List ℕ). d ∷ name) names old)))
+    (then ∙ ap (λ (l : List ℕ). l ++ delimited d old) first ∙ append_assoc text (delimited d own) (delimited d old) ∙ ap (λ (l : List ℕ). text ++ l) (sym all))
