@@ -13,7 +13,7 @@ struct State {
     name: [u8; 17],
 }
 
-unsafe extern "C" {
+extern "C" {
     fn pzic_raw_zone_read(bytes: *const u8, length: usize, zone: *mut Handle, reason: *mut u32) -> i32;
     fn pzic_raw_zone_at(zone: *mut Handle, instant: i64, state: *mut State) -> i32;
     fn pzic_raw_free(zone: *mut Handle);
