@@ -24,9 +24,9 @@ pub const ROW_INSTANT_UNIT_MS: Expectation = Expectation {
 "#,
     cause: r#"  A date, which `--from rfc3339` takes with a time and a UT offset, and `utc`
   and `local` without one, a number with a fraction, which `--from seconds`
-  takes, or the two fields swapped. A leap second, `23:59:60`, is none. Or, in a
-  plain column, a stray double quote before the instant, which `--quotes strict`
-  finds.
+  takes, or the two fields swapped. A leap second, `23:59:60`, isn't accepted.
+  Or, in a plain column, a stray double quote before the instant, which
+  `--quotes strict` finds.
 "#,
 };
 
@@ -37,9 +37,9 @@ pub const ROW_INSTANT_UNIT_US: Expectation = Expectation {
 "#,
     cause: r#"  A date, which `--from rfc3339` takes with a time and a UT offset, and `utc`
   and `local` without one, a number with a fraction, which `--from seconds`
-  takes, or the two fields swapped. A leap second, `23:59:60`, is none. Or, in a
-  plain column, a stray double quote before the instant, which `--quotes strict`
-  finds.
+  takes, or the two fields swapped. A leap second, `23:59:60`, isn't accepted.
+  Or, in a plain column, a stray double quote before the instant, which
+  `--quotes strict` finds.
 "#,
 };
 
@@ -50,9 +50,9 @@ pub const ROW_INSTANT_UNIT_NS: Expectation = Expectation {
 "#,
     cause: r#"  A date, which `--from rfc3339` takes with a time and a UT offset, and `utc`
   and `local` without one, a number with a fraction, which `--from seconds`
-  takes, or the two fields swapped. A leap second, `23:59:60`, is none. Or, in a
-  plain column, a stray double quote before the instant, which `--quotes strict`
-  finds.
+  takes, or the two fields swapped. A leap second, `23:59:60`, isn't accepted.
+  Or, in a plain column, a stray double quote before the instant, which
+  `--quotes strict` finds.
 "#,
 };
 
@@ -73,7 +73,7 @@ pub const ROW_INSTANT_FROM_RFC3339: Expectation = Expectation {
 "#,
     cause: r#"  A time without a UT offset, which `--from utc` and `local` take, a date
   without a time, a count of seconds, or the two fields swapped. A leap second,
-  `23:59:60`, is none.
+  `23:59:60`, isn't accepted.
 "#,
 };
 

@@ -145,9 +145,9 @@ const GROUP_1: [Entry; 6] = [
         right: "  $ echo 'Etc/UTC,1970-01-01T00:00:00Z' | pzic convert --from rfc3339 utc.zi\n",
         cause: r#"  A date, which `--from rfc3339` takes with a time and a UT offset, and `utc`
   and `local` without one, a number with a fraction, which `--from seconds`
-  takes, or the two fields swapped. A leap second, `23:59:60`, is none. Or, in a
-  plain column, a stray double quote before the instant, which `--quotes strict`
-  finds.
+  takes, or the two fields swapped. A leap second, `23:59:60`, isn't accepted.
+  Or, in a plain column, a stray double quote before the instant, which
+  `--quotes strict` finds.
 "#,
     },
     Entry {
