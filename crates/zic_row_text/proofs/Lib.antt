@@ -2,6 +2,7 @@ pub mod Powers
 pub mod Lanes
 pub mod Stores
 pub mod DigitPairs
+pub mod PairNumbers
 pub mod LocalTime
 pub mod PlainInstants
 pub mod RowTexts
@@ -10,7 +11,6 @@ pub mod PlainTimes
 pub mod MarchDates
 pub mod DayTexts
 pub mod ClockTexts
-pub mod DateTimes
 pub mod LocalTimes
 pub mod IsoTexts
 pub mod LastSigns
@@ -20,3 +20,4 @@ pub mod ReadDates
 pub mod ReadOffsets
 pub mod OffsetPlaces
 pub mod ReadBack
+pub mod UsualOffsets

@@ -26,7 +26,7 @@ before_sign xs sign ys is none =
     ap (λ (n : ℕ). take n field) place ∙ take-append_seam xs (sign ∷ ys)
 
 -- where a field ends in no letter for UT, the offset begins at that sign
-at_sign : (xs : List ℕ) (sign : ℕ) (ys : List ℕ) → is_sign sign ≡ true → list_all (λ byte. not (is_sign byte)) ys ≡ true → is_zulu (get_or (sign ∷ ys) (length ys) 0) ≡ false
+pub at_sign : (xs : List ℕ) (sign : ℕ) (ys : List ℕ) → is_sign sign ≡ true → list_all (λ byte. not (is_sign byte)) ys ≡ true → is_zulu (get_or (sign ∷ ys) (length ys) 0) ≡ false
     → offset_place (xs ++ sign ∷ ys) ≡ length xs
 at_sign xs sign ys is none end =
     let field = xs ++ sign ∷ ys in

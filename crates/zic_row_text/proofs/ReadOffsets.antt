@@ -10,7 +10,7 @@ use Rattle.zic_row_text.specs.Row.{iso_offset_text}
 use Rattle.zic_row_text.proofs.ReadDigits.{two_read}
 
 -- a UT offset of these hours, minutes and seconds
-clock_size : (h m s n : ℕ) → h ≤ 23 → m ≤ 59 → s ≤ 59 → h * 3600 + m * 60 + s ≡ n → offset_from (Some h) (Some m) (Some s) ≡ Some (pos n)
+pub clock_size : (h m s n : ℕ) → h ≤ 23 → m ≤ 59 → s ≤ 59 → h * 3600 + m * 60 + s ≡ n → offset_from (Some h) (Some m) (Some s) ≡ Some (pos n)
 clock_size h m s n hours minutes seconds same = rw (le-leb h 23 hours, le-leb m 59 minutes, le-leb s 59 seconds) (ap (λ (k : ℕ). Some (pos k)) same)
 
 -- what follows the sign, of fewer than 24 hours

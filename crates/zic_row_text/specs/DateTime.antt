@@ -1,6 +1,6 @@
 -- Dates with a time of day in fields, as `2007-03-11T01:59:59`: RFC 3339, 5.6, and ISO 8601. Own choices: the years are 1 to 9999; a space may
 -- stand for the `T`; the seconds may be missing, and then a fraction too; an offset may be as `+02`, `+0200` or `+02:00:00`; the hour 24, the
--- second 60 and a comma before a fraction are none; and a fraction has at most 9 digits, and is a whole number of the units that are counted.
+-- second 60 and a comma before a fraction aren't accepted; and a fraction has at most 9 digits, and is a whole number of the units that are counted.
 use Rattle.std.specs.Prelude.{ℕ, ◌+◌, ◌-◌, ◌*◌, ◌==◌, ◌&&◌, ◌||◌, nat_le, int_le, ℤ, pos, neg_ℤ, ◌+ℤ◌, ◌-ℤ◌, ◌*ℤ◌, Bool, List, [], ◌∷◌, length, take, drop, slice_range, slice_index_or, Option, Some, None, option_map, if◌then◌else◌}
 use Rattle.std.specs.List.{before_last}
 use Rattle.zic_base.specs.Number.{number}

@@ -1,6 +1,6 @@
 //! Numbers in decimal digits, two by a table: for rows that is quicker than to divide by ten.
 
-ghost use Rattle.std.specs.Prelude.{◌≡◌, ◌+◌, ◌<◌, ◌≤◌, ◌++◌, ◌∷◌, [], length, take, ◌^◌, IfSome};
+ghost use Rattle.std.specs.Prelude.{◌≡◌, ◌+◌, ◌<◌, ◌≤◌, ◌++◌, ◌∷◌, [], length, slice_range, take, ◌^◌, IfSome};
 ghost use Rattle.zic_base.specs.Digits.{two_digits, clock_text};
 ghost use Rattle.zic_base.specs.Number.{number};
 
@@ -53,6 +53,34 @@ pub(crate) fn put_clock(text: &mut [u8], at: usize, second: u32)
     let minute = second / 60;
     put_8(text, at, minute_text(minute));
     put_8(text, at + 6, second_text(second - 60 * minute));
+}
+
+/// Returns the number that two bytes of a text spell in decimal digits.
+#[inline(always)]
+pub(crate) fn pair_at(text: &[u8], at: usize) -> Option<u8>
+    requires { at + 2 ≤ length text.now }
+    ensures value { result ≡ number 2 (slice_range text.now at (at + 2)) }
+    ensures fits { IfSome result (λ n. n < 100) }
+{
+    let tens = text[at];
+    let ones = text[at + 1];
+    if !tens.is_ascii_digit() || !ones.is_ascii_digit() {
+        return None;
+    }
+    Some(10 * (tens - b'0') + (ones - b'0'))
+}
+
+/// Returns the number that four bytes of a text spell in decimal digits.
+#[inline(always)]
+pub(crate) fn quad_at(text: &[u8], at: usize) -> Option<u16>
+    requires { at + 4 ≤ length text.now }
+    ensures value { result ≡ number 4 (slice_range text.now at (at + 4)) }
+    ensures fits { IfSome result (λ n. n < 10_000) }
+{
+    let (Some(first), Some(last)) = (pair_at(text, at), pair_at(text, at + 2)) else {
+        return None;
+    };
+    Some(100 * u16::from(first) + u16::from(last))
 }
 
 /// Returns the number that the text spells in decimal digits: at least one, and at most `most`.
