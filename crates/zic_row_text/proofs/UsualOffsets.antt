@@ -1,5 +1,5 @@
 -- UT offsets in the usual form, as `+02:00`, at the end of a field.
-use Rattle.std.proofs.Common.{◌≡◌, ◌∙◌, ◌≤◌, ℕ, ◌+◌, ◌-◌, ◌*◌, Bool, true, false, not, pos, neg_ℤ, List, [], ◌∷◌, ◌++◌, length, get_or, take, drop, ap, ap₂, arith, refl, sym, subst, Some}
+use Rattle.std.proofs.Common.{◌≡◌, ◌∙◌, ◌≤◌, ℕ, ◌+◌, ◌-◌, ◌*◌, Bool, true, false, pos, neg_ℤ, List, [], ◌∷◌, ◌++◌, length, get_or, take, drop, ap, ap₂, arith, refl, sym, Some}
 use Rattle.std.proofs.lemmas.Bool.Decides.{nat_tests}
 use Rattle.std.proofs.lemmas.List.{get_or-drop, length-drop, length-take-le, take-append-drop}
 use Rattle.std.proofs.lemmas.Option.{none-some}

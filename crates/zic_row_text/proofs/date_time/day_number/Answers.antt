@@ -1,7 +1,6 @@
 use Rattle.std.proofs.Common.{◌≡◌, arith}
 use Rattle.jiff_core.proofs.SignedLemmas.{signed_casts}
 use Rattle.zic_calendar.proofs.DateLemmas.{day_number-kit, supported_day}
-use Rattle.zic_calendar.specs.Calendar.{IsSupportedDay}
 use Rattle.zic_row_text.proofs.date_time.day_number.Goals as goal
 
 pub returns-clause-value : goal.returns-clause-value

@@ -1,4 +1,4 @@
-use Rattle.std.proofs.Common.{◌∙◌, ap, ap₂, sym}
+use Rattle.std.proofs.Common.{◌∙◌, ap₂, sym}
 use Rattle.zic_row_text.proofs.PairNumbers.{joined_numbers, quad_of}
 use Rattle.zic_row_text.proofs.digits.quad_at.Goals as goal
 
