@@ -12,7 +12,7 @@ use Rattle.zic_columns.specs.code.Block.{AreCounted, ArePassed, is_after_line, r
 use Rattle.zic_columns.specs.declared.blocks.Passed.{Passed}
 use Rattle.zic_columns.proofs.FirstFacts.{HasPassed, passed_all, passed_record}
 use Rattle.zic_columns.proofs.LineFacts.{later_records, later_records-end, later_records-nil, later_records-within, plain_records-end, plain_records-nil, plain_records-within}
-use Rattle.zic_columns.proofs.SomeRecords.{joined, plain_read, whole_both, whole_lines}
+use Rattle.zic_columns.proofs.SomeRecords.{column_records-nil, joined, plain_read, whole_both, whole_lines, whole_none}
 
 -- 1 where a record has begun and not ended, and else 0
 abbrev open_records : Bool → List ℕ → ℕ
@@ -122,6 +122,10 @@ module _ {d : ℕ} (can : CanDelimit d) where
         counted = ap (λ (b : List ℕ). length (column_records d b)) same ∙ lines_counted front lines rest plain cut ∙ sym are.counted;
         few = are.few;
       }
+
+  -- a record in double quotes begins there
+  pub none_passed : (bytes : List ℕ) (most : ℕ) → 0 < most → ArePassed d bytes most (record { len = 0; records = 0 })
+  none_passed bytes most some = record { within = omega arith; whole = whole_none d; counted = ap length (column_records-nil d); few = some }
 
   -- whole records were passed over
   pub passed_lines : (bytes : List ℕ) (count : ℕ) (rest : List ℕ) (most : ℕ) (passed : Passed) → HasPassed can bytes count rest → ArePassed d rest most passed
