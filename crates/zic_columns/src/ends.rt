@@ -17,7 +17,9 @@ const BLOCK: usize = 64;
 pub(crate) struct FieldEnds {
     /// Bit k is set if byte k of the last block is one that wasn't passed yet.
     mask: u64,
-    /// The index after that block.
+    /// The index of that block.
+    block: usize,
+    /// The index after it.
     seen: usize,
 }
 
@@ -38,19 +40,27 @@ impl FieldEnds {
     pub(crate) fn unknown(at: usize) -> FieldEnds
         ensures { (delimiter : ℕ) (bytes : List ℕ) → at ≤ length bytes → ShowsEnds delimiter bytes at result }
     {
-        FieldEnds { mask: 0, seen: at }
+        FieldEnds {
+            mask: 0,
+            block: at,
+            seen: at,
+        }
     }
 
-    /// Returns these field ends if one of them is known, or else those of the next block, if it has
-    /// any.
+    /// Returns the field ends of the next block, if none is known before it and it has any.
     #[inline(always)]
-    fn known(self, bytes: &[u8], at: usize, delimiter: Separator) -> Option<FieldEnds>
+    pub(crate) fn next_block(
+        self,
+        bytes: &[u8],
+        at: usize,
+        delimiter: Separator,
+    ) -> Option<FieldEnds>
         requires { ShowsEnds delimiter.byte bytes.now at self }
         ensures shows { IfSome result (ShowsEnds delimiter.byte bytes.now at) }
-        ensures some { IfSome result (λ ends. 0 < ends.mask) }
+        ensures seen { IfSome result (λ ends. self.seen < ends.seen) }
     {
         if self.mask != 0 {
-            return Some(self);
+            return None;
         }
         if bytes.len() - self.seen < BLOCK {
             return None;
@@ -60,7 +70,51 @@ impl FieldEnds {
             return None;
         }
         let seen = self.seen + BLOCK;
-        Some(FieldEnds { mask, seen })
+        Some(FieldEnds {
+            mask,
+            block: self.seen,
+            seen,
+        })
+    }
+
+    /// Returns these field ends if one of them is known, or else those of the next block, if it has
+    /// any.
+    #[inline(always)]
+    fn known(self, bytes: &[u8], at: usize, delimiter: Separator) -> Option<FieldEnds>
+        requires { ShowsEnds delimiter.byte bytes.now at self }
+        ensures { IfSome result (ShowsEnds delimiter.byte bytes.now at) }
+    {
+        if self.mask != 0 {
+            return Some(self);
+        }
+        self.next_block(bytes, at, delimiter)
+    }
+
+    /// Returns the index of the first delimiter or line end from an index on, if it is known, and passes
+    /// over it.
+    #[inline(always)]
+    pub(crate) fn known_end(
+        &mut self,
+        bytes: &[u8],
+        at: usize,
+        delimiter: Separator,
+    ) -> Option<usize>
+        requires { ShowsEnds delimiter.byte bytes.now at self.old }
+        ensures end { IfSome result (IsFieldEnd delimiter.byte bytes.now at) }
+        ensures within { IfSome result (λ stop. stop < length bytes.now) }
+        ensures shows { IfSome result (λ stop. ShowsEnds delimiter.byte bytes.now (stop + 1) self.new) }
+        ensures seen { self.new.seen ≡ self.old.seen }
+    {
+        let ends = *self;
+        if ends.mask == 0 {
+            return None;
+        }
+        *self = FieldEnds {
+            mask: ends.mask & (ends.mask - 1),
+            block: ends.block,
+            seen: ends.seen,
+        };
+        Some(ends.block + ends.mask.trailing_zeros() as usize)
     }
 
     /// Returns the index of the first delimiter or line end from an index on, and passes over it. Returns
@@ -77,11 +131,7 @@ impl FieldEnds {
         ensures within { IfSome result (λ stop. stop < length bytes.now) }
         ensures shows { IfSome result (λ stop. ShowsEnds delimiter.byte bytes.now (stop + 1) self.new) }
     {
-        let ends = self.known(bytes, at, delimiter)?;
-        *self = FieldEnds {
-            mask: ends.mask & (ends.mask - 1),
-            seen: ends.seen,
-        };
-        Some(ends.seen + ends.mask.trailing_zeros() as usize - BLOCK)
+        *self = self.known(bytes, at, delimiter)?;
+        self.known_end(bytes, at, delimiter)
     }
 }

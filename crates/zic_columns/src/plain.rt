@@ -1,6 +1,6 @@
 //! Records of a piece whose fields begin with no double quote.
 
-ghost use Rattle.std.specs.Prelude.{◌≡◌, ◌≢◌, ◌+◌, ◌^◌, ◌<◌, ◌≤◌, ◌∷◌, ◌++◌, [], ℕ, List, None, drop, length, IfSome, IsTrue, MatchResult};
+ghost use Rattle.std.specs.Prelude.{◌≡◌, ◌≢◌, ◌+◌, ◌^◌, ◌<◌, ◌≤◌, ◌∷◌, ◌++◌, [], ℕ, List, None, drop, length, IfErr, IfOk, IfSome, IsTrue, MatchResult};
 ghost use Rattle.zic_columns.specs.Record.{IsPairOf, IsWithin, bytes_at, pair_record};
 ghost use Rattle.zic_columns.specs.code.Ends.{ShowsEnds};
 ghost use Rattle.zic_columns.specs.code.Machine.{BeginsRecord};
@@ -246,12 +246,63 @@ fn no_fields(start: usize) -> PlainFields
     }
 }
 
-/// Splits the record that begins at an index, field by field.
+/// The first fields of a record, and the index at which the next one begins.
+#[derive(Clone, Copy, Drop)]
+struct Begun {
+    fields: PlainFields,
+    at: usize,
+}
+
+/// Splits the record that begins at `start`, of which some fields were read, as far as the ends of its
+/// fields are known.
+///
+/// # Errors
+///
+/// Returns the fields before the first that begins with a double quote, or whose end isn't known.
+#[inline(always)]
+fn known_fields(
+    piece: &[u8],
+    start: usize,
+    wanted: Wanted,
+    delimiter: Separator,
+    begun: Begun,
+    ends: &mut FieldEnds,
+) -> Result<Record, Begun>
+    requires begins { BeginsRecord (drop start piece.now) }
+    requires walked { HasWalked delimiter.byte piece.now start wanted (record_of start start begun.fields) begun.at }
+    requires shows { ShowsEnds delimiter.byte piece.now begun.at ends.old }
+    ensures seen { ends.new.seen ≡ ends.old.seen }
+    ensures read { IfOk result (IsPlainFrom delimiter.byte piece.now start wanted ends.new) }
+    ensures walked { IfErr result
+        (λ more. HasWalked delimiter.byte piece.now start wanted (record_of start start more.fields) more.at) }
+    ensures shows { IfErr result (λ more. ShowsEnds delimiter.byte piece.now more.at ends.new) }
+{
+    let mut fields = begun.fields;
+    let indices = indices_of(wanted);
+    let mut at = begun.at;
+    'known: loop {
+        let mut next = *ends;
+        let Some(end) = next.known_end(piece, at, delimiter) else {
+            return Err(Begun { fields, at });
+        };
+        if piece[at] == b'"' {
+            return Err(Begun { fields, at });
+        }
+        *ends = next;
+        fields = with_span(fields, Span { start: at, end }, indices);
+        if piece[end] != delimiter.byte {
+            return Ok(record_of(start, end, fields));
+        }
+        at = end + 1;
+    }
+}
+
+/// Splits the record that begins at an index, block by block.
 ///
 /// # Errors
 ///
 /// As [`split_plain`].
-#[inline(never)]
+#[inline(always)]
 fn split_fields(
     piece: &[u8],
     start: usize,
@@ -264,20 +315,22 @@ fn split_fields(
     ensures { MatchResult result (IsPlainFrom delimiter.byte piece.now start wanted ends.new)
         (λ begun. HasWalked delimiter.byte piece.now start wanted begun.given begun.at) }
 {
-    let mut fields = no_fields(start);
-    let indices = indices_of(wanted);
-    let mut at = start;
-    loop {
-        let Some(end) = ends.next_end(piece, at, delimiter) else {
-            return Err(begun_at(start, fields, at));
-        };
-        if piece[at] == b'"' {
-            return Err(begun_at(start, fields, at));
+    let fields = no_fields(start);
+    let mut begun = Begun { fields, at: start };
+    let mut next = *ends;
+    'reading: loop {
+        match known_fields(piece, start, wanted, delimiter, begun, &mut next) {
+            Ok(given) => {
+                *ends = next;
+                return Ok(given);
+            }
+            Err(more) => {
+                let Some(block) = next.next_block(piece, more.at, delimiter) else {
+                    return Err(begun_at(start, more.fields, more.at));
+                };
+                next = block;
+                begun = more;
+            }
         }
-        fields = with_span(fields, Span { start: at, end }, indices);
-        if piece[end] != delimiter.byte {
-            return Ok(record_of(start, end, fields));
-        }
-        at = end + 1;
     }
 }

@@ -1,6 +1,6 @@
 use Rattle.std.proofs.Common.{arith}
 use Rattle.zic_columns.proofs.EndsFacts.{shows_block}
-use Rattle.zic_columns.proofs.ends.FieldEnds.known.Goals as goal
+use Rattle.zic_columns.proofs.ends.FieldEnds.next_block.Goals as goal
 
 pub returns-clause-shows : goal.returns-clause-shows
 returns-clause-shows c =
