@@ -1,7 +1,7 @@
 pub mod Named
 pub mod Keys
 pub mod Held
-pub mod Numbered
+pub mod Keeping
 pub mod Slotted
 pub mod Once
 pub mod OneState

@@ -13,10 +13,10 @@ use Rattle.zic_zones.specs.declared.slot.TheConstants.{SLOTS}
 use Rattle.zic_zones.specs.declared.slot.Slot.{Slot}
 use Rattle.zic_tzif.specs.Content.{Content}
 use Rattle.zic_zones.proofs.Slots.{got_more}
-use Rattle.zic_zones.proofs.Numbered.{got_still, keeps_more, keeps_same}
+use Rattle.zic_zones.proofs.Keeping.{got_still, keeps_more, keeps_same}
 use Rattle.zic_zones.proofs.Slotted.{got_right}
 use Rattle.zic_zones.specs.code.Tables.{AreNumbersOfSlots, HasTable, HaveSlots, HaveTables, slot_of}
-use Rattle.zic_zones.specs.code.Texts.{Keeps}
+use Rattle.zic_zones.specs.code.Numbered.{Keeps}
 
 -- ---- numbers of slots
 

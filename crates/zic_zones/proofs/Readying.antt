@@ -22,14 +22,14 @@ use Rattle.zic_zones.specs.declared.slot.Slot.{Slot}
 use Rattle.zic_tzif.specs.Content.{Content}
 use Rattle.zic_zones.proofs.Held.{names_still}
 use Rattle.zic_zones.proofs.Slotted.{table_still}
-use Rattle.zic_zones.proofs.Numbered.{keeps_same, numbers_still}
+use Rattle.zic_zones.proofs.Keeping.{keeps_same, numbers_still}
 use Rattle.zic_zones.specs.code.Ready.{AnswersState, AreReady, HasIndex, IsReadyZone, IsTextOf}
 use Rattle.zic_zones.specs.code.NameKeys.{AreNamesOf}
 use Rattle.zic_zones.specs.code.Near.{AnswersNear, IsNumberNear}
 use Rattle.zic_zones.specs.code.Tables.{HasTexts}
 use Rattle.zic_zones.specs.States.{HasState}
 use Rattle.zic_zones.specs.Zones.{AnswersAt}
-use Rattle.zic_zones.specs.code.Texts.{IsText, Keeps}
+use Rattle.zic_zones.specs.code.Numbered.{IsValue, Keeps}
 use Rattle.zic_zones.specs.declared.ready.Ready.{Ready}
 use Rattle.zic_zones.specs.declared.ready.ReadyZone.{ReadyZone}
 
@@ -133,7 +133,7 @@ ready_added files old new zone content named pushed texts tables indexes lt is m
 }
 
 -- what a number says of the state of its text
-pub facts : (states : List Shown) (n : ℕ) (state : Shown) (holds : Shown → Type 0) → HasState states n holds → IsText states n state → holds state
+pub facts : (states : List Shown) (n : ℕ) (state : Shown) (holds : Shown → Type 0) → HasState states n holds → IsValue states n state → holds state
 facts states n state holds has is =
     let (other, got, it) = has is.0 in
     subst holds (same_Some other state (sym got ∙ is.1)) it

@@ -8,10 +8,11 @@ use Rattle.zic_zones.specs.declared.slot.Slot.{Slot}
 use Rattle.zic_tzif.proofs.States.{one_state}
 use Rattle.zic_tzif.specs.Answer.{Answers}
 use Rattle.zic_tzif.specs.Content.{Content}
-use Rattle.zic_zones.proofs.Numbered.{has_text_still}
+use Rattle.zic_zones.proofs.Keeping.{has_text_still}
+use Rattle.zic_zones.specs.code.Numbered.{Keeps}
 use Rattle.zic_zones.specs.code.Ready.{AnswersState}
 use Rattle.zic_zones.specs.code.Tables.{HasTable, IsTable}
-use Rattle.zic_zones.specs.code.Texts.{AreNumbersOf, Keeps}
+use Rattle.zic_zones.specs.code.Texts.{AreNumbersOf}
 
 -- an element of the second of two lists
 pub got_right : {X : Type 0} (xs ys : List X) (i : ℕ) → slice_get (xs ++ ys) (length xs + i) ≡ slice_get ys i

@@ -2,6 +2,7 @@
 pub mod Known
 pub mod NameKeys
 pub mod Near
+pub mod Numbered
 pub mod Ready
 pub mod Tables
 pub mod Texts

@@ -21,6 +21,7 @@
 
 pub mod laws;
 mod name_keys;
+mod numbered;
 mod ready;
 mod row_states;
 mod row_zones;

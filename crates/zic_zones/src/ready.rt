@@ -7,12 +7,13 @@ ghost use Rattle.zic_zones.specs.States.{HasState};
 ghost use Rattle.zic_zones.specs.Zones.{AnswersAt};
 ghost use Rattle.zic_zones.specs.code.Near.{AnswersNear};
 ghost use Rattle.zic_zones.specs.code.Ready.{AreReady, HasIndex, IsFileOf, IsReadyZone, IsTextOf};
-ghost use Rattle.zic_zones.specs.code.Texts.{Keeps};
+ghost use Rattle.zic_zones.specs.code.Numbered.{Keeps};
 
 use crate::name_keys::NameKeys;
+use crate::numbered::Numbered;
 use crate::slot::{ERAS, UNKNOWN, number_near, place_of};
 use crate::tables::{Expected, Tables};
-use crate::texts::Texts;
+use crate::texts::TEXT_BITS;
 use std::alloc::{AllocError, Global};
 use zic_files::Files;
 use zic_local::LocalIndex;
@@ -38,7 +39,7 @@ struct ReadyZone {
 #[derive(Drop)]
 pub(crate) struct Ready {
     names: NameKeys,
-    texts: Texts,
+    texts: Numbered<StateText>,
     tables: Tables,
     /// Indexes of local times. Zones that share an image share its index.
     indexes: Vec<LocalIndex>,
@@ -53,7 +54,7 @@ impl Ready {
     {
         Ready {
             names: NameKeys::new(alloc),
-            texts: Texts::new(alloc),
+            texts: Numbered::new(alloc, TEXT_BITS),
             tables: Tables::new(alloc, expected),
             indexes: Vec::new(alloc),
             zones: Vec::new(alloc),
@@ -254,7 +255,7 @@ impl Ready {
         requires { number < length self.now.texts }
         ensures { slice_get self.now.texts number ≡ Some result.now }
     {
-        self.texts.text(number)
+        self.texts.value(number)
     }
 
     /// Returns the text of a state of a file, by their numbers, where one was made.

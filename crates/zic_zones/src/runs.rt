@@ -2,24 +2,19 @@
 
 ghost use Rattle.std.specs.Prelude.{◌≡◌, ◌+◌, ◌++◌, ◌⊎◌, [], IfOk, IfSome, IsTrue, length, slice_range, Some, slice_get};
 
+use crate::numbered::{Numbered, mixed};
 use std::alloc::{AllocError, Global};
 use std::marker::Model;
 
 /// The number of bits that number the places of runs.
-const BITS: u32 = 12;
-
-/// The number of places, one after another, that a run may have.
-const TRIES: usize = 4;
-
-/// Marks a vacant place.
-const VACANT: u32 = u32::MAX;
+const RUN_BITS: u32 = 12;
 
 /// Runs of numbers, one after another. Clauses see the numbers.
 #[derive(Drop)]
 pub(crate) struct Runs {
     numbers: Vec<u16>,
-    /// Where the runs begin, each at one of its places, and [`VACANT`] elsewhere.
-    places: Vec<u32>,
+    /// Where the runs begin.
+    starts: Numbered<u32>,
 }
 
 impl Model for Runs {
@@ -37,7 +32,7 @@ impl Runs {
     {
         Runs {
             numbers: Vec::new(alloc),
-            places: Vec::new(alloc),
+            starts: Numbered::new(alloc, RUN_BITS),
         }
     }
 
@@ -56,35 +51,13 @@ impl Runs {
         ensures start { IfOk result (λ found. IfSome found
             (λ start. slice_range self.new start (start + length run.now) ≡ run.now)) }
     {
-        if self.places.is_empty() {
-            self.places.resize(1 << BITS, VACANT)?;
-        }
-        match self.find(run) {
-            Ok(start) => Ok(Some(start)),
+        match self
+            .starts
+            .find(hash_of(run), |start| self.has(*start as usize, run))
+        {
+            Ok(number) => Ok(Some(*self.starts.value(number))),
             Err(place) => self.push(run, place),
         }
-    }
-
-    /// Returns where a run begins, or else a place where its start may be written: one after all
-    /// others, where all places of the run are taken.
-    fn find(&self, run: &[u16]) -> Result<u32, usize>
-        ensures { IfOk result
-            (λ start. slice_range self.now start (start + length run.now) ≡ run.now) }
-    {
-        let first = place_of(run);
-        for place in first..first.saturating_add(TRIES) {
-            let Some(held) = self.places.get(place) else {
-                break;
-            };
-            let start = *held;
-            if start == VACANT {
-                return Err(place);
-            }
-            if self.has(start as usize, run) {
-                return Ok(start);
-            }
-        }
-        Err(self.places.len())
     }
 
     /// Returns whether a run begins there.
@@ -96,7 +69,7 @@ impl Runs {
         end <= self.numbers.len() && &self.numbers[start..end] == run
     }
 
-    /// Adds a run, whose start is written at a place, if there is such a place, and returns the start.
+    /// Adds a run, whose start has this place among the starts, and returns the start.
     fn push(&mut self, run: &[u16], place: usize) -> Result<Option<u32>, AllocError>
         ensures stays { (self.new ≡ self.old) ⊎ (self.new ≡ self.old ++ run.now) }
         ensures start { IfOk result (λ found. IfSome found
@@ -105,19 +78,17 @@ impl Runs {
         let Ok(start) = u32::try_from(self.numbers.len()) else {
             return Ok(None);
         };
+        self.starts.push(start, place)?;
         self.numbers.extend_from_slice(run)?;
-        if let Some(held) = self.places.get_mut(place) {
-            *held = start;
-        }
         Ok(Some(start))
     }
 }
 
-/// Returns the first place of a run: the upper bits of a hash of its numbers.
-fn place_of(run: &[u16]) -> usize {
-    let mut hash = 0u64;
+/// Returns the hash of a run.
+fn hash_of(run: &[u16]) -> u64 {
+    let mut hash = 0;
     for number in run {
-        hash = (hash.rotate_left(5) ^ u64::from(*number)).wrapping_mul(0x9e37_79b9_7f4a_7c15);
+        hash = mixed(hash, u64::from(*number));
     }
-    hash.wrapping_shr(u64::BITS - BITS) as usize
+    hash
 }

@@ -4,11 +4,12 @@ ghost use Rattle.std.specs.Prelude.{◌≡◌, ◌<◌, ◌≤◌, ◌≤ℤ◌,
 ghost use Rattle.zic_zones.specs.Places.{base_of};
 ghost use Rattle.zic_zones.specs.declared.slot.TheConstants.{ERAS, LAST_BASE, SLOTS};
 ghost use Rattle.zic_zones.specs.code.Tables.{HasTable, HaveTables};
-ghost use Rattle.zic_zones.specs.code.Texts.{Keeps};
+ghost use Rattle.zic_zones.specs.code.Numbered.{Keeps};
 
+use crate::numbered::Numbered;
 use crate::runs::Runs;
 use crate::slot::{ERAS, FIRST_BASE, Slot};
-use crate::slot_set::SlotSet;
+use crate::slot_set::SLOT_BITS;
 use crate::table::slots_of;
 use std::alloc::{AllocError, Global};
 use std::marker::Model;
@@ -42,7 +43,7 @@ impl Expected {
 /// is the numbers of its slots. Clauses see the slots.
 #[derive(Drop)]
 pub(crate) struct Tables {
-    slots: SlotSet,
+    slots: Numbered<Slot>,
     /// The numbers of the slots.
     numbers: Runs,
     expected: Expected,
@@ -66,7 +67,7 @@ impl Tables {
         ensures { result ≡ [] }
     {
         Tables {
-            slots: SlotSet::new(alloc),
+            slots: Numbered::new(alloc, SLOT_BITS),
             numbers: Runs::new(alloc),
             expected,
         }
@@ -119,7 +120,7 @@ impl Tables {
         ensures { IfSome result (λ slot. slice_get self.now (start + number) ≡ Some slot) }
     {
         let found = self.numbers.number(start as usize + number)?;
-        Some(self.slots.known_slot(found))
+        Some(*self.slots.value(found))
     }
 }
 

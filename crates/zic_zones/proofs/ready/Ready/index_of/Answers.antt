@@ -1,8 +1,8 @@
 use Rattle.std.proofs.Common.{◌∙◌, [], ◌∷◌, List, subst, sym}
 use Rattle.zic_local.specs.declared.local_index.LocalIndex.{LocalIndex}
-use Rattle.zic_zones.proofs.Numbered.{keeps_more}
+use Rattle.zic_zones.proofs.Keeping.{keeps_more}
 use Rattle.zic_zones.proofs.Readying.{index_pushed, near_known}
-use Rattle.zic_zones.specs.code.Texts.{Keeps}
+use Rattle.zic_zones.specs.code.Numbered.{Keeps}
 use Rattle.zic_zones.proofs.ready.Ready.index_of.Goals as goal
 
 pub for_zone-requires : goal.for_zone-requires

@@ -2,10 +2,10 @@ use Rattle.std.proofs.Common.{◌≡◌, ℕ, ℤ, List, length, map, sym, subst
 use Rattle.zic_zones.specs.Slots.{AreRight}
 use Rattle.zic_zones.specs.declared.slot.TheConstants.{SLOTS}
 use Rattle.zic_zones.specs.declared.slot.Slot.{Slot}
-use Rattle.zic_zones.proofs.Numbered.{keeps_same}
+use Rattle.zic_zones.proofs.Keeping.{keeps_same}
 use Rattle.zic_zones.proofs.Once.{either_have, either_keeps, has_table, have_still, if_ok_some, slots_still}
 use Rattle.zic_zones.specs.code.Tables.{AreNumbersOfSlots, slot_of}
-use Rattle.zic_zones.specs.code.Texts.{Keeps}
+use Rattle.zic_zones.specs.code.Numbered.{Keeps}
 use Rattle.zic_zones.proofs.tables.Tables.add.Goals as goal
 
 pub returns-in_err-run-clause-stays : goal.returns-in_err-run-clause-stays

@@ -1,7 +1,7 @@
 use Rattle.std.proofs.Common.{◌∙◌, ℤ, FitsSigned, w64, subst, to_z-of_z, arith, rules}
 use Rattle.std.specs.Prelude.{IfSome}
 use Rattle.std.proofs.lemmas.List.{length-set}
-use Rattle.zic_zones.proofs.Numbered.{keeps_then}
+use Rattle.zic_zones.proofs.Keeping.{keeps_then}
 use Rattle.zic_zones.proofs.Once.{era_added}
 use Rattle.zic_zones.specs.code.Tables.{HasTable}
 use Rattle.zic_zones.proofs.tables.Tables.add_zone.Goals as goal

@@ -1,7 +1,7 @@
 use Rattle.std.proofs.Common.{◌≡◌, length}
 use Rattle.zic_zones.specs.declared.slot.TheConstants.{ERAS}
 use Rattle.zic_zones.specs.code.Tables.{HaveTables}
-use Rattle.zic_zones.specs.code.Texts.{Keeps}
+use Rattle.zic_zones.specs.code.Numbered.{Keeps}
 use Rattle.zic_zones.proofs.tables.Tables.add_zone.Given as goal
 
 abbrev pub invariant-loop-era : goal.invariant-loop-era

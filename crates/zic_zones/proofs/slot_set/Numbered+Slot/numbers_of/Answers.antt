@@ -4,10 +4,10 @@ use Rattle.std.proofs.lemmas.Option.{get_or_from_slice_get}
 use Rattle.zic_base.proofs.Elements.{got}
 use Rattle.zic_base.proofs.Lists.{take_next}
 use Rattle.zic_zones.specs.declared.slot.Slot.{Slot}
-use Rattle.zic_zones.proofs.Numbered.{keeps_then}
+use Rattle.zic_zones.proofs.Keeping.{keeps_then}
 use Rattle.zic_zones.proofs.Once.{numbers_still, slot_numbered}
 use Rattle.zic_zones.specs.code.Tables.{AreNumbersOfSlots}
-use Rattle.zic_zones.proofs.slot_set.SlotSet.numbers_of.Goals as goal
+use Rattle.zic_zones.proofs.slot_set.Numbered+Slot.numbers_of.Goals as goal
 
 pub loop-slot-preserved : goal.loop-slot-preserved
 loop-slot-preserved c =

@@ -1,6 +1,7 @@
 use Rattle.std.proofs.Common.{◌≡◌, length}
-use Rattle.zic_zones.specs.code.Texts.{AreNumbersOf, Keeps}
-use Rattle.zic_zones.proofs.texts.Texts.add_zone.Given as goal
+use Rattle.zic_zones.specs.code.Numbered.{Keeps}
+use Rattle.zic_zones.specs.code.Texts.{AreNumbersOf}
+use Rattle.zic_zones.proofs.texts.Numbered+StateText.add_zone.Given as goal
 
 abbrev pub invariant-loop-number : goal.invariant-loop-number
 invariant-loop-number l = record {

@@ -2,8 +2,8 @@ use Rattle.std.proofs.Common.{◌≡◌, ◌++◌, ◌∷◌, [], ℕ, List, sym
 use Rattle.zic_base.specs.State.{shown}
 use Rattle.zic_tzif.specs.States.{IsStateOfNumber}
 use Rattle.zic_zones.specs.code.Texts.{AreNumbersOf}
-use Rattle.zic_zones.proofs.Numbered.{keeps_then, number_added, numbers_still}
-use Rattle.zic_zones.proofs.texts.Texts.add_zone.Goals as goal
+use Rattle.zic_zones.proofs.Keeping.{keeps_then, number_added, numbers_still}
+use Rattle.zic_zones.proofs.texts.Numbered+StateText.add_zone.Goals as goal
 
 pub state-requires : goal.state-requires
 state-requires c = (c.state_count-count.ensures c.loop-number.number).0 c.loop-number-test.true

@@ -1,4 +1,4 @@
--- Texts of states by number.
+-- Lists that grow at the end, and numbers of texts of states.
 use Rattle.std.proofs.Common.{◌≡◌, ◌++◌, ℕ, zero, suc, List, [], ◌∷◌, length, Some, inl, inr, subst, sym}
 use Rattle.std.specs.Prelude.{slice_get}
 use Rattle.zic_base.specs.State.{Shown}
@@ -6,7 +6,8 @@ use Rattle.zic_zones.proofs.Slots.{got_more}
 use Rattle.zic_tzif.specs.Content.{Content}
 use Rattle.zic_tzif.specs.States.{IsStateOfNumber}
 use Rattle.zic_zones.specs.States.{HasState}
-use Rattle.zic_zones.specs.code.Texts.{AreNumbersOf, Keeps}
+use Rattle.zic_zones.specs.code.Numbered.{Keeps}
+use Rattle.zic_zones.specs.code.Texts.{AreNumbersOf}
 
 -- ---- lists that grow at the end
 

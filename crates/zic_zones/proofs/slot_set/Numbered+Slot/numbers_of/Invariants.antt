@@ -1,7 +1,7 @@
 use Rattle.std.proofs.Common.{take}
 use Rattle.zic_zones.specs.code.Tables.{AreNumbersOfSlots}
-use Rattle.zic_zones.specs.code.Texts.{Keeps}
-use Rattle.zic_zones.proofs.slot_set.SlotSet.numbers_of.Given as goal
+use Rattle.zic_zones.specs.code.Numbered.{Keeps}
+use Rattle.zic_zones.proofs.slot_set.Numbered+Slot.numbers_of.Given as goal
 
 abbrev pub invariant-loop-slot : goal.invariant-loop-slot
 invariant-loop-slot l = record {
