@@ -5,6 +5,8 @@ pub mod NextRows
 mod PassedLines
 pub mod PieceRows
 pub mod PlainPairs
+pub mod PairRows
+pub mod ComparedPairs
 pub mod MadeTexts
 pub mod Written
 pub mod RowFaults

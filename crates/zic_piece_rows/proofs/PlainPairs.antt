@@ -1,6 +1,6 @@
 -- Plain pairs, and their rows.
-use Rattle.std.proofs.Common.{◌≡◌, ◌≤◌, ◌<◌, ◌+◌, ◌-◌, ◌∙◌, ℕ, true, false, List, ◌∷◌, ◌++◌, Some, ap, arith, get_or, length, length-take-le, map, refl, subst, sym, take}
-use Rattle.std.specs.Prelude.{All, slice_range}
+use Rattle.std.proofs.Common.{◌≡◌, ◌≤◌, ◌<◌, ◌+◌, ◌-◌, ◌∙◌, ℕ, true, false, List, ◌∷◌, ◌++◌, Option, None, Some, ap, arith, get_or, length, length-take-le, map, refl, subst, sym, take}
+use Rattle.std.specs.Prelude.{All, IfSome, slice_index_or, slice_range}
 use Rattle.std.proofs.Math.ListN.{get_or-map}
 use Rattle.std.proofs.lemmas.List.{get_or-take, length-map}
 use Rattle.zic_columns.proofs.Spans.{span_both, span_first, span_length}
@@ -20,9 +20,9 @@ use Rattle.zic_row_text.specs.Instant.{IsRowInstant}
 use Rattle.zic_row_text.specs.declared.row_time.RowTime.{RowTime}
 use Rattle.zic_zones.specs.Zones.{AnswersAt, number_of, zone_in}
 use Rattle.zic_piece_rows.specs.LayoutRows.{IsTextBy, admits_stray, beginning}
-use Rattle.zic_piece_rows.specs.code.Answer.{IsAdmitted, IsKnown, IsReadTime}
-use Rattle.zic_piece_rows.specs.code.Batch.{IsGiven, zone_at}
-use Rattle.zic_piece_rows.specs.code.Pairs.{ArePairColumns, ArePairs, IsOfPairs, IsPairAt, IsPlainPair, blank_pair, known_pair, pair_in, pair_of, pairs_of}
+use Rattle.zic_piece_rows.specs.code.Answer.{IsAdmitted, IsKnown, IsOfPiece, IsReadTime}
+use Rattle.zic_piece_rows.specs.code.Batch.{IsGiven, blank_time, zone_at}
+use Rattle.zic_piece_rows.specs.code.Pairs.{ArePairColumns, ArePairs, HaveState, HaveTime, IfStateAt, IsOfPairs, IsPairAt, IsPlainPair, blank_pair, known_pair, pair_in, pair_of, pairs_of}
 use Rattle.zic_piece_rows.specs.code.Row.{input_of, rest_at}
 use Rattle.zic_piece_rows.specs.declared.answer.Answer.{Answer}
 use Rattle.zic_piece_rows.specs.declared.answer.AnswerState.TheVariants as state
@@ -30,7 +30,7 @@ use Rattle.zic_piece_rows.specs.declared.pairs.PairBatch.{PairBatch}
 use Rattle.zic_piece_rows.specs.declared.piece.Piece.{Piece}
 use Rattle.zic_piece_rows.specs.declared.start.Input.TheVariants as given_by
 use Rattle.zic_piece_rows.proofs.Columns.{one_of}
-use Rattle.zic_piece_rows.proofs.KnownRows.{fraction_below, known_is, known_shown}
+use Rattle.zic_piece_rows.proofs.KnownRows.{fraction_below, known_is, known_shown, read_other}
 use Rattle.zic_piece_rows.proofs.ShownRows.{row_made}
 
 -- the bytes from an index up to another
@@ -50,14 +50,19 @@ no_stray quotes.Strict = refl
 no_stray quotes.Lenient = refl
 
 -- what the columns of a batch have of the pair at a place
-pub pair_at : (piece : Piece) (number count place row : ℕ) (batch : PairBatch) → ArePairColumns piece number count batch → place < count → row ≡ number + place → IsPairAt piece row batch place
-pair_at piece number count place row batch are lt is = record {
+pub pair_at : (piece : Piece) (other : Option Piece) (number count place row : ℕ) (batch : PairBatch) → ArePairColumns piece other number count batch → place < count → row ≡ number + place
+    → IsPairAt piece other row batch place
+pair_at piece other number count place row batch are lt is = record {
   layout = are.pairs.layout;
   within = omega (arith, are.pairs.few, lt);
   pair = are.pairs.are place lt;
   state = are.states place lt;
+  others = by_other other are.others;
   may = λ known. omega (arith, is, are.may place lt known);
-}
+} where
+  by_other : (o : Option Piece) → IfSome o (λ p. HaveState p count batch.pairs batch.others) → IfSome o (λ p. IfStateAt p batch.pairs batch.others place)
+  by_other None have = tt
+  by_other (Some p) have = have place lt
 
 module _ (piece : Piece) (pair : Pair) (of : IsOfPairs piece.layout.now) (is : IsPlainPair piece pair) where
   -- the name of its zone
@@ -144,3 +149,18 @@ are_split piece pairs count of few long split stand =
 -- each pair is one record
 pub pairs_counted : (piece : Piece) (pairs : List Pair) (count : ℕ) → count ≤ BATCH → length pairs ≡ BATCH → length (pairs_of piece pairs count) ≡ count
 pairs_counted piece pairs count few long = length-map (take count pairs) (pair_of piece) ∙ length-take-le count pairs (omega (arith, few, long))
+
+module _ (piece other : Piece) (of : IsOfPiece piece other) (pairs : List Pair) (count : ℕ) where
+  -- pairs of a piece are those of the piece with the zones of another release
+  pub pairs_other : ArePairs piece count pairs → ArePairs other count pairs
+  pairs_other are = record {
+    layout = rw of.layout are.layout;
+    few = are.few;
+    are = λ i lt.
+        let is = are.are i lt in
+        record { stands = rw (of.layout, of.bytes) is.stands; split = rw (of.layout, of.bytes) is.split };
+  }
+
+  -- and so are the times in their fields
+  pub times_other : (times : List RowTime) → HaveTime piece count pairs times → HaveTime other count pairs times
+  times_other times read = λ i lt has. read_other piece (pair_record (pair_in pairs i)) other of (slice_index_or times i blank_time) (read i lt has)

@@ -1,16 +1,19 @@
 //! Plain pairs of a piece, column by column: a zone's name and an instant in decimals.
 
-ghost use Rattle.std.specs.Prelude.{◌≡◌, ◌+◌, ◌<◌, ◌^◌, ℕ, IsTrue, slice_index_or};
+ghost use Rattle.std.specs.Prelude.{◌≡◌, ◌+◌, ◌<◌, ◌^◌, ℕ, IfSome, IsTrue, slice_index_or};
 ghost use Rattle.zic_columns.specs.declared.splits.TheConstants.{BATCH};
 ghost use Rattle.zic_zones.specs.declared.slot.TheConstants.{UNKNOWN};
-ghost use Rattle.zic_piece_rows.specs.code.Answer.{IfTime, IsReadTime};
+ghost use Rattle.zic_piece_rows.specs.code.Answer.{IfTime, IsFound, IsOfPiece, IsReadTime};
 ghost use Rattle.zic_columns.specs.Record.{pair_record};
-ghost use Rattle.zic_piece_rows.specs.code.Pairs.{ArePairColumns, ArePairs, HaveFile, HaveState, HaveTime};
-ghost use Rattle.zic_piece_rows.specs.code.Pairs.{IfFile, IfState, IsOfPairs, IsPlainPair};
+ghost use Rattle.zic_piece_rows.specs.code.Pairs.{ArePairColumns, ArePairs, AreSameStates, HaveFile};
+ghost use Rattle.zic_piece_rows.specs.code.Pairs.{HaveNumber, HaveState, HaveTime, IfFile, IfState, IfStateAt};
+ghost use Rattle.zic_piece_rows.specs.code.Pairs.{IsNumber, IsOfPairs, IsPlainPair, pair_in};
 
+use crate::answer::TableAnswer;
+use crate::answers::{Found, unknown};
 use crate::piece::Piece;
-use crate::time::{NO_TIME, ZERO_TIME, read_plain};
-use zic_columns::{BATCH, Pair, Span, may_have};
+use crate::time::{NO_TIME, ZERO_TIME, no_time, read_plain};
+use zic_columns::{BATCH, Pair, Record, Span, may_have};
 use zic_layouts::{Layout, TimeFrom, Unit, ZoneFrom};
 use zic_row_text::RowTime;
 use zic_zones::{RowStates, UNKNOWN};
@@ -18,22 +21,86 @@ use zic_zones::{RowStates, UNKNOWN};
 /// The number of no file.
 pub(crate) const NO_FILE: usize = usize::MAX;
 
-/// Columns of pairs: where they stand, the numbers of the files of their zones, and the times in their
-/// fields.
+/// Columns of pairs: where they stand, and the times in their fields.
 #[derive(Drop)]
 pub(crate) struct Pairs {
     pub(crate) places: [Pair; BATCH],
-    pub(crate) files: [usize; BATCH],
     pub(crate) times: [RowTime; BATCH],
 }
 
-/// Pairs, the states that a release shows, by number, and the number of the state of each pair:
-/// [`UNKNOWN`] where the tables don't have it, or its row may have a fault.
+/// What a release shows of pairs: the numbers of the files of their zones, the states that it shows, by
+/// number, and the number of the state of each pair: [`UNKNOWN`] where the tables don't have it, or its
+/// row may have a fault.
+#[derive(Drop)]
+pub(crate) struct PairStates<'s> {
+    pub(crate) files: [usize; BATCH],
+    pub(crate) states: RowStates<'s>,
+    pub(crate) numbers: [u16; BATCH],
+}
+
+impl<'s> PairStates<'s> {
+    /// Returns columns before the first pairs.
+    #[inline(always)]
+    fn new(piece: &Piece<'_, 's>) -> PairStates<'s> {
+        PairStates {
+            files: [0; BATCH],
+            states: piece.zones.states(),
+            numbers: [0; BATCH],
+        }
+    }
+
+    /// Finds the states that a piece's zones show of the first `count` pairs.
+    fn find(&mut self, piece: &Piece<'_, 's>, pairs: &Pairs, count: usize)
+        requires pairs { ArePairs piece.now count pairs.now.places }
+        requires times { HaveTime piece.now count pairs.now.places pairs.now.times }
+        ensures { HaveState piece.now count pairs.now self.new }
+    {
+        find_files(piece, &pairs.places, count, &mut self.files);
+        self.find_by_files(piece, pairs, count);
+    }
+
+    /// Finds the same, where the files are known.
+    fn find_by_files(&mut self, piece: &Piece<'_, 's>, pairs: &Pairs, count: usize)
+        requires pairs { ArePairs piece.now count pairs.now.places }
+        requires files { HaveFile piece.now count pairs.now.places self.old.files }
+        requires times { HaveTime piece.now count pairs.now.places pairs.now.times }
+        ensures { HaveState piece.now count pairs.now self.new }
+    {
+        self.states = piece.zones.states();
+        find_states(
+            piece,
+            &self.states,
+            pairs,
+            &self.files,
+            count,
+            &mut self.numbers,
+        );
+    }
+
+    /// Finds the states that the zones of another release show of the same pairs. `firsts` is what the
+    /// first release shows of them.
+    fn find_other(
+        &mut self,
+        other: &Piece<'_, 's>,
+        pairs: &Pairs,
+        firsts: &PairStates<'_>,
+        count: usize,
+    )
+        requires pairs { ArePairs other.now count pairs.now.places }
+        requires times { HaveTime other.now count pairs.now.places pairs.now.times }
+        ensures { HaveState other.now count pairs.now self.new }
+    {
+        find_other_files(other, &pairs.places, &firsts.files, count, &mut self.files);
+        self.find_by_files(other, pairs, count);
+    }
+}
+
+/// Pairs, what a release shows of them, and what another does, if there is one.
 #[derive(Drop)]
 pub(crate) struct PairBatch<'s> {
     pub(crate) pairs: Pairs,
-    pub(crate) states: RowStates<'s>,
-    pub(crate) numbers: [u16; BATCH],
+    pub(crate) shown: PairStates<'s>,
+    pub(crate) others: PairStates<'s>,
 }
 
 impl<'s> PairBatch<'s> {
@@ -48,30 +115,101 @@ impl<'s> PairBatch<'s> {
         PairBatch {
             pairs: Pairs {
                 places: [pair; BATCH],
-                files: [0; BATCH],
                 times: [ZERO_TIME; BATCH],
             },
-            states: piece.zones.states(),
-            numbers: [0; BATCH],
+            shown: PairStates::new(piece),
+            others: PairStates::new(piece),
         }
     }
 
     /// Finds the states of the first `count` pairs, the first of which is the row of this number. They
-    /// stay unknown where a row would have a greater number than it may have.
-    pub(crate) fn fill(&mut self, piece: &Piece<'_, 's>, number: u64, count: usize)
+    /// stay unknown where a row would have a greater number than it may have. `other` is the piece with
+    /// the zones of another release.
+    pub(crate) fn fill(
+        &mut self,
+        piece: &Piece<'_, 's>,
+        other: &Option<Piece<'_, 's>>,
+        number: u64,
+        count: usize,
+    )
         requires pairs { ArePairs piece.now count self.old.pairs.places }
+        requires other { IfSome other.now (IsOfPiece piece.now) }
         requires fits { number + count < 2 ^ 64 }
         ensures places { self.new.pairs.places ≡ self.old.pairs.places }
-        ensures columns { ArePairColumns piece.now number count self.new }
+        ensures columns { ArePairColumns piece.now other.now number count self.new }
     {
-        self.states = piece.zones.states();
         if piece.most < number + count as u64 {
-            self.numbers = no_states();
+            self.shown.numbers = no_states();
+            self.others.numbers = no_states();
             return;
         }
-        find_files(piece, &self.pairs.places, count, &mut self.pairs.files);
         read_times(piece, &self.pairs.places, count, &mut self.pairs.times);
-        find_states(piece, &self.states, &self.pairs, count, &mut self.numbers);
+        self.shown.find(piece, &self.pairs, count);
+        let Some(other) = other else { return };
+        self.others
+            .find_other(other, &self.pairs, &self.shown, count);
+    }
+
+    /// Returns whether the pair at a place has the same state by both releases, which both know.
+    #[inline(always)]
+    pub(crate) fn is_same(&self, place: usize) -> bool
+        requires within { place < BATCH }
+        requires number { IsNumber self.now.shown place }
+        requires other { IsNumber self.now.others place }
+        ensures { IsTrue result → AreSameStates self.now place }
+    {
+        let number = self.shown.numbers[place];
+        let other = self.others.numbers[place];
+        if number == UNKNOWN || other == UNKNOWN {
+            return false;
+        }
+        let text = self.shown.states.text(number);
+        text.is_same(self.others.states.text(other))
+    }
+
+    /// Returns what the tables have of the pair at a place, which is this record.
+    #[inline(always)]
+    pub(crate) fn found<'a>(
+        &'a self,
+        piece: &Piece<'_, '_>,
+        given: &'a Record,
+        place: usize,
+    ) -> Found<'a, 's>
+        requires layout { IsOfPairs piece.now.layout.now }
+        requires within { place < BATCH }
+        requires pair { IsPlainPair piece.now (pair_in self.now.pairs.places place) }
+        requires state { IfStateAt piece.now self.now.pairs self.now.shown place }
+        requires given { given.now ≡ pair_record (pair_in self.now.pairs.places place) }
+        ensures given { result.given.now ≡ given.now }
+        ensures read { IfTime result.time (IsReadTime piece.now result.given.now) }
+        ensures found { IsFound piece.now result.given.now result.time result.states.now.states
+            result.known }
+    {
+        let states = &self.shown.states;
+        let state = self.shown.numbers[place];
+        if state == UNKNOWN {
+            let pair = self.pairs.places[place];
+            let file = piece
+                .zones
+                .find_at(piece.bytes, pair.start, pair.stop, NO_FILE);
+            return Found {
+                states,
+                given,
+                time: no_time(piece.layout.unit),
+                known: unknown(file),
+            };
+        }
+        let time = self.pairs.times[place];
+        Found {
+            states,
+            given,
+            time,
+            known: TableAnswer {
+                file: Some(self.shown.files[place]),
+                time,
+                state,
+            },
+        }
     }
 }
 
@@ -109,6 +247,27 @@ fn find_files(
         let file = find_file(piece, pairs[i], likely);
         files[i] = file;
         likely = file;
+    }
+}
+
+/// Finds the files of the zones of pairs by another release. Where both releases have the same names, a
+/// number is as far from the first release's as it was for the pair before, so that one is tried first.
+#[inline(never)]
+fn find_other_files(
+    other: &Piece<'_, '_>,
+    pairs: &[Pair; BATCH],
+    firsts: &[usize; BATCH],
+    count: usize,
+    files: &mut [usize; BATCH],
+)
+    requires { ArePairs other.now count pairs.now }
+    ensures { HaveFile other.now count pairs.now files.new }
+{
+    let mut apart: usize = 0;
+    for i in 0..count {
+        let number = find_file(other, pairs[i], firsts[i].wrapping_add(apart));
+        files[i] = number;
+        apart = number.wrapping_sub(firsts[i]);
     }
 }
 
@@ -181,23 +340,18 @@ fn find_states(
     piece: &Piece<'_, '_>,
     states: &RowStates<'_>,
     pairs: &Pairs,
+    files: &[usize; BATCH],
     count: usize,
     numbers: &mut [u16; BATCH],
 )
     requires files { states.now.files ≡ piece.now.zones.now }
     requires pairs { ArePairs piece.now count pairs.now.places }
-    requires found { HaveFile piece.now count pairs.now.places pairs.now.files }
+    requires found { HaveFile piece.now count pairs.now.places files.now }
     requires times { HaveTime piece.now count pairs.now.places pairs.now.times }
-    ensures { HaveState piece.now count pairs.now states.now.states numbers.new }
+    ensures { HaveNumber piece.now count pairs.now files.now states.now.states numbers.new }
 {
     for i in 0..count {
-        numbers[i] = find_state(
-            piece,
-            states,
-            pairs.places[i],
-            pairs.files[i],
-            pairs.times[i],
-        );
+        numbers[i] = find_state(piece, states, pairs.places[i], files[i], pairs.times[i]);
     }
 }
 

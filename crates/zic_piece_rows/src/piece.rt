@@ -72,7 +72,6 @@ struct Columns<'s> {
 /// returns their number. None doesn't mean that no record is left.
 fn next_pairs(
     piece: &Piece<'_, '_>,
-    other: &Option<Piece<'_, '_>>,
     splitter: &mut Splitter<'_>,
     pairs: &mut [Pair; BATCH],
 ) -> usize
@@ -82,9 +81,8 @@ fn next_pairs(
     ensures long { length pairs.new ≡ BATCH }
     ensures parts { splitter.old.left ≡ pairs_of piece.now pairs.new result ++ splitter.new.left }
     ensures pairs { 0 < result → ArePairs piece.now result pairs.new }
-    ensures alone { 0 < result → other.now ≡ None }
 {
-    if other.is_some() || !is_of_pairs(piece.layout) {
+    if !is_of_pairs(piece.layout) {
         return 0;
     }
     splitter.fill_pairs(pairs)
@@ -109,9 +107,9 @@ impl Rows {
             self.old self.new splitter.old.left splitter.new.left) }
         ensures end { IfOk result (λ count. count ≡ 0 → splitter.new.left ≡ []) }
     {
-        let count = next_pairs(piece, other, splitter, &mut columns.pairs.pairs.places);
+        let count = next_pairs(piece, splitter, &mut columns.pairs.pairs.places);
         if 0 < count {
-            self.add_pairs(piece, &mut columns.pairs, count, &mut columns.pen)?;
+            self.add_pairs(piece, other, &mut columns.pairs, count, &mut columns.pen)?;
             return Ok(count);
         }
         self.add_records(piece, other, splitter, columns)

@@ -1,5 +1,5 @@
 -- Plain pairs of a piece, column by column.
-use Rattle.std.specs.Prelude.{◌≡◌, ◌≢◌, ◌<◌, ◌≤◌, ◌+◌, ℕ, List, true, Some, map, slice_index_or, take}
+use Rattle.std.specs.Prelude.{◌≡◌, ◌≢◌, ◌<◌, ◌≤◌, ◌+◌, ℕ, List, Option, true, IfSome, Some, map, slice_get, slice_index_or, take}
 use Rattle.zic_columns.specs.Own.{CsvRecord}
 use Rattle.zic_columns.specs.declared.splits.TheConstants.{BATCH}
 use Rattle.zic_base.specs.State.{Shown}
@@ -17,6 +17,7 @@ use Rattle.zic_piece_rows.specs.declared.answer.TableAnswer.{TableAnswer}
 use Rattle.zic_columns.specs.declared.fields.Pair.{Pair}
 use Rattle.zic_piece_rows.specs.declared.pair_rows.Form.{Form}
 use Rattle.zic_piece_rows.specs.declared.pairs.PairBatch.{PairBatch}
+use Rattle.zic_piece_rows.specs.declared.pairs.PairStates.{PairStates}
 use Rattle.zic_piece_rows.specs.declared.pairs.Pairs.{Pairs}
 use Rattle.zic_piece_rows.specs.declared.pairs.TheConstants.{NO_FILE}
 use Rattle.zic_piece_rows.specs.declared.piece.Piece.{Piece}
@@ -75,32 +76,49 @@ known_pair file time state = record { file = Some file; time = time; state = sta
 abbrev pub IfState : Piece → Pair → ℕ → RowTime → List Shown → ℕ → Type 0
 IfState piece pair file time states state = HasState states state (IsKnown piece (pair_record pair) time (known_pair file time state))
 
--- the same for the pair at a place
-abbrev pub IfStateAt : Piece → Pairs → List Shown → List ℕ → ℕ → Type 0
-IfStateAt piece pairs states numbers place =
-    IfState piece (pair_in pairs.places place) (slice_index_or pairs.files place 0) (slice_index_or pairs.times place blank_time) states (slice_index_or numbers place 0)
+-- the numbers of the states of the first pairs, whose zones have these files
+abbrev pub HaveNumber : Piece → ℕ → Pairs → List ℕ → List Shown → List ℕ → Type 0
+HaveNumber piece count pairs files states numbers =
+    (i : ℕ) → i < count → IfState piece (pair_in pairs.places i) (slice_index_or files i 0) (slice_index_or pairs.times i blank_time) states (slice_index_or numbers i 0)
 
--- the states of the first pairs
-abbrev pub HaveState : Piece → ℕ → Pairs → List Shown → List ℕ → Type 0
-HaveState piece count pairs states numbers = (i : ℕ) → i < count → IfStateAt piece pairs states numbers i
+-- what a release shows of the pair at a place
+abbrev pub IfStateAt : Piece → Pairs → PairStates → ℕ → Type 0
+IfStateAt piece pairs shown place =
+    IfState piece (pair_in pairs.places place) (slice_index_or shown.files place 0) (slice_index_or pairs.times place blank_time) shown.states.states (slice_index_or shown.numbers place 0)
+
+-- and of the first pairs
+abbrev pub HaveState : Piece → ℕ → Pairs → PairStates → Type 0
+HaveState piece count pairs shown = (i : ℕ) → i < count → IfStateAt piece pairs shown i
+
+-- the number at a place is unknown, or that of a state
+abbrev pub IsNumber : PairStates → ℕ → Type 0
+IsNumber shown place = HasState shown.states.states (slice_index_or shown.numbers place 0) (λ state. Unit {0})
+
+-- both releases show the same state of the pair at a place, and both tables have it
+pub record AreSameStates (batch : PairBatch) (place : ℕ) : Type 0 where
+  pub known : slice_index_or batch.shown.numbers place 0 ≢ UNKNOWN
+  pub other : slice_index_or batch.others.numbers place 0 ≢ UNKNOWN
+  pub same : slice_get batch.shown.states.states (slice_index_or batch.shown.numbers place 0) ≡ slice_get batch.others.states.states (slice_index_or batch.others.numbers place 0)
 
 -- where the state of a pair is known, there may be a row of this number
 abbrev pub IfRow : ℕ → ℕ → ℕ → Type 0
 IfRow most number state = state ≢ UNKNOWN → number ≤ most
 
--- the columns of the first pairs of a batch, the first of which is the row of this number
-pub record ArePairColumns (piece : Piece) (number count : ℕ) (batch : PairBatch) : Type 0 where
+-- the columns of the first pairs of a batch, the first of which is the row of this number; where there is another release, also what that shows
+pub record ArePairColumns (piece : Piece) (other : Option Piece) (number count : ℕ) (batch : PairBatch) : Type 0 where
   pub pairs : ArePairs piece count batch.pairs.places
-  pub states : HaveState piece count batch.pairs batch.states.states batch.numbers
-  pub may : (i : ℕ) → i < count → IfRow piece.most (number + i) (slice_index_or batch.numbers i 0)
+  pub states : HaveState piece count batch.pairs batch.shown
+  pub others : IfSome other (λ o. HaveState o count batch.pairs batch.others)
+  pub may : (i : ℕ) → i < count → IfRow piece.most (number + i) (slice_index_or batch.shown.numbers i 0)
 
 -- what they have of the pair at a place, which is the row of this number
-pub record IsPairAt (piece : Piece) (number : ℕ) (batch : PairBatch) (place : ℕ) : Type 0 where
+pub record IsPairAt (piece : Piece) (other : Option Piece) (number : ℕ) (batch : PairBatch) (place : ℕ) : Type 0 where
   pub layout : IsOfPairs piece.layout.now
   pub within : place < BATCH
   pub pair : IsPlainPair piece (pair_in batch.pairs.places place)
-  pub state : IfStateAt piece batch.pairs batch.states.states batch.numbers place
-  pub may : IfRow piece.most number (slice_index_or batch.numbers place 0)
+  pub state : IfStateAt piece batch.pairs batch.shown place
+  pub others : IfSome other (λ o. IfStateAt o batch.pairs batch.others place)
+  pub may : IfRow piece.most number (slice_index_or batch.shown.numbers place 0)
 
 -- the form of the rows of a layout
 abbrev pub form_of : Layout → Form

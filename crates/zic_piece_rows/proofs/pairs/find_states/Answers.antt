@@ -21,6 +21,6 @@ loop-i-preserved c =
     let pairs = c.args.pairs.now in
     record {
       long = length-set l.numbers l.i _ ∙ l.invariant.long;
-      found = more_is 0 (λ (j number : ℕ). IfState c.args.piece.now (pair_in pairs.places j) (slice_index_or pairs.files j 0) (slice_index_or pairs.times j blank_time) c.args.states.now.states number)
+      found = more_is 0 (λ (j number : ℕ). IfState c.args.piece.now (pair_in pairs.places j) (slice_index_or c.args.files.now j 0) (slice_index_or pairs.times j blank_time) c.args.states.now.states number)
           l.i l.numbers _ (omega (arith, l.invariant.long, c.requires.pairs.few, c.loop-i-test.true)) l.invariant.found c.find_state.ensures;
     }

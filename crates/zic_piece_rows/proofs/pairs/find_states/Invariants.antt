@@ -1,10 +1,10 @@
 use Rattle.std.proofs.Common.{◌≡◌, length}
 use Rattle.zic_columns.specs.declared.splits.TheConstants.{BATCH}
-use Rattle.zic_piece_rows.specs.code.Pairs.{HaveState}
+use Rattle.zic_piece_rows.specs.code.Pairs.{HaveNumber}
 use Rattle.zic_piece_rows.proofs.pairs.find_states.Given as goal
 
 abbrev pub invariant-loop-i : goal.invariant-loop-i
 invariant-loop-i l = record {
   long : length l.numbers ≡ BATCH;
-  found : HaveState l.piece l.i l.pairs l.states.states l.numbers;
+  found : HaveNumber l.piece l.i l.pairs l.files l.states.states l.numbers;
 }

@@ -22,9 +22,9 @@ returns-clause-next c =
     let batch = c.args.batch.now in
     let place = c.args.place in
     let pair = pair_in batch.pairs.places place in
-    let file = slice_index_or batch.pairs.files place 0 in
+    let file = slice_index_or batch.shown.files place 0 in
     let time = slice_index_or batch.pairs.times place blank_time in
-    let number = slice_index_or batch.numbers place 0 in
+    let number = slice_index_or batch.shown.numbers place 0 in
     let q = c.self.inside in
     let old : RowsOf = record { text = q.text; count = q.count; fault = q.fault; faults = q.faults.items } in
     let at = c.requires.at in

@@ -23,13 +23,13 @@ returns-then-count-gt0-clause-next c =
     let piece = c.args.piece.now in
     let pairs = next.new.pairs in
     let added = c.in_ok-add_pairs.ensures in
-    rw (next.ensures.alone c.if-count-gt0.true) (record {
+    record {
       next = pairs_of piece pairs next.result;
       parts = next.ensures.parts;
       long = pairs_counted piece pairs next.result next.ensures.few next.ensures.long;
       rows = added.rows;
       counted = added.count;
-    })
+    }
 
 pub add_records-requires-clause-fits : goal.add_records-requires-clause-fits
 add_records-requires-clause-fits c =

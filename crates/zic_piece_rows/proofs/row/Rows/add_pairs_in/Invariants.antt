@@ -1,16 +1,11 @@
-use Rattle.std.proofs.Common.{◌≡◌, ◌+◌, ◌++◌, List, None}
-use Rattle.zic_columns.specs.Own.{CsvRecord}
-use Rattle.zic_piece_rows.specs.code.Pairs.{pairs_of}
+use Rattle.std.proofs.Common.{◌≡◌, ◌+◌, None}
 use Rattle.zic_piece_rows.specs.code.Row.{by_both}
-use Rattle.zic_piece_rows.specs.PieceRows.{AreRowsOf}
+use Rattle.zic_piece_rows.proofs.PairRows.{AreWith}
 use Rattle.zic_piece_rows.proofs.row.Rows.add_pairs_in.Given as goal
 
 abbrev pub invariant-loop-place : goal.invariant-loop-place
-invariant-loop-place l =
-    let releases = by_both l.piece None in
-    record {
-      none : l.self.fault ≡ None;
-      count : l.self.count ≡ l.fn.self.count + l.place;
-      rows : (before : List CsvRecord) → AreRowsOf l.piece.layout.now releases l.piece.most l.piece.first before l.fn.self
-          → AreRowsOf l.piece.layout.now releases l.piece.most l.piece.first (before ++ pairs_of l.piece l.batch.pairs.places l.place) l.self;
-    }
+invariant-loop-place l = record {
+  none : l.self.fault ≡ None;
+  count : l.self.count ≡ l.fn.self.count + l.place;
+  rows : AreWith l.piece (by_both l.piece None) l.batch.pairs.places l.fn.self l.place l.self;
+}
