@@ -1,5 +1,5 @@
 -- Pairs of which two releases show the same state.
-use Rattle.std.proofs.Common.{◌≡◌, ◌≤◌, ◌+◌, ◌∙◌, ℕ, ℤ, List, [], Option, None, Some, Ok, ap, append-nil, refl, subst, sym}
+use Rattle.std.proofs.Common.{◌≡◌, ◌≤◌, ◌+◌, ◌∙◌, ℕ, List, [], Option, None, Some, Ok, ap, append-nil, refl, subst, sym}
 use Rattle.std.specs.Prelude.{IfSome, IsSome, slice_index_or}
 use Rattle.std.proofs.lemmas.Option.{same_Some}
 use Rattle.zic_base.specs.State.{Shown}

@@ -1,7 +1,6 @@
 use Rattle.std.proofs.Common.{◌≡◌, ◌<◌, ℕ, List, Option, None, Some, arith}
 use Rattle.std.specs.Prelude.{IfSome, slice_index_or}
 use Rattle.zic_base.specs.State.{Shown}
-use Rattle.zic_columns.specs.declared.splits.TheConstants.{BATCH}
 use Rattle.zic_zones.specs.declared.slot.TheConstants.{UNKNOWN}
 use Rattle.zic_piece_rows.specs.code.Pairs.{HaveNumber}
 use Rattle.zic_piece_rows.specs.declared.pairs.Pairs.{Pairs}
