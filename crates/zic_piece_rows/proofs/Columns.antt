@@ -37,6 +37,16 @@ more_is {A} d Q i xs v within are is j lt = elim (cases_Bool (j == i)) [
       subst (Q j) (sym (get_or-set_other xs i j v d ne)) (are j before)
 ]
 
+-- what is told of each element of a column, of which one is set
+pub all_stay : {A : Type 0} (d : A) (Q : ℕ → A → Type 0) (i count : ℕ) (xs : List A) (v : A) → i < length xs → ((j : ℕ) → j < count → Q j (slice_index_or xs j d)) → Q i v
+    → (j : ℕ) → j < count → Q j (slice_index_or (set xs i v) j d)
+all_stay {A} d Q i count xs v within are is j lt = elim (cases_Bool (j == i)) [
+  | inl same ↦
+      subst (λ (k : ℕ). Q k (slice_index_or (set xs i v) k d)) (sym (eqb-true j i same))
+      (subst (Q i) (sym (get_or-set_same xs i v d within)) is)
+  | inr other ↦ subst (Q j) (sym (get_or-set_other xs i j v d (eqb-false j i other))) (are j lt)
+]
+
 -- what is told of the elements that follow one which is set
 pub others_stay : {A : Type 0} (d : A) (Q : ℕ → A → Type 0) (i count : ℕ) (xs : List A) (v : A) → ((j : ℕ) → i ≤ j → j < count → Q j (slice_index_or xs j d))
     → (j : ℕ) → i + 1 ≤ j → j < count → Q j (slice_index_or (set xs i v) j d)

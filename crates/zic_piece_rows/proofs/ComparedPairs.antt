@@ -11,7 +11,7 @@ use Rattle.zic_piece_rows.specs.LayoutRows.{IsMovedRow, IsWrittenBy, fault_by}
 use Rattle.zic_piece_rows.specs.PieceRows.{RowsOf}
 use Rattle.zic_piece_rows.specs.code.Answer.{AreSame, IsKnown, IsOfPiece}
 use Rattle.zic_piece_rows.specs.code.Batch.{IsGiven, blank_time, record_of}
-use Rattle.zic_piece_rows.specs.code.Pairs.{AreSameStates, IsNumber, IsPairAt, known_pair, pair_in, pair_of}
+use Rattle.zic_piece_rows.specs.code.Pairs.{AreSameStates, IsPairAt, known_pair, pair_in, pair_of}
 use Rattle.zic_piece_rows.specs.code.Row.{AreNextBy, by_both, files_of, input_of}
 use Rattle.zic_piece_rows.specs.declared.answer.Answer.{Answer}
 use Rattle.zic_piece_rows.specs.declared.answer.AnswerState.TheVariants as made
@@ -44,20 +44,12 @@ module _ (piece other : Piece) (given : Record) (number : ℕ) (of : IsOfPiece p
       let (text, own, others) = same_answer piece other given number of (Ok answer) (Ok answers) shown (sound, shows) alike in
       unmoved_by piece number given (Ok answer) (none, shown) other.zones.now text own others
 
--- the numbers of a pair's states are unknown, or those of states
-pub number_is : (piece : Piece) (other : Option Piece) (number : ℕ) (batch : PairBatch) (place : ℕ) → IsPairAt piece other number batch place → IsNumber batch.shown place
-number_is piece other number batch place at = λ known. let (state, got, is) = at.state known in (state, got, tt)
-
-pub other_number_is : (piece : Piece) (other : Option Piece) (number : ℕ) (batch : PairBatch) (place : ℕ) → IsSome other → IsPairAt piece other number batch place → IsNumber batch.others place
-other_number_is piece None number batch place some at = absurd (cc some)
-other_number_is piece (Some other) number batch place some at = λ known. let (state, got, is) = at.others known in (state, got, tt)
-
 module _ (piece : Piece) (number : ℕ) (batch : PairBatch) (place : ℕ) where
   abbrev row_record : CsvRecord
   row_record = pair_of piece (pair_in batch.pairs.places place)
 
   -- nothing is written of a pair of which both releases show the same state
-  pair_unmoved : (other : Option Piece) → IsSome other → IfSome other (IsOfPiece piece) → IsPairAt piece other number batch place → AreSameStates batch place
+  pair_unmoved : (other : Option Piece) → IsSome other → IfSome other (IsOfPiece piece) → IsPairAt piece other number batch place → AreSameStates batch.shown batch.others place
       → IsWrittenBy piece.layout.now (by_both piece (files_of other)) piece.most number row_record []
   pair_unmoved None some of at same = absurd (cc some)
   pair_unmoved (Some other) some of at same =
@@ -71,7 +63,7 @@ module _ (piece : Piece) (number : ℕ) (batch : PairBatch) (place : ℕ) where
       known_unmoved piece other given number of at.pair.split (at.may same.known) time ours theirs state known (subst (λ (s : Shown). IsKnown other given time theirs s) alike knows) refl
 
   -- it is passed
-  pub pair_passed : (other : Option Piece) → IsSome other → IfSome other (IsOfPiece piece) → IsPairAt piece other number batch place → AreSameStates batch place → (old new : RowsOf)
+  pub pair_passed : (other : Option Piece) → IsSome other → IfSome other (IsOfPiece piece) → IsPairAt piece other number batch place → AreSameStates batch.shown batch.others place → (old new : RowsOf)
       → new ≡ record old { count = old.count + 1 } → AreNextBy piece.layout.now (by_both piece (files_of other)) piece.most number row_record old new
   pair_passed other some of at same old new passed =
       let releases = by_both piece (files_of other) in

@@ -58,6 +58,7 @@ pair_at piece other number count place row batch are lt is = record {
   pair = are.pairs.are place lt;
   state = are.states place lt;
   others = by_other other are.others;
+  same = λ some. are.same some place lt;
   may = λ known. omega (arith, is, are.may place lt known);
 } where
   by_other : (o : Option Piece) → IfSome o (λ p. HaveState p count batch.pairs batch.others) → IfSome o (λ p. IfStateAt p batch.pairs batch.others place)

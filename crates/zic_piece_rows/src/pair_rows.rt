@@ -214,7 +214,7 @@ impl Rows {
             (pair_of piece.now (pair_in batch.now.pairs.places place)) self.old self.new) }
         ensures end { IfOk result (λ end. end ≡ is_some self.new.fault) }
     {
-        if batch.is_same(place) {
+        if batch.same[place] {
             self.count += 1;
             return Ok(false);
         }

@@ -1,13 +1,13 @@
 //! Plain pairs of a piece, column by column: a zone's name and an instant in decimals.
 
-ghost use Rattle.std.specs.Prelude.{◌≡◌, ◌+◌, ◌<◌, ◌^◌, ℕ, IfSome, IsTrue, slice_index_or};
+ghost use Rattle.std.specs.Prelude.{◌≡◌, ◌+◌, ◌<◌, ◌≤◌, ◌^◌, ℕ, IfSome, IsTrue, false, slice_index_or};
 ghost use Rattle.zic_columns.specs.declared.splits.TheConstants.{BATCH};
 ghost use Rattle.zic_zones.specs.declared.slot.TheConstants.{UNKNOWN};
 ghost use Rattle.zic_piece_rows.specs.code.Answer.{IfTime, IsFound, IsOfPiece, IsReadTime};
 ghost use Rattle.zic_columns.specs.Record.{pair_record};
-ghost use Rattle.zic_piece_rows.specs.code.Pairs.{ArePairColumns, ArePairs, AreSameStates, HaveFile};
-ghost use Rattle.zic_piece_rows.specs.code.Pairs.{HaveNumber, HaveState, HaveTime, IfFile, IfState, IfStateAt};
-ghost use Rattle.zic_piece_rows.specs.code.Pairs.{IsNumber, IsOfPairs, IsPlainPair, pair_in};
+ghost use Rattle.zic_piece_rows.specs.code.Pairs.{AreAlike, ArePairColumns, ArePairs, AreSameStates};
+ghost use Rattle.zic_piece_rows.specs.code.Pairs.{HaveFile, HaveNumber, HaveSame, HaveState, HaveTime, IfFile};
+ghost use Rattle.zic_piece_rows.specs.code.Pairs.{IfState, IfStateAt, IsNumber, IsOfPairs, IsPlainPair, pair_in};
 
 use crate::answer::TableAnswer;
 use crate::answers::{Found, unknown};
@@ -17,6 +17,9 @@ use zic_columns::{BATCH, Pair, Record, Span, may_have};
 use zic_layouts::{Layout, TimeFrom, Unit, ZoneFrom};
 use zic_row_text::RowTime;
 use zic_zones::{RowStates, UNKNOWN};
+
+/// How many states of a release are kept with those of another that are the same: the first ones.
+const KEPT: usize = 256;
 
 /// The number of no file.
 pub(crate) const NO_FILE: usize = usize::MAX;
@@ -95,12 +98,14 @@ impl<'s> PairStates<'s> {
     }
 }
 
-/// Pairs, what a release shows of them, and what another does, if there is one.
+/// Pairs, what a release shows of them, and what another does, if there is one, and of each whether both
+/// show the same state.
 #[derive(Drop)]
 pub(crate) struct PairBatch<'s> {
     pub(crate) pairs: Pairs,
     pub(crate) shown: PairStates<'s>,
     pub(crate) others: PairStates<'s>,
+    pub(crate) same: [bool; BATCH],
 }
 
 impl<'s> PairBatch<'s> {
@@ -119,6 +124,7 @@ impl<'s> PairBatch<'s> {
             },
             shown: PairStates::new(piece),
             others: PairStates::new(piece),
+            same: [false; BATCH],
         }
     }
 
@@ -141,6 +147,7 @@ impl<'s> PairBatch<'s> {
         if piece.most < number + count as u64 {
             self.shown.numbers = no_states();
             self.others.numbers = no_states();
+            self.same = none_same();
             return;
         }
         read_times(piece, &self.pairs.places, count, &mut self.pairs.times);
@@ -148,23 +155,7 @@ impl<'s> PairBatch<'s> {
         let Some(other) = other else { return };
         self.others
             .find_other(other, &self.pairs, &self.shown, count);
-    }
-
-    /// Returns whether the pair at a place has the same state by both releases, which both know.
-    #[inline(always)]
-    pub(crate) fn is_same(&self, place: usize) -> bool
-        requires within { place < BATCH }
-        requires number { IsNumber self.now.shown place }
-        requires other { IsNumber self.now.others place }
-        ensures { IsTrue result → AreSameStates self.now place }
-    {
-        let number = self.shown.numbers[place];
-        let other = self.others.numbers[place];
-        if number == UNKNOWN || other == UNKNOWN {
-            return false;
-        }
-        let text = self.shown.states.text(number);
-        text.is_same(self.others.states.text(other))
+        find_same(&self.shown, &self.others, count, &mut self.same);
     }
 
     /// Returns what the tables have of the pair at a place, which is this record.
@@ -219,6 +210,82 @@ fn no_states() -> [u16; BATCH]
     ensures { (i : ℕ) → i < BATCH → slice_index_or result i 0 ≡ UNKNOWN }
 {
     [UNKNOWN; BATCH]
+}
+
+/// Returns a column of pairs of which the two releases show different states.
+#[inline(always)]
+fn none_same() -> [bool; BATCH]
+    ensures { (i : ℕ) → i < BATCH → slice_index_or result i false ≡ false }
+{
+    [false; BATCH]
+}
+
+/// Finds of which pairs both releases show the same state. Two states that were found to be the same are
+/// kept by the number of the first, so that they are compared once.
+#[inline(never)]
+fn find_same(
+    shown: &PairStates<'_>,
+    others: &PairStates<'_>,
+    count: usize,
+    same: &mut [bool; BATCH],
+)
+    requires few { count ≤ BATCH }
+    requires numbers { (i : ℕ) → i < count → IsNumber shown.now i }
+    requires others { (i : ℕ) → i < count → IsNumber others.now i }
+    ensures { HaveSame shown.now others.now count same.new }
+{
+    let mut alike = [UNKNOWN; KEPT];
+    for i in 0..count {
+        same[i] = find_alike(shown, others, i, &mut alike);
+    }
+}
+
+/// Returns whether the pair at a place has the same state by both releases, as [`is_same`] does. `alike`
+/// has the numbers by the other release of states that are the same by both.
+#[inline(always)]
+fn find_alike(
+    shown: &PairStates<'_>,
+    others: &PairStates<'_>,
+    place: usize,
+    alike: &mut [u16; KEPT],
+) -> bool
+    requires within { place < BATCH }
+    requires number { IsNumber shown.now place }
+    requires other { IsNumber others.now place }
+    requires alike { AreAlike shown.now others.now alike.old }
+    ensures same { IsTrue result → AreSameStates shown.now others.now place }
+    ensures alike { AreAlike shown.now others.now alike.new }
+{
+    let number = shown.numbers[place];
+    let other = others.numbers[place];
+    let first = number as usize;
+    if number == UNKNOWN || other == UNKNOWN || KEPT <= first {
+        return is_same(shown, others, place);
+    }
+    if alike[first] == other {
+        return true;
+    }
+    if !is_same(shown, others, place) {
+        return false;
+    }
+    alike[first] = other;
+    true
+}
+
+/// Returns whether the pair at a place has the same state by both releases, which both know.
+fn is_same(shown: &PairStates<'_>, others: &PairStates<'_>, place: usize) -> bool
+    requires within { place < BATCH }
+    requires number { IsNumber shown.now place }
+    requires other { IsNumber others.now place }
+    ensures { IsTrue result → AreSameStates shown.now others.now place }
+{
+    let number = shown.numbers[place];
+    let other = others.numbers[place];
+    if number == UNKNOWN || other == UNKNOWN {
+        return false;
+    }
+    let text = shown.states.text(number);
+    text.is_same(others.states.text(other))
 }
 
 /// Returns whether the rows of a layout are those of pairs.

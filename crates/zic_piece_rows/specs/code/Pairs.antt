@@ -1,5 +1,5 @@
 -- Plain pairs of a piece, column by column.
-use Rattle.std.specs.Prelude.{◌≡◌, ◌≢◌, ◌<◌, ◌≤◌, ◌+◌, ℕ, List, Option, true, IfSome, Some, map, slice_get, slice_index_or, take}
+use Rattle.std.specs.Prelude.{◌≡◌, ◌≢◌, ◌<◌, ◌≤◌, ◌+◌, ℕ, Bool, List, Option, true, false, IfSome, IsSome, Some, map, slice_get, slice_index_or, take}
 use Rattle.zic_columns.specs.Own.{CsvRecord}
 use Rattle.zic_columns.specs.declared.splits.TheConstants.{BATCH}
 use Rattle.zic_base.specs.State.{Shown}
@@ -19,7 +19,7 @@ use Rattle.zic_piece_rows.specs.declared.pair_rows.Form.{Form}
 use Rattle.zic_piece_rows.specs.declared.pairs.PairBatch.{PairBatch}
 use Rattle.zic_piece_rows.specs.declared.pairs.PairStates.{PairStates}
 use Rattle.zic_piece_rows.specs.declared.pairs.Pairs.{Pairs}
-use Rattle.zic_piece_rows.specs.declared.pairs.TheConstants.{NO_FILE}
+use Rattle.zic_piece_rows.specs.declared.pairs.TheConstants.{KEPT, NO_FILE}
 use Rattle.zic_piece_rows.specs.declared.piece.Piece.{Piece}
 
 -- a record of this layout has a zone's name and an instant in decimals, and may have no other field
@@ -95,10 +95,19 @@ abbrev pub IsNumber : PairStates → ℕ → Type 0
 IsNumber shown place = HasState shown.states.states (slice_index_or shown.numbers place 0) (λ state. Unit {0})
 
 -- both releases show the same state of the pair at a place, and both tables have it
-pub record AreSameStates (batch : PairBatch) (place : ℕ) : Type 0 where
-  pub known : slice_index_or batch.shown.numbers place 0 ≢ UNKNOWN
-  pub other : slice_index_or batch.others.numbers place 0 ≢ UNKNOWN
-  pub same : slice_get batch.shown.states.states (slice_index_or batch.shown.numbers place 0) ≡ slice_get batch.others.states.states (slice_index_or batch.others.numbers place 0)
+pub record AreSameStates (shown others : PairStates) (place : ℕ) : Type 0 where
+  pub known : slice_index_or shown.numbers place 0 ≢ UNKNOWN
+  pub other : slice_index_or others.numbers place 0 ≢ UNKNOWN
+  pub same : slice_get shown.states.states (slice_index_or shown.numbers place 0) ≡ slice_get others.states.states (slice_index_or others.numbers place 0)
+
+-- the same for the first pairs, where the column says so
+abbrev pub HaveSame : PairStates → PairStates → ℕ → List Bool → Type 0
+HaveSame shown others count same = (i : ℕ) → i < count → slice_index_or same i false ≡ true → AreSameStates shown others i
+
+-- the states with these numbers by the other release, where they are known, are the first ones by the first release
+abbrev pub AreAlike : PairStates → PairStates → List ℕ → Type 0
+AreAlike shown others alike =
+    (i : ℕ) → i < KEPT → slice_index_or alike i 0 ≢ UNKNOWN → slice_get shown.states.states i ≡ slice_get others.states.states (slice_index_or alike i 0)
 
 -- where the state of a pair is known, there may be a row of this number
 abbrev pub IfRow : ℕ → ℕ → ℕ → Type 0
@@ -109,6 +118,7 @@ pub record ArePairColumns (piece : Piece) (other : Option Piece) (number count :
   pub pairs : ArePairs piece count batch.pairs.places
   pub states : HaveState piece count batch.pairs batch.shown
   pub others : IfSome other (λ o. HaveState o count batch.pairs batch.others)
+  pub same : IsSome other → HaveSame batch.shown batch.others count batch.same
   pub may : (i : ℕ) → i < count → IfRow piece.most (number + i) (slice_index_or batch.shown.numbers i 0)
 
 -- what they have of the pair at a place, which is the row of this number
@@ -118,6 +128,7 @@ pub record IsPairAt (piece : Piece) (other : Option Piece) (number : ℕ) (batch
   pub pair : IsPlainPair piece (pair_in batch.pairs.places place)
   pub state : IfStateAt piece batch.pairs batch.shown place
   pub others : IfSome other (λ o. IfStateAt o batch.pairs batch.others place)
+  pub same : IsSome other → slice_index_or batch.same place false ≡ true → AreSameStates batch.shown batch.others place
   pub may : IfRow piece.most number (slice_index_or batch.shown.numbers place 0)
 
 -- the form of the rows of a layout

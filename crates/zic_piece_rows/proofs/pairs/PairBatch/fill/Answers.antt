@@ -1,4 +1,4 @@
-use Rattle.std.proofs.Common.{◌≡◌, ◌<◌, ℕ, List, Option, None, Some, arith}
+use Rattle.std.proofs.Common.{◌≡◌, ◌<◌, ◌∙◌, ℕ, List, Option, None, Some, arith, sym}
 use Rattle.std.specs.Prelude.{IfSome, slice_index_or}
 use Rattle.zic_base.specs.State.{Shown}
 use Rattle.zic_zones.specs.declared.slot.TheConstants.{UNKNOWN}
@@ -18,9 +18,17 @@ pub returns-then-piece-number-clause-columns : goal.returns-then-piece-number-cl
 returns-then-piece-number-clause-columns c =
     let none = c.no_states-self.ensures in
     let others = c.no_states-self-then-piece-number.ensures in
+    let alike = c.none_same-self.ensures in
     record {
       pairs = c.requires.pairs;
       states = λ i lt known. absurd (known (none i (omega (arith, lt, c.requires.pairs.few))));
       others = none_known c.args.count _ _ _ _ (λ i lt. others i (omega (arith, lt, c.requires.pairs.few))) c.args.other.now;
+      same = λ some i lt is. absurd (cc (sym (alike i (omega (arith, lt, c.requires.pairs.few))) ∙ is));
       may = λ i lt known. absurd (known (none i (omega (arith, lt, c.requires.pairs.few))));
     }
+
+pub find_same-requires-clause-numbers : goal.find_same-requires-clause-numbers
+find_same-requires-clause-numbers c = λ i lt known. let (state, got, is) = c.find.ensures i lt known in (state, got, tt)
+
+pub find_same-requires-clause-others : goal.find_same-requires-clause-others
+find_same-requires-clause-others c = λ i lt known. let (state, got, is) = c.find_other.ensures i lt known in (state, got, tt)

@@ -1,5 +1,5 @@
 use Rattle.std.proofs.Common.{◌∙◌, Some, ap, sym}
-use Rattle.zic_piece_rows.proofs.pairs.PairBatch.is_same.Goals as goal
+use Rattle.zic_piece_rows.proofs.pairs.is_same.Goals as goal
 
 pub returns : goal.returns
 returns c = λ same. record {
