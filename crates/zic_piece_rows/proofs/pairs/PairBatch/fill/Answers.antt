@@ -5,7 +5,6 @@ use Rattle.zic_zones.specs.declared.slot.TheConstants.{UNKNOWN}
 use Rattle.zic_piece_rows.specs.code.Pairs.{HaveNumber}
 use Rattle.zic_piece_rows.specs.declared.pairs.Pairs.{Pairs}
 use Rattle.zic_piece_rows.specs.declared.piece.Piece.{Piece}
-use Rattle.zic_piece_rows.proofs.PlainPairs.{pairs_other, times_other}
 use Rattle.zic_piece_rows.proofs.pairs.PairBatch.fill.Goals as goal
 
 -- no state is known
