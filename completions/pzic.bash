@@ -35,7 +35,7 @@ _pzic() {
     check) options='--workers --zone-piece --explain --help' ;;
     build) options='--links --sync --release --tables --workers --zone-piece --explain --help' ;;
     verify) options='--strict --release --tables --workers --zone-piece --explain --help' ;;
-    diff) options='--trees --from --to --ignore --summary --now --style --status --show-release --workers --zone-piece --explain --help' ;;
+    diff) options='--trees --from --to --ignore --summary --now --style --group-links --status --show-release --workers --zone-piece --explain --help' ;;
     convert) options='--tree --against --against-tree --workers --zone-piece --row-piece --max-rows --max-bytes --max-record --header --skip-header --prefix --zone --zone-field --time-field --delimiter --unit --from --ambiguous --style --records --quotes --append --keep-going --faults --faults-with --rejects --max-faults --progress --show-release --explain --help' ;;
     show) options='--local --next --weekdays --disambiguation --explain --help' ;;
     dump) options='--from --to --explain --help' ;;

@@ -2,7 +2,8 @@
 # Compares what `diff` lists for two sources with the spans at which zoneinfo over their trees differs, both
 # ways: the release, and the same with other rules, abbreviations and names; and small random sources. No
 # source differs from itself. Compares
-# what `diff --summary` lists with such spans up to 500 years after the last transitions.
+# what `diff --summary` lists with such spans up to 500 years after the last transitions, and what
+# `--group-links` lists with the lines of each name and the bytes of its files.
 # Needs: tzdata
 set -euo pipefail
 cd "$(dirname "${BASH_SOURCE[0]}")/../.."
@@ -12,6 +13,7 @@ program=$PWD/crates/zic_main/out/zic_main
 witness=$PWD/tests/outside/differences.py
 summaries=$PWD/tests/outside/summaries.py
 pairs=$PWD/tests/outside/pairs.py
+groups=$PWD/tests/outside/groups.py
 cp "$release" "$work/old"
 cd "$work"
 changed >new
@@ -100,6 +102,16 @@ cmp <("$program" diff --trees old.tree new.tree | sort) <("$program" diff old ne
 cmp <("$program" diff --summary --trees --now 0 old.tree new.tree | sort) <("$program" diff --summary --now 0 old new | sort)
 "$program" diff --trees old.tree old.tree | cmp - /dev/null
 "$program" verify --strict old.tree old
+# names that share lines, of a release whose links have other targets
+sed 's/^L Europe\/London GB$/L Europe\/Paris GB/' new >relinked
+"$program" build relinked.tree relinked
+for options in '' --summary; do
+    # shellcheck disable=SC2086
+    "$program" diff --trees $options old.tree relinked.tree >apart
+    # shellcheck disable=SC2086
+    "$program" diff --trees $options --group-links old.tree relinked.tree >together
+    echo "diff, links together: $(python3 "$groups" old.tree relinked.tree apart together)"
+done
 for workers in 1 2 64; do
     "$program" diff --workers "$workers" old new | cmp - <("$program" diff old new)
 done

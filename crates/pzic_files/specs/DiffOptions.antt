@@ -2,6 +2,7 @@
 use Rattle.std.specs.Prelude.{◌≡◌, ℕ, Bool, true, false}
 use Rattle.zic_compare.specs.Files.{HasInstants}
 use Rattle.zic_compare.specs.declared.sides.Compared.{Compared}
+use Rattle.zic_compare.specs.declared.sides.Grouping.TheVariants as groupings
 use Rattle.zic_compare.specs.declared.sides.Listed.{Listed}
 use Rattle.zic_compare.specs.declared.sides.Listed.TheVariants as listed
 use Rattle.zic_compare.specs.declared.sides.Style.TheVariants as styles
@@ -18,12 +19,15 @@ pub record IsComparedBy (given : DiffOptions) (compared : Compared) : Type 0 whe
   pub daylight : given.ignore_daylight ≡ ignore_number compared.daylight
   pub abbreviation : given.ignore_abbreviation ≡ ignore_number compared.abbreviation
 
--- what is listed: by 0 spans, from the first instant to the last, and by 1 summaries, from the first instant on; instants are counts
+-- what is listed: by 0 spans, from the first instant to the last, and by 1 summaries, from the first instant on; instants are counts, and
+-- each name has lines of its own
 abbrev pub HasNumbers : DiffOptions → Listed → Type 0
 HasNumbers given (listed.Spans how) =
-    (given.listed ≡ 0) × IsComparedBy given how.compared × (how.style ≡ styles.Count) × (how.bounds ≡ instants given.first given.last)
+    (given.listed ≡ 0) × IsComparedBy given how.compared × (how.style ≡ styles.Count) × (how.grouping ≡ groupings.Apart)
+    × (how.bounds ≡ instants given.first given.last)
 HasNumbers given (listed.Summaries survey) =
-    (given.listed ≡ 1) × IsComparedBy given survey.compared × (survey.style ≡ styles.Count) × (survey.since ≡ given.first) × (survey.present ≡ given.present)
+    (given.listed ≡ 1) × IsComparedBy given survey.compared × (survey.style ≡ styles.Count) × (survey.grouping ≡ groupings.Apart)
+    × (survey.since ≡ given.first) × (survey.present ≡ given.present)
 
 -- The options say this of what is listed, and the last instant of spans isn't before the first.
 pub record IsListedBy (given : DiffOptions) (how : Listed) : Type 0 where

@@ -3,7 +3,7 @@
 ghost use Rattle.std.specs.Prelude.{◌≡◌, Bool, MatchOption};
 ghost use Rattle.pzic_files.specs.DiffOptions.{HasNoListing, IsComparedBy, IsListedBy, ignore_number};
 
-use zic_compare::{Compared, Comparison, Listed, Style, Survey};
+use zic_compare::{Compared, Comparison, Grouping, Listed, Style, Survey};
 use zic_tzif::Instants;
 
 /// What is listed of the names of two lists of files, by numbers.
@@ -62,11 +62,13 @@ pub(crate) fn listed_of(given: &DiffOptions) -> Option<Listed>
         0 if given.first <= given.last => Some(Listed::Spans(Comparison {
             compared,
             style: Style::Count,
+            grouping: Grouping::Apart,
             bounds,
         })),
         1 => Some(Listed::Summaries(Survey {
             compared,
             style: Style::Count,
+            grouping: Grouping::Apart,
             since: given.first,
             present: given.present,
         })),

@@ -15,7 +15,7 @@ use std::alloc::{AllocError, Global};
 use std::env::Args;
 use std::rt::Env;
 use std::{env, io};
-use zic_compare::{Compared, Style};
+use zic_compare::{Compared, Grouping, Style};
 use zic_dump::Years;
 use zic_explain::shown_word;
 use zic_io::FaultFields;
@@ -101,6 +101,8 @@ pub enum Request {
         compared: Compared,
         /// How instants are written.
         style: Style,
+        /// Which names have lines of their own.
+        grouping: Grouping,
         /// Whether the releases of both are printed.
         shows_release: bool,
         /// Whether the status tells that something differs.

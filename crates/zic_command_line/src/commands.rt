@@ -192,6 +192,11 @@ static DIFF: [Word; 14] = [
         form: Form::INSTANTS,
     },
     Word {
+        name: "group-links",
+        help: "The links of a zone share its lines",
+        form: Form::Flag,
+    },
+    Word {
         name: "status",
         help: "The status is 1 if anything differs",
         form: Form::Flag,

@@ -8,7 +8,7 @@ use crate::values::{given, is_given, plan, texts, word, years};
 use clap::ArgMatches;
 use std::alloc::Global;
 use zic_base::STANDARD_INPUT;
-use zic_compare::{Compared, Style};
+use zic_compare::{Compared, Grouping, Style};
 use zic_dump::Years;
 
 pub(crate) fn check(alloc: Global, matches: &ArgMatches<'_>) -> Result<Request, NoRequest> {
@@ -82,6 +82,7 @@ pub(crate) fn diff(alloc: Global, matches: &ArgMatches<'_>) -> Result<Request, N
         differences,
         compared,
         style: style(alloc, matches)?,
+        grouping: grouping(matches),
         shows_release: matches.get_flag("show-release"),
         tells_status: matches.get_flag("status"),
     })
@@ -143,6 +144,15 @@ fn style(alloc: Global, matches: &ArgMatches<'_>) -> Result<Style, NoRequest> {
         Some("count") => Ok(Style::Count),
         Some("iso") => Ok(Style::Iso),
         _ => Err(usage(alloc, "--style is count or iso")),
+    }
+}
+
+/// Returns which names have lines of their own.
+fn grouping(matches: &ArgMatches<'_>) -> Grouping {
+    if matches.get_flag("group-links") {
+        Grouping::Together
+    } else {
+        Grouping::Apart
     }
 }
 

@@ -1,6 +1,6 @@
 -- The lines of the files so far.
 use Rattle.std.proofs.Common.{◌≢◌, true, All, Option, Some, None, Any, ◌≡◌, ℕ, ◌+◌, ◌-◌, ◌<◌, ◌≤◌, inl, inr, List, [], ◌∷◌, ◌++◌, length, take, drop, slice_range, refl, sym, ap, subst, ◌∙◌, arith, append-nil}
-use Rattle.std.specs.Prelude.{Contains, IfSome, IsSomeAnd, is_some, slice_get}
+use Rattle.std.specs.Prelude.{Contains, IfSome, IsSomeAnd, MatchOption, is_some, slice_get}
 use Rattle.std.specs.List.{AllZip, flat_map}
 use Rattle.std.proofs.lemmas.Grind.{flat_map-append}
 use Rattle.std.proofs.Math.Seq.{take-add}
@@ -8,7 +8,8 @@ use Rattle.std.proofs.lemmas.List.{drop-drop, drop_more, take_all}
 use Rattle.std.proofs.lemmas.Option.{get_or_from_slice_get, slice_get_within}
 use Rattle.zic_base.proofs.Elements.{contains_got, got}
 use Rattle.zic_base.proofs.Options.{if_at, some_of}
-use Rattle.zic_compare.specs.Files.{AreLinesOfBoth, AreLinesOfNew, AreLinesOfOld, IsDiff, IsLineOfNew, IsLineOfOld, names_of}
+use Rattle.zic_compare.specs.Files.{AreLinesOfBoth, AreLinesOfNew, AreLinesOfOld, AreLinesOfOldUnder, IsDiff, IsLineOfNew, IsLineOfOld, grouping_of, names_of}
+use Rattle.zic_compare.specs.Groups.{zone_field}
 use Rattle.zic_compare.specs.Lines.{AreLinesOfAll}
 use Rattle.zic_compare.specs.Refused.{RefusedNames, refused_lines}
 use Rattle.zic_compare.specs.Text.{with_names}
@@ -32,7 +33,7 @@ joined_more texts text =
     flat_map-append (λ (l : List ℕ). l) texts (text ∷ []) ∙ ap (λ (l : List ℕ). flat_map (λ (l : List ℕ). l) texts ++ l) (append-nil text)
 
 -- a part of the files, and one more
-part_more : (files : List File) (first i : ℕ) (file : File) → first ≤ i → slice_get files i ≡ Some file → slice_range files first (i + 1) ≡ slice_range files first i ++ file ∷ []
+pub part_more : (files : List File) (first i : ℕ) (file : File) → first ≤ i → slice_get files i ≡ Some file → slice_range files first (i + 1) ≡ slice_range files first i ++ file ∷ []
 part_more files first i file low at =
     let within : i < length files = slice_get_within files i file at in
     let sum : i + 1 - first ≡ (i - first) + 1 = omega arith in
@@ -71,8 +72,8 @@ lines_of_whole Q files lines are =
     subst (λ (fs : List File). AreLinesOfAll Q fs lines) (take_all (length files - 0) files all) are
 
 -- the text of both
-pub diff_of_both : (how : Listed) (old new : List File) (refused : RefusedNames) (of_old of_new text : List ℕ) → AreLinesOfAll (AreLinesOfOld how new) old of_old
-    → AreLinesOfAll (AreLinesOfNew how old) new of_new → text ≡ with_names (names_of how) ((of_old ++ of_new) ++ refused_lines how refused) → IsDiff how old new refused text
+pub diff_of_both : (how : Listed) (old new : List File) (refused : RefusedNames) (of_old of_new text : List ℕ) → AreLinesOfAll (AreLinesOfOld how old new) old of_old
+    → AreLinesOfAll (AreLinesOfNew how old new) new of_new → text ≡ with_names (names_of how) ((of_old ++ of_new) ++ refused_lines how refused) → IsDiff how old new refused text
 diff_of_both how old new refused of_old of_new text are_old are_new is = record {
   of_old = are_old.of_each;
   each_old = are_old.each;
@@ -107,77 +108,110 @@ other_of files i name found =
     let (file, at, named) = some_of (slice_get files i) (λ (f : File). f.name ≡ name) found in
     (file, at, contains_got files i file at, named)
 
+-- nothing is there under any first field, and without one
+nothing_under : (Q : List ℕ → Type 0) (field : Option (List ℕ)) → ((zone : List ℕ) → Q zone) → MatchOption field (([] : List ℕ) ≡ []) Q
+nothing_under Q None under = refl
+nothing_under Q (Some zone) under = under zone
+
 -- a new file whose name an old one has
 pub has_name : (how : Listed) (old new : List File) (i : ℕ) (name lines : List ℕ) (found : Option ℕ) → IfSome (slice_get new i) (λ file. name ≡ file.name)
     → IfSome found (λ k. IsSomeAnd (slice_get old k) (λ file. file.name ≡ name)) → is_some found ≡ true
-    → IfSome (slice_get new i) (λ file. (more : List ℕ) × AreLinesOfNew how old file more × (lines ≡ lines ++ more))
+    → IfSome (slice_get new i) (λ file. (more : List ℕ) × AreLinesOfNew how old new file more × (lines ≡ lines ++ more))
 has_name how old new i name lines None named found some = absurd cc
 has_name how old new i name lines (Some k) named found some =
-    file_at new i (λ file. (more : List ℕ) × AreLinesOfNew how old file more × (lines ≡ lines ++ more))
+    file_at new i (λ file. (more : List ℕ) × AreLinesOfNew how old new file more × (lines ≡ lines ++ more))
     (λ file at.
     let same = if_at (slice_get new i) (λ (f : File). name ≡ f.name) file named at in
     ([], inl (subst (λ (n : List ℕ). Any (λ (f : File). f.name ≡ n) old) same (any_of old k name found), refl), same_text lines))
 
--- and one whose name none has
-pub lone_new : (how : Listed) (old new : List File) (i : ℕ) (name lines next : List ℕ) (content : Content) → IfSome (slice_get new i) (λ file. name ≡ file.name)
+-- one whose name none has
+pub lone_new : (how : Listed) (old new : List File) (i : ℕ) (name field lines next : List ℕ) (content : Content) → IfSome (slice_get new i) (λ file. name ≡ file.name)
     → IfSome (slice_get new i) (λ file. content ≡ file.image.content) → All (λ (file : File). file.name ≢ name) old
-    → (more : List ℕ) × IsLineOfNew how name content more × (next ≡ lines ++ more)
-    → IfSome (slice_get new i) (λ file. (more : List ℕ) × AreLinesOfNew how old file more × (next ≡ lines ++ more))
-lone_new how old new i name lines next content named of none (more, is, pushed) =
-    file_at new i (λ file. (more : List ℕ) × AreLinesOfNew how old file more × (next ≡ lines ++ more))
+    → IfSome (slice_get new i) (λ file. Some field ≡ zone_field (grouping_of how) new old file) → (more : List ℕ) × IsLineOfNew how field content more × (next ≡ lines ++ more)
+    → IfSome (slice_get new i) (λ file. (more : List ℕ) × AreLinesOfNew how old new file more × (next ≡ lines ++ more))
+lone_new how old new i name field lines next content named of none under (more, is, pushed) =
+    file_at new i (λ file. (more : List ℕ) × AreLinesOfNew how old new file more × (next ≡ lines ++ more))
     (λ file at.
     let same = if_at (slice_get new i) (λ (f : File). name ≡ f.name) file named at in
     let content_is = if_at (slice_get new i) (λ (f : File). content ≡ f.image.content) file of at in
-    let by_name = subst (λ (n : List ℕ). IsLineOfNew how n content more) same is in
+    let field_is = if_at (slice_get new i) (λ (f : File). Some field ≡ zone_field (grouping_of how) new old f) file under at in
     let absent = subst (λ (n : List ℕ). All (λ (f : File). f.name ≢ n) old) same none in
-    (more, inr (absent, subst (λ (c : Content). IsLineOfNew how file.name c more) content_is by_name), pushed))
+    let by_file = subst (λ (c : Content). IsLineOfNew how field c more) content_is is in
+    (more, inr (absent, subst (λ (z : Option (List ℕ)). MatchOption z (more ≡ []) (λ zone. IsLineOfNew how zone file.image.content more)) field_is by_file), pushed))
 
--- an old file whose name no new one has
-pub lone_old : (how : Listed) (old new : List File) (i : ℕ) (name lines next : List ℕ) (content : Content) → IfSome (slice_get old i) (λ file. name ≡ file.name)
-    → IfSome (slice_get old i) (λ file. content ≡ file.image.content) → All (λ (file : File). file.name ≢ name) new
-    → (more : List ℕ) × IsLineOfOld how name content more × (next ≡ lines ++ more)
-    → IfSome (slice_get old i) (λ file. (more : List ℕ) × AreLinesOfOld how new file more × (next ≡ lines ++ more))
-lone_old how old new i name lines next content named of none (more, is, pushed) =
-    file_at old i (λ file. (more : List ℕ) × AreLinesOfOld how new file more × (next ≡ lines ++ more))
+-- and one that shares the line of another
+pub shared_new : (how : Listed) (old new : List File) (i : ℕ) (name lines : List ℕ) → IfSome (slice_get new i) (λ file. name ≡ file.name)
+    → All (λ (file : File). file.name ≢ name) old → IfSome (slice_get new i) (λ file. None ≡ zone_field (grouping_of how) new old file)
+    → IfSome (slice_get new i) (λ file. (more : List ℕ) × AreLinesOfNew how old new file more × (lines ≡ lines ++ more))
+shared_new how old new i name lines named none under =
+    file_at new i (λ file. (more : List ℕ) × AreLinesOfNew how old new file more × (lines ≡ lines ++ more))
     (λ file at.
-    let same = if_at (slice_get old i) (λ (f : File). name ≡ f.name) file named at in
-    let content_is = if_at (slice_get old i) (λ (f : File). content ≡ f.image.content) file of at in
-    let by_name = subst (λ (n : List ℕ). IsLineOfOld how n content more) same is in
-    let absent = subst (λ (n : List ℕ). All (λ (f : File). f.name ≢ n) new) same none in
-    (more, inr (absent, subst (λ (c : Content). IsLineOfOld how file.name c more) content_is by_name), pushed))
+    let same = if_at (slice_get new i) (λ (f : File). name ≡ f.name) file named at in
+    let field_is = if_at (slice_get new i) (λ (f : File). None ≡ zone_field (grouping_of how) new old f) file under at in
+    let absent = subst (λ (n : List ℕ). All (λ (f : File). f.name ≢ n) old) same none in
+    ([], inr (absent, subst (λ (z : Option (List ℕ)). MatchOption z (([] : List ℕ) ≡ []) (λ zone. IsLineOfNew how zone file.image.content [])) field_is refl), same_text lines))
 
--- an old file and the new one of its name
-pub both_files : (how : Listed) (old new : List File) (i k : ℕ) (name lines next more : List ℕ) (one other : Content) → IfSome (slice_get old i) (λ file. name ≡ file.name)
-    → IfSome (slice_get old i) (λ file. one ≡ file.image.content) → IsSomeAnd (slice_get new k) (λ file. file.name ≡ name)
-    → IfSome (slice_get new k) (λ file. other ≡ file.image.content) → AreLinesOfBoth how name one other more → next ≡ lines ++ more
-    → IfSome (slice_get old i) (λ file. (more : List ℕ) × AreLinesOfOld how new file more × (next ≡ lines ++ more))
-both_files how old new i k name lines next more one other named of found of_other are pushed =
-    file_at old i (λ file. (more : List ℕ) × AreLinesOfOld how new file more × (next ≡ lines ++ more))
-    (λ file at.
-    let same = if_at (slice_get old i) (λ (f : File). name ≡ f.name) file named at in
-    let one_is = if_at (slice_get old i) (λ (f : File). one ≡ f.image.content) file of at in
-    let (match, at_match, among, match_named) = other_of new k name found in
-    let other_is = if_at (slice_get new k) (λ (f : File). other ≡ f.image.content) match of_other at_match in
-    let by_name = subst (λ (n : List ℕ). AreLinesOfBoth how n one other more) same are in
-    let by_old = subst (λ (c : Content). AreLinesOfBoth how file.name c other more) one_is by_name in
-    (more, inl (match, among, match_named ∙ same, subst (λ (c : Content). AreLinesOfBoth how file.name file.image.content c more) other_is by_old), pushed))
+module _ (how : Listed) (old new : List File) (i : ℕ) where
+  -- the lines of an old file with a first field
+  with_field : (file : File) (field more : List ℕ) → slice_get old i ≡ Some file → IfSome (slice_get old i) (λ file. Some field ≡ zone_field (grouping_of how) old new file)
+      → AreLinesOfOldUnder how new file more field → AreLinesOfOld how old new file more
+  with_field file field more at under are =
+      subst (λ (z : Option (List ℕ)). MatchOption z (more ≡ []) (AreLinesOfOldUnder how new file more))
+      (if_at (slice_get old i) (λ (f : File). Some field ≡ zone_field (grouping_of how) old new f) file under at) are
 
--- of files with the same bytes
-pub same_files : FilesSayOne → (how : Listed) (old new : List File) (i k : ℕ) (name a b lines : List ℕ) → IfSome (slice_get old i) (λ file. name ≡ file.name)
-    → IfSome (slice_get old i) (λ file. a ≡ file.image.octets) → IfSome (slice_get old i) (λ file. IsFile file.image.octets file.image.content)
-    → IsSomeAnd (slice_get new k) (λ file. file.name ≡ name) → IfSome (slice_get new k) (λ file. b ≡ file.image.octets)
-    → IfSome (slice_get new k) (λ file. IsFile file.image.octets file.image.content) → a ≡ b
-    → IfSome (slice_get old i) (λ file. (more : List ℕ) × AreLinesOfOld how new file more × (lines ≡ lines ++ more))
-same_files one how old new i k name a b lines named of is_file found of_other is_other same =
-    file_at old i (λ file. (more : List ℕ) × AreLinesOfOld how new file more × (lines ≡ lines ++ more))
-    (λ file at.
-    let name_is = if_at (slice_get old i) (λ (f : File). name ≡ f.name) file named at in
-    let a_is = if_at (slice_get old i) (λ (f : File). a ≡ f.image.octets) file of at in
-    let reads = if_at (slice_get old i) (λ (f : File). IsFile f.image.octets f.image.content) file is_file at in
-    let (match, at_match, among, match_named) = other_of new k name found in
-    let b_is = if_at (slice_get new k) (λ (f : File). b ≡ f.image.octets) match of_other at_match in
-    let right = if_at (slice_get new k) (λ (f : File). IsFile f.image.octets f.image.content) match is_other at_match in (
-      [],
-      inl (match, among, match_named ∙ name_is, same_bytes one how file.name file.image.octets match.image.octets file.image.content match.image.content reads right (sym a_is ∙ same ∙ b_is)),
-      same_text lines,
-    ))
+  -- an old file that shares those of another
+  pub shared_old : (lines : List ℕ) → IfSome (slice_get old i) (λ file. None ≡ zone_field (grouping_of how) old new file)
+      → IfSome (slice_get old i) (λ file. (more : List ℕ) × AreLinesOfOld how old new file more × (lines ≡ lines ++ more))
+  shared_old lines under =
+      file_at old i (λ file. (more : List ℕ) × AreLinesOfOld how old new file more × (lines ≡ lines ++ more))
+      (λ file at.
+      let field_is = if_at (slice_get old i) (λ (f : File). None ≡ zone_field (grouping_of how) old new f) file under at in
+      ([], subst (λ (z : Option (List ℕ)). MatchOption z (([] : List ℕ) ≡ []) (AreLinesOfOldUnder how new file [])) field_is refl, same_text lines))
+
+  -- one whose name no new one has
+  pub lone_old : (name field lines next : List ℕ) (content : Content) → IfSome (slice_get old i) (λ file. name ≡ file.name)
+      → IfSome (slice_get old i) (λ file. content ≡ file.image.content) → All (λ (file : File). file.name ≢ name) new
+      → IfSome (slice_get old i) (λ file. Some field ≡ zone_field (grouping_of how) old new file) → (more : List ℕ) × IsLineOfOld how field content more × (next ≡ lines ++ more)
+      → IfSome (slice_get old i) (λ file. (more : List ℕ) × AreLinesOfOld how old new file more × (next ≡ lines ++ more))
+  lone_old name field lines next content named of none under (more, is, pushed) =
+      file_at old i (λ file. (more : List ℕ) × AreLinesOfOld how old new file more × (next ≡ lines ++ more))
+      (λ file at.
+      let same = if_at (slice_get old i) (λ (f : File). name ≡ f.name) file named at in
+      let content_is = if_at (slice_get old i) (λ (f : File). content ≡ f.image.content) file of at in
+      let absent = subst (λ (n : List ℕ). All (λ (f : File). f.name ≢ n) new) same none in
+      (more, with_field file field more at under (inr (absent, subst (λ (c : Content). IsLineOfOld how field c more) content_is is)), pushed))
+
+  -- one and the new one of its name
+  pub both_files : (k : ℕ) (name field lines next more : List ℕ) (one other : Content) → IfSome (slice_get old i) (λ file. name ≡ file.name)
+      → IfSome (slice_get old i) (λ file. one ≡ file.image.content) → IsSomeAnd (slice_get new k) (λ file. file.name ≡ name)
+      → IfSome (slice_get new k) (λ file. other ≡ file.image.content) → IfSome (slice_get old i) (λ file. Some field ≡ zone_field (grouping_of how) old new file)
+      → AreLinesOfBoth how field one other more → next ≡ lines ++ more
+      → IfSome (slice_get old i) (λ file. (more : List ℕ) × AreLinesOfOld how old new file more × (next ≡ lines ++ more))
+  both_files k name field lines next more one other named of found of_other under are pushed =
+      file_at old i (λ file. (more : List ℕ) × AreLinesOfOld how old new file more × (next ≡ lines ++ more))
+      (λ file at.
+      let same = if_at (slice_get old i) (λ (f : File). name ≡ f.name) file named at in
+      let one_is = if_at (slice_get old i) (λ (f : File). one ≡ f.image.content) file of at in
+      let (match, at_match, among, match_named) = other_of new k name found in
+      let other_is = if_at (slice_get new k) (λ (f : File). other ≡ f.image.content) match of_other at_match in
+      let by_old = subst (λ (c : Content). AreLinesOfBoth how field c other more) one_is are in
+      let by_both = subst (λ (c : Content). AreLinesOfBoth how field file.image.content c more) other_is by_old in
+      (more, with_field file field more at under (inl (match, among, match_named ∙ same, by_both)), pushed))
+
+  -- of files with the same bytes
+  pub same_files : FilesSayOne → (k : ℕ) (name a b lines : List ℕ) → IfSome (slice_get old i) (λ file. name ≡ file.name)
+      → IfSome (slice_get old i) (λ file. a ≡ file.image.octets) → IfSome (slice_get old i) (λ file. IsFile file.image.octets file.image.content)
+      → IsSomeAnd (slice_get new k) (λ file. file.name ≡ name) → IfSome (slice_get new k) (λ file. b ≡ file.image.octets)
+      → IfSome (slice_get new k) (λ file. IsFile file.image.octets file.image.content) → a ≡ b
+      → IfSome (slice_get old i) (λ file. (more : List ℕ) × AreLinesOfOld how old new file more × (lines ≡ lines ++ more))
+  same_files one k name a b lines named of is_file found of_other is_other same =
+      file_at old i (λ file. (more : List ℕ) × AreLinesOfOld how old new file more × (lines ≡ lines ++ more))
+      (λ file at.
+      let name_is = if_at (slice_get old i) (λ (f : File). name ≡ f.name) file named at in
+      let a_is = if_at (slice_get old i) (λ (f : File). a ≡ f.image.octets) file of at in
+      let reads = if_at (slice_get old i) (λ (f : File). IsFile f.image.octets f.image.content) file is_file at in
+      let (match, at_match, among, match_named) = other_of new k name found in
+      let b_is = if_at (slice_get new k) (λ (f : File). b ≡ f.image.octets) match of_other at_match in
+      let right = if_at (slice_get new k) (λ (f : File). IsFile f.image.octets f.image.content) match is_other at_match in
+      let none = λ zone. inl (match, among, match_named ∙ name_is, same_bytes one how zone file.image.octets match.image.octets file.image.content match.image.content reads right (sym a_is ∙ same ∙ b_is)) in
+      ([], nothing_under (AreLinesOfOldUnder how new file []) (zone_field (grouping_of how) old new file) none, same_text lines))

@@ -1,6 +1,7 @@
 pub mod RunLemmas
 pub mod SameLemmas
 pub mod FilesLemmas
+pub mod GroupLemmas
 pub mod VerifyLemmas
 pub mod InstantLemmas
 pub mod LineLemmas

@@ -210,7 +210,7 @@ module _ {W : Type 0} (contents : W → Option (List ℕ)) where
       so_far = record {
         old_count = length old;
         of_old = one.lines;
-        are_old = subst (λ (fs : List File). AreLinesOfAll (AreLinesOfOld how new) fs one.lines) (sym (take_all (length old) old (omega arith))) one.are;
+        are_old = subst (λ (fs : List File). AreLinesOfAll (AreLinesOfOld how old new) fs one.lines) (sym (take_all (length old) old (omega arith))) one.are;
         new_count = ended.count;
         of_new = ended.lines;
         are_new = ended.are;
@@ -231,10 +231,10 @@ module _ {W : Type 0} (contents : W → Option (List ℕ)) where
       so_far = record {
         old_count = length old;
         of_old = one.lines;
-        are_old = subst (λ (fs : List File). AreLinesOfAll (AreLinesOfOld how new) fs one.lines) (sym (take_all (length old) old (omega arith))) one.are;
+        are_old = subst (λ (fs : List File). AreLinesOfAll (AreLinesOfOld how old new) fs one.lines) (sym (take_all (length old) old (omega arith))) one.are;
         new_count = length new;
         of_new = other.lines;
-        are_new = subst (λ (fs : List File). AreLinesOfAll (AreLinesOfNew how old) fs other.lines) (sym (take_all (length new) new (omega arith))) other.are;
+        are_new = subst (λ (fs : List File). AreLinesOfAll (AreLinesOfNew how old new) fs other.lines) (sym (take_all (length new) new (omega arith))) other.are;
         in_order = inr (omega arith);
         of_refused = refused_lines how refused;
         are_refused = inr (omega arith, omega arith, refl);
@@ -248,7 +248,7 @@ module _ {W : Type 0} (contents : W → Option (List ℕ)) where
     ended_refused a b c d left end stops.Memory one other same = ended_new a b d left stops.Memory one (record {
       count = length new;
       lines = other.lines;
-      are = subst (λ (fs : List File). AreLinesOfAll (AreLinesOfNew how old) fs other.lines) (sym (take_all (length new) new (omega arith))) other.are;
+      are = subst (λ (fs : List File). AreLinesOfAll (AreLinesOfNew how old new) fs other.lines) (sym (take_all (length new) new (omega arith))) other.are;
       ends = subst (λ (w : Counts W). Writes contents b w (with_names left other.lines)) (sym same) other.writes;
     })
     ended_refused a b c d left end stops.WriteFailed one other fails =

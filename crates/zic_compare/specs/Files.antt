@@ -1,15 +1,17 @@
 -- The text of `diff` for two lists of files: own choice.
-use Rattle.std.specs.Prelude.{◌≡◌, ◌≢◌, ◌⊎◌, ⊤, ℕ, ◌≤ℤ◌, codes, List, [], ◌++◌, Option, None, All, Any, Contains}
+use Rattle.std.specs.Prelude.{◌≡◌, ◌≢◌, ◌⊎◌, ⊤, ℕ, ◌≤ℤ◌, codes, List, [], ◌++◌, Option, None, All, Any, Contains, MatchOption}
 use Rattle.std.specs.List.{AllZip, flat_map}
 use Rattle.zic_base.specs.State.{Shown}
 use Rattle.zic_compare.specs.Answers.{pair, IsSeenAt}
 use Rattle.zic_compare.specs.Differences.{AreDifferences}
+use Rattle.zic_compare.specs.Groups.{zone_field}
 use Rattle.zic_compare.specs.Refused.{RefusedNames, refused_lines}
 use Rattle.zic_compare.specs.Summary.{AgreeFrom, IsSummary}
 use Rattle.zic_compare.specs.SummaryText.{lone_line, summary_line, summary_names_line}
 use Rattle.zic_compare.specs.Text.{line, names_line, span_line, with_names}
 use Rattle.zic_compare.specs.declared.sides.Comparison.{Comparison}
 use Rattle.zic_compare.specs.declared.difference.Difference.{Difference}
+use Rattle.zic_compare.specs.declared.sides.Grouping.{Grouping}
 use Rattle.zic_compare.specs.declared.sides.Listed.{Listed}
 use Rattle.zic_compare.specs.declared.sides.Listed.TheVariants as listed
 use Rattle.zic_compare.specs.declared.sides.Survey.{Survey}
@@ -26,6 +28,11 @@ HasInstants (listed.Summaries survey) = ⊤
 abbrev pub names_of : Listed → List ℕ
 names_of (listed.Spans how) = names_line
 names_of (listed.Summaries survey) = summary_names_line
+
+-- whether names share their lines
+abbrev pub grouping_of : Listed → Grouping
+grouping_of (listed.Spans how) = how.grouping
+grouping_of (listed.Summaries survey) = survey.grouping
 
 -- the lines of a name's spans: one for each longest span at which each of its two files gives one answer, and the two answers differ
 pub record AreSpanLines (how : Comparison) (name : List ℕ) (old new : Content) (lines : List ℕ) : Type 0 where
@@ -60,24 +67,28 @@ IsLineOfNew (listed.Summaries survey) name content lines = lines ≡ lone_line n
 abbrev pub HasNone : List File → List ℕ → Type 0
 HasNone files name = All (λ file. file.name ≢ name) files
 
--- the lines of an old file, by the new files
-abbrev pub AreLinesOfOld : Listed → List File → File → List ℕ → Type 0
-AreLinesOfOld how new file lines =
-    ((other : File) × Contains new other × (other.name ≡ file.name) × AreLinesOfBoth how file.name file.image.content other.image.content lines)
-    ⊎ (HasNone new file.name × IsLineOfOld how file.name file.image.content lines)
+-- the lines of an old file by the new files, with this first field
+abbrev pub AreLinesOfOldUnder : Listed → List File → File → List ℕ → List ℕ → Type 0
+AreLinesOfOldUnder how new file lines zone =
+    ((other : File) × Contains new other × (other.name ≡ file.name) × AreLinesOfBoth how zone file.image.content other.image.content lines)
+    ⊎ (HasNone new file.name × IsLineOfOld how zone file.image.content lines)
 
--- those of a new file, by the old ones: none where these have its name
-abbrev pub AreLinesOfNew : Listed → List File → File → List ℕ → Type 0
-AreLinesOfNew how old file lines =
+-- those of an old file: none where it shares those of an earlier one
+abbrev pub AreLinesOfOld : Listed → List File → List File → File → List ℕ → Type 0
+AreLinesOfOld how old new file lines = MatchOption (zone_field (grouping_of how) old new file) (lines ≡ []) (AreLinesOfOldUnder how new file lines)
+
+-- those of a new file: none where the old ones have its name, or it shares those of an earlier one
+abbrev pub AreLinesOfNew : Listed → List File → List File → File → List ℕ → Type 0
+AreLinesOfNew how old new file lines =
     (Any (λ other. other.name ≡ file.name) old × (lines ≡ []))
-    ⊎ (HasNone old file.name × IsLineOfNew how file.name file.image.content lines)
+    ⊎ (HasNone old file.name × MatchOption (zone_field (grouping_of how) new old file) (lines ≡ []) (λ zone. IsLineOfNew how zone file.image.content lines))
 
 -- The lines of all old files in their order, then those of the new files whose names they don't have, and then those of the files that are
 -- refused. Before the first line come the names of the fields; where there is no line, the text is empty.
 pub record IsDiff (how : Listed) (old new : List File) (refused : RefusedNames) (text : List ℕ) : Type 0 where
   pub of_old : List (List ℕ)
-  pub each_old : AllZip (AreLinesOfOld how new) old of_old
+  pub each_old : AllZip (AreLinesOfOld how old new) old of_old
   pub of_new : List (List ℕ)
-  pub each_new : AllZip (AreLinesOfNew how old) new of_new
+  pub each_new : AllZip (AreLinesOfNew how old new) new of_new
   pub is_text : text
       ≡ with_names (names_of how) ((flat_map (λ lines. lines) of_old ++ flat_map (λ lines. lines) of_new) ++ refused_lines how refused)

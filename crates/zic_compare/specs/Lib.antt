@@ -1,6 +1,7 @@
 pub mod Answers
 pub mod Differences
 pub mod Files
+pub mod Groups
 pub mod InstantText
 pub mod Lines
 pub mod Laws

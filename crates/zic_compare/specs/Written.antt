@@ -16,10 +16,10 @@ use Rattle.zic_files.specs.File.{File}
 pub record IsDiffSoFar (how : Listed) (old new : List File) (refused : RefusedNames) (text : List ℕ) : Type 0 where
   pub old_count : ℕ
   pub of_old : List ℕ
-  pub are_old : AreLinesOfAll (AreLinesOfOld how new) (take old_count old) of_old
+  pub are_old : AreLinesOfAll (AreLinesOfOld how old new) (take old_count old) of_old
   pub new_count : ℕ
   pub of_new : List ℕ
-  pub are_new : AreLinesOfAll (AreLinesOfNew how old) (take new_count new) of_new
+  pub are_new : AreLinesOfAll (AreLinesOfNew how old new) (take new_count new) of_new
   pub in_order : (new_count ≡ 0) ⊎ (length old ≤ old_count)
   pub of_refused : List ℕ
   pub are_refused : (of_refused ≡ []) ⊎ ((length old ≤ old_count) × (length new ≤ new_count) × (of_refused ≡ refused_lines how refused))

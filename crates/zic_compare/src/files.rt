@@ -7,6 +7,7 @@ ghost use Rattle.zic_compare.specs.Refused.{none_refused};
 ghost use Rattle.zic_compare.specs.Text.{with_names};
 ghost use Rattle.zic_compare.specs.code.Short.{AreShort};
 
+use crate::groups::zone_field;
 use crate::sides::{Listed, seen};
 use crate::summary::{push_lone, push_summary};
 use crate::text::{push_added, push_differences, push_removed};
@@ -23,7 +24,8 @@ const SPAN_NAMES: &[u8] =
 const SUMMARY_NAMES: &[u8] = b"zone,from,until,old_offset,new_offset,kind\n";
 
 /// Returns the lines of the names of two lists of files, with the names of their fields before them;
-/// without lines the text is empty. Names come in the order of the old files, and then of the new ones.
+/// without lines the text is empty. Names come in the order of the old files, and then of the new ones,
+/// each with its own lines, or as their [grouping](crate::Grouping) says.
 /// Instants are in seconds from 1970-01-01T00:00:00 UT, or as their [style](crate::Style) has them.
 ///
 /// Of spans there is a line for each name and each longest span within the bounds at which each of its
@@ -85,7 +87,7 @@ pub fn lines_of_old(
     requires instants { HasInstants how.now }
     requires order { first ≤ end }
     requires within { end ≤ length old.now }
-    ensures { IfOk result (λ lines. AreLinesOfAll (AreLinesOfOld how.now new.now)
+    ensures { IfOk result (λ lines. AreLinesOfAll (AreLinesOfOld how.now old.now new.now)
         (slice_range old.now first end) lines.items) }
 {
     let mut lines = Vec::new(alloc);
@@ -95,7 +97,7 @@ pub fn lines_of_old(
     Ok(lines)
 }
 
-/// Adds the lines of the old file of this number.
+/// Adds the lines of the old file of this number, unless it shares those of one before it.
 fn push_old(
     alloc: Global,
     lines: &mut Vec<u8>,
@@ -107,7 +109,7 @@ fn push_old(
     requires instants { HasInstants how.now }
     requires within { file < length old.now }
     ensures { OnOk result (IfSome (slice_get old.now file) (λ file. (more : List ℕ)
-        × AreLinesOfOld how.now new.now file more × (lines.new.items ≡ lines.old.items ++ more))) }
+        × AreLinesOfOld how.now old.now new.now file more × (lines.new.items ≡ lines.old.items ++ more))) }
 {
     // Files with the same bytes say the same.
     files_say_one();
@@ -118,13 +120,19 @@ fn push_old(
             if old.bytes(file) == new.bytes(other) {
                 return Ok(());
             }
-            push_both(alloc, lines, how, name, zone, new_zone)
+            match zone_field(alloc, how, old, file, new)? {
+                Some(field) => push_both(alloc, lines, how, &field, zone, new_zone),
+                None => Ok(()),
+            }
         }
-        None => push_old_alone(lines, how, name, zone),
+        None => match zone_field(alloc, how, old, file, new)? {
+            Some(field) => push_old_alone(lines, how, &field, zone),
+            None => Ok(()),
+        },
     }
 }
 
-/// Adds the lines of a name that has two files.
+/// Adds the lines of a name, or of names, with two files.
 fn push_both(
     alloc: Global,
     lines: &mut Vec<u8>,
@@ -177,18 +185,20 @@ pub fn lines_of_new(
 ) -> Result<Vec<u8>, AllocError>
     requires order { first ≤ end }
     requires within { end ≤ length new.now }
-    ensures { IfOk result (λ lines. AreLinesOfAll (AreLinesOfNew how.now old.now)
+    ensures { IfOk result (λ lines. AreLinesOfAll (AreLinesOfNew how.now old.now new.now)
         (slice_range new.now first end) lines.items) }
 {
     let mut lines = Vec::new(alloc);
     for file in first..end {
-        push_new(&mut lines, how, old, new, file)?;
+        push_new(alloc, &mut lines, how, old, new, file)?;
     }
     Ok(lines)
 }
 
-/// Adds the line of the new file of this number, unless an old one has its name.
+/// Adds the line of the new file of this number, unless an old one has its name or it shares that of
+/// one before it.
 fn push_new(
+    alloc: Global,
     lines: &mut Vec<u8>,
     how: &Listed,
     old: &Files,
@@ -197,13 +207,16 @@ fn push_new(
 ) -> Result<(), AllocError>
     requires { file < length new.now }
     ensures { OnOk result (IfSome (slice_get new.now file) (λ file. (more : List ℕ)
-        × AreLinesOfNew how.now old.now file more × (lines.new.items ≡ lines.old.items ++ more))) }
+        × AreLinesOfNew how.now old.now new.now file more × (lines.new.items ≡ lines.old.items ++ more))) }
 {
     let name = new.name(file);
     if old.find(name).is_some() {
         return Ok(());
     }
-    push_new_alone(lines, how, name, new.zone(file))
+    match zone_field(alloc, how, new, file, old)? {
+        Some(field) => push_new_alone(lines, how, &field, new.zone(file)),
+        None => Ok(()),
+    }
 }
 
 /// Adds the line of a name that only the new files have.

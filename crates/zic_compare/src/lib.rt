@@ -12,7 +12,8 @@
 //! (`DifferForEver`, `IsSummary`); or that they never differ from that instant on. The 400 years
 //! after the last transition of both decide this (`FourHundredYearsDecide`). `diff` gives the lines
 //! of spans or of summaries for all names of two lists of files, and one line for a name that one
-//! list alone has (`IsDiff`; its parts: `lines_of_old`, `lines_of_new`, `with_names`). `write_diff`
+//! list alone has (`IsDiff`; its parts: `lines_of_old`, `lines_of_new`, `with_names`). Names whose
+//! files have the same bytes in both lists may share their lines (`zone_field`). `write_diff`
 //! writes that text as its lines are made, for every number of threads and size of pieces
 //! (`WritesDiff`); where memory or a write fails, the lines of some of the first names, or a part
 //! of these, and nothing else (`EndsDiff`, `IsDiffSoFar`). A file doesn't differ from itself
@@ -27,6 +28,7 @@
 
 mod difference;
 mod files;
+mod groups;
 mod instant;
 pub mod laws;
 mod lists;
@@ -40,7 +42,9 @@ mod writing;
 
 pub use difference::{Difference, differences};
 pub use files::{diff, lines_of_new, lines_of_old, with_names};
-pub use sides::{Compared, Comparison, DiffStop, Listed, Refused, Sides, Style, Survey, read_tree};
+pub use sides::{
+    Compared, Comparison, DiffStop, Grouping, Listed, Refused, Sides, Style, Survey, read_tree,
+};
 pub use summary::{Summary, summarize};
 pub use verifying::{extra, verify};
 pub use writing::write_diff;

@@ -37,6 +37,17 @@ pub enum Style {
     Iso,
 }
 
+/// Which names have lines of their own.
+#[derive(Clone, Copy, Debug, PartialEq, Eq)]
+pub enum Grouping {
+    /// Each name.
+    Apart,
+    /// Names whose files have the same bytes in both releases, as a zone and its links, or in the only
+    /// one that has them, share the lines of the first of them. These begin with all of their names,
+    /// with a space between two.
+    Together,
+}
+
 /// What is listed of each name.
 #[derive(Clone, Copy, Debug, PartialEq, Eq)]
 pub enum Listed {
@@ -52,6 +63,7 @@ pub enum Listed {
 pub struct Survey {
     pub compared: Compared,
     pub style: Style,
+    pub grouping: Grouping,
     /// The first instant that is looked at.
     pub since: i64,
     /// The instant up to which an end of differences is past.
@@ -72,6 +84,7 @@ pub struct Compared {
 pub struct Comparison {
     pub compared: Compared,
     pub style: Style,
+    pub grouping: Grouping,
     pub bounds: Instants,
 }
 

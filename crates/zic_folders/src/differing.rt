@@ -16,7 +16,7 @@ use std::time::Clock;
 use zic_bulk::files_of;
 use zic_command_line::Differences;
 use zic_compare::{
-    Compared, Comparison, DiffStop, Listed, Refused, Sides, Style, Survey, write_diff,
+    Compared, Comparison, DiffStop, Grouping, Listed, Refused, Sides, Style, Survey, write_diff,
 };
 use zic_counted::Counted;
 use zic_files::Files as ZoneFiles;
@@ -38,6 +38,8 @@ pub struct Differing<'a> {
     pub compared: Compared,
     /// How instants are written.
     pub style: Style,
+    /// Which names have lines of their own.
+    pub grouping: Grouping,
     /// Whether the releases of both are printed.
     pub shows_release: bool,
     /// Whether the command ends otherwise where zones differ.
@@ -82,15 +84,18 @@ fn listed<R: Clock + AllocGlobal>(rt: &R, differing: &Differing<'_>) -> Result<L
     ensures { IfOk result HasInstants }
 {
     let (compared, style) = (differing.compared, differing.style);
+    let grouping = differing.grouping;
     match differing.differences {
         Differences::Within { years, since } => Ok(Listed::Spans(Comparison {
             compared,
             style,
+            grouping,
             bounds: from_on(years.instants(), *since),
         })),
         Differences::Summary { since } => Ok(Listed::Summaries(Survey {
             compared,
             style,
+            grouping,
             since: since.unwrap_or(FIRST_INSTANT),
             present: present(rt, *since)?,
         })),

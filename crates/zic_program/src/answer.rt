@@ -46,6 +46,7 @@ pub(crate) fn answer<
             differences,
             compared,
             style,
+            grouping,
             shows_release,
             tells_status,
         } => {
@@ -56,6 +57,7 @@ pub(crate) fn answer<
                 differences,
                 compared: *compared,
                 style: *style,
+                grouping: *grouping,
                 shows_release: *shows_release,
                 tells_status: *tells_status,
             };

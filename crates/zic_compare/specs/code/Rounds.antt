@@ -30,8 +30,8 @@ files_by sides.Old old new = old
 files_by sides.New old new = new
 
 abbrev pub AreLinesBy : Side → Listed → List File → List File → File → List ℕ → Type 0
-AreLinesBy sides.Old how old new = AreLinesOfOld how new
-AreLinesBy sides.New how old new = AreLinesOfNew how old
+AreLinesBy sides.Old how old new = AreLinesOfOld how old new
+AreLinesBy sides.New how old new = AreLinesOfNew how old new
 
 abbrev pub files_of : FileLists → List File
 files_of l = files_by l.side l.old l.new

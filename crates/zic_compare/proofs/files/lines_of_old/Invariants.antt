@@ -4,4 +4,4 @@ use Rattle.zic_compare.specs.Lines.{AreLinesOfAll}
 use Rattle.zic_compare.proofs.files.lines_of_old.Given as goal
 
 abbrev pub invariant-loop-file : goal.invariant-loop-file
-invariant-loop-file l = AreLinesOfAll (AreLinesOfOld l.how l.new) (slice_range l.old l.first l.file) l.lines.items
+invariant-loop-file l = AreLinesOfAll (AreLinesOfOld l.how l.old l.new) (slice_range l.old l.first l.file) l.lines.items
