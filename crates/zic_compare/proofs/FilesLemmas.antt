@@ -108,10 +108,15 @@ other_of files i name found =
     let (file, at, named) = some_of (slice_get files i) (λ (f : File). f.name ≡ name) found in
     (file, at, contains_got files i file at, named)
 
--- nothing is there under any first field, and without one
-nothing_under : (Q : List ℕ → Type 0) (field : Option (List ℕ)) → ((zone : List ℕ) → Q zone) → MatchOption field (([] : List ℕ) ≡ []) Q
-nothing_under Q None under = refl
-nothing_under Q (Some zone) under = under zone
+-- no lines are there without a first field
+shared_under : (Q : List ℕ → Type 0) (field : Option (List ℕ)) (more : List ℕ) → more ≡ [] → None ≡ field → MatchOption field (more ≡ []) Q
+shared_under Q None more none is = none
+shared_under Q (Some zone) more none is = absurd cc
+
+-- nor under any, where nothing differs
+nothing_under : (Q : List ℕ → Type 0) (field : Option (List ℕ)) (more : List ℕ) → more ≡ [] → ((zone : List ℕ) → Q zone) → MatchOption field (more ≡ []) Q
+nothing_under Q None more none under = none
+nothing_under Q (Some zone) more none under = under zone
 
 -- a new file whose name an old one has
 pub has_name : (how : Listed) (old new : List File) (i : ℕ) (name lines : List ℕ) (found : Option ℕ) → IfSome (slice_get new i) (λ file. name ≡ file.name)
@@ -124,22 +129,7 @@ has_name how old new i name lines (Some k) named found some =
     let same = if_at (slice_get new i) (λ (f : File). name ≡ f.name) file named at in
     ([], inl (subst (λ (n : List ℕ). Any (λ (f : File). f.name ≡ n) old) same (any_of old k name found), refl), same_text lines))
 
--- one whose name none has
-pub lone_new : (how : Listed) (old new : List File) (i : ℕ) (name field lines next : List ℕ) (content : Content) → IfSome (slice_get new i) (λ file. name ≡ file.name)
-    → IfSome (slice_get new i) (λ file. content ≡ file.image.content) → All (λ (file : File). file.name ≢ name) old
-    → IfSome (slice_get new i) (λ file. Some field ≡ zone_field (grouping_of how) new old file) → (more : List ℕ) × IsLineOfNew how field content more × (next ≡ lines ++ more)
-    → IfSome (slice_get new i) (λ file. (more : List ℕ) × AreLinesOfNew how old new file more × (next ≡ lines ++ more))
-lone_new how old new i name field lines next content named of none under (more, is, pushed) =
-    file_at new i (λ file. (more : List ℕ) × AreLinesOfNew how old new file more × (next ≡ lines ++ more))
-    (λ file at.
-    let same = if_at (slice_get new i) (λ (f : File). name ≡ f.name) file named at in
-    let content_is = if_at (slice_get new i) (λ (f : File). content ≡ f.image.content) file of at in
-    let field_is = if_at (slice_get new i) (λ (f : File). Some field ≡ zone_field (grouping_of how) new old f) file under at in
-    let absent = subst (λ (n : List ℕ). All (λ (f : File). f.name ≢ n) old) same none in
-    let by_file = subst (λ (c : Content). IsLineOfNew how field c more) content_is is in
-    (more, inr (absent, subst (λ (z : Option (List ℕ)). MatchOption z (more ≡ []) (λ zone. IsLineOfNew how zone file.image.content more)) field_is by_file), pushed))
-
--- and one that shares the line of another
+-- one that shares the line of another
 pub shared_new : (how : Listed) (old new : List File) (i : ℕ) (name lines : List ℕ) → IfSome (slice_get new i) (λ file. name ≡ file.name)
     → All (λ (file : File). file.name ≢ name) old → IfSome (slice_get new i) (λ file. None ≡ zone_field (grouping_of how) new old file)
     → IfSome (slice_get new i) (λ file. (more : List ℕ) × AreLinesOfNew how old new file more × (lines ≡ lines ++ more))
@@ -149,7 +139,7 @@ shared_new how old new i name lines named none under =
     let same = if_at (slice_get new i) (λ (f : File). name ≡ f.name) file named at in
     let field_is = if_at (slice_get new i) (λ (f : File). None ≡ zone_field (grouping_of how) new old f) file under at in
     let absent = subst (λ (n : List ℕ). All (λ (f : File). f.name ≢ n) old) same none in
-    ([], inr (absent, subst (λ (z : Option (List ℕ)). MatchOption z (([] : List ℕ) ≡ []) (λ zone. IsLineOfNew how zone file.image.content [])) field_is refl), same_text lines))
+    ([], inr (absent, shared_under (λ zone. IsLineOfNew how zone file.image.content []) (zone_field (grouping_of how) new old file) [] refl field_is), same_text lines))
 
 module _ (how : Listed) (old new : List File) (i : ℕ) where
   -- the lines of an old file with a first field
@@ -159,16 +149,7 @@ module _ (how : Listed) (old new : List File) (i : ℕ) where
       subst (λ (z : Option (List ℕ)). MatchOption z (more ≡ []) (AreLinesOfOldUnder how new file more))
       (if_at (slice_get old i) (λ (f : File). Some field ≡ zone_field (grouping_of how) old new f) file under at) are
 
-  -- an old file that shares those of another
-  pub shared_old : (lines : List ℕ) → IfSome (slice_get old i) (λ file. None ≡ zone_field (grouping_of how) old new file)
-      → IfSome (slice_get old i) (λ file. (more : List ℕ) × AreLinesOfOld how old new file more × (lines ≡ lines ++ more))
-  shared_old lines under =
-      file_at old i (λ file. (more : List ℕ) × AreLinesOfOld how old new file more × (lines ≡ lines ++ more))
-      (λ file at.
-      let field_is = if_at (slice_get old i) (λ (f : File). None ≡ zone_field (grouping_of how) old new f) file under at in
-      ([], subst (λ (z : Option (List ℕ)). MatchOption z (([] : List ℕ) ≡ []) (AreLinesOfOldUnder how new file [])) field_is refl, same_text lines))
-
-  -- one whose name no new one has
+  -- an old file whose name no new one has
   pub lone_old : (name field lines next : List ℕ) (content : Content) → IfSome (slice_get old i) (λ file. name ≡ file.name)
       → IfSome (slice_get old i) (λ file. content ≡ file.image.content) → All (λ (file : File). file.name ≢ name) new
       → IfSome (slice_get old i) (λ file. Some field ≡ zone_field (grouping_of how) old new file) → (more : List ℕ) × IsLineOfOld how field content more × (next ≡ lines ++ more)
@@ -213,5 +194,5 @@ module _ (how : Listed) (old new : List File) (i : ℕ) where
       let (match, at_match, among, match_named) = other_of new k name found in
       let b_is = if_at (slice_get new k) (λ (f : File). b ≡ f.image.octets) match of_other at_match in
       let right = if_at (slice_get new k) (λ (f : File). IsFile f.image.octets f.image.content) match is_other at_match in
-      let none = λ zone. inl (match, among, match_named ∙ name_is, same_bytes one how zone file.image.octets match.image.octets file.image.content match.image.content reads right (sym a_is ∙ same ∙ b_is)) in
-      ([], nothing_under (AreLinesOfOldUnder how new file []) (zone_field (grouping_of how) old new file) none, same_text lines))
+      let none : (zone : List ℕ) → AreLinesOfOldUnder how new file [] zone = λ zone. inl (match, among, match_named ∙ name_is, same_bytes one how zone file.image.octets match.image.octets file.image.content match.image.content reads right (sym a_is ∙ same ∙ b_is)) in
+      ([], nothing_under (AreLinesOfOldUnder how new file []) (zone_field (grouping_of how) old new file) [] refl none, same_text lines))

@@ -9,7 +9,7 @@ use Rattle.zic_base.proofs.Elements.{all_got}
 use Rattle.zic_base.specs.State.{Shown}
 use Rattle.zic_dump.proofs.Euclid.{place, by_seconds, same_place}
 use Rattle.zic_dump.proofs.Forever.{answers_moved, later_or_end, past_later}
-use Rattle.zic_compare.specs.Answers.{Pair, AreSeenAt, DifferAt, IsSeenAt}
+use Rattle.zic_compare.specs.Answers.{Pair, DifferAt, IsSeenAt}
 use Rattle.zic_compare.specs.Differences.{AreDifferences, HasAnswersAt, IsDifference}
 use Rattle.zic_compare.specs.Laws.{FourHundredYearsDecide, NoneComes}
 use Rattle.zic_compare.specs.Summary.{AgreeAt, AgreeFrom, DifferForEver, IsEndOfDifference, IsFirstDifference, IsSummary}

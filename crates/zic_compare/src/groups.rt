@@ -1,7 +1,7 @@
 //! The names that share the lines of the text: those whose files have the same bytes in both
 //! releases, as the links of one zone do.
 
-ghost use Rattle.std.specs.Prelude.{◌≡◌, ◌<◌, ◌++◌, ◌∷◌, [], if◌then◌else◌, slice_get, option_map, MatchBool, IfOk, IfSome, OnOk};
+ghost use Rattle.std.specs.Prelude.{◌≡◌, ◌<◌, ◌++◌, ◌∷◌, [], if◌then◌else◌, length, slice_get, option_map, MatchBool, IfOk, IfSome, OnOk};
 ghost use Rattle.zic_compare.specs.Files.{grouping_of};
 ghost use Rattle.zic_compare.specs.Groups.{are_same, field_of, group_of, names_in, octets_of, stand_together, zone_field};
 ghost use Rattle.zic_compare.specs.code.Groups.{HasNoneBefore, HasOneBefore};
@@ -23,7 +23,7 @@ pub(crate) fn zone_field(
     requires { file < length own.now }
     ensures { IfOk result (λ field. IfSome (slice_get own.now file)
         (λ file. option_map (λ f. f.items) field
-            ≡ zone_field (grouping_of how.now) own.now others.now file)) }
+        ≡ zone_field (grouping_of how.now) own.now others.now file)) }
 {
     match grouping_of(how) {
         Grouping::Apart => Ok(Some(Vec::from_slice(alloc, own.name(file))?)),
@@ -51,13 +51,15 @@ fn field_of_group(
     requires { file < length own.now }
     ensures { IfOk result (λ field. IfSome (slice_get own.now file)
         (λ file. option_map (λ f. f.items) field
-            ≡ field_of (group_of own.now others.now file) file)) }
+        ≡ field_of (group_of own.now others.now file) file)) }
 {
+    // `len` also states that the names of files differ.
+    let count = own.len();
     if !is_first(own, file, others) {
         return Ok(None);
     }
     let mut field = Vec::from_slice(alloc, own.name(file))?;
-    for link in file + 1..own.len() {
+    for link in file + 1..count {
         push_link(&mut field, own, file, link, others)?;
     }
     Ok(Some(field))
@@ -89,7 +91,7 @@ fn push_link(
     requires link { link < length own.now }
     ensures { OnOk result (IfSome (slice_get own.now file) (λ file.
         IfSome (slice_get own.now link) (λ link. field.new.items ≡ field.old.items
-            ++ (if stand_together others.now file link then 32 ∷ link.name else [])))) }
+        ++ (if stand_together others.now file link then 32 ∷ link.name else [])))) }
 {
     if stand_together(own, file, link, others) {
         field.push(b' ')?;
@@ -106,14 +108,17 @@ fn stand_together(own: &Files, one: usize, other: usize, others: &Files) -> bool
     ensures { IfSome (slice_get own.now one) (λ one. IfSome (slice_get own.now other)
         (λ other. result ≡ stand_together others.now one other)) }
 {
-    own.bytes(one) == own.bytes(other)
-        && are_same(octets_of(others, own.name(one)), octets_of(others, own.name(other)))
+    if own.bytes(one) != own.bytes(other) {
+        return false;
+    }
+    let theirs = octets_of(others, own.name(one));
+    are_same(theirs, octets_of(others, own.name(other)))
 }
 
 /// Returns whether these are the same bytes, or none twice.
 fn are_same(one: Option<&[u8]>, other: Option<&[u8]>) -> bool
     ensures { result
-        ≡ are_same (option_map (λ o. o.now) one) (option_map (λ o. o.now) other) }
+        ≡ are_same (option_map (λ o. o.now) one.entry) (option_map (λ o. o.now) other.entry) }
 {
     match (one, other) {
         (Some(one), Some(other)) => one == other,
