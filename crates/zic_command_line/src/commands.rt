@@ -135,7 +135,7 @@ static VERIFY: [Word; 8] = [
     EXPLAIN,
 ];
 
-static DIFF: [Word; 14] = [
+static DIFF: [Word; 15] = [
     Word {
         name: "OLD",
         help: "A file of Rule, Zone and Link lines, or -",
