@@ -24,9 +24,9 @@ const SPAN_NAMES: &[u8] =
 const SUMMARY_NAMES: &[u8] = b"zone,from,until,old_offset,new_offset,kind\n";
 
 /// Returns the lines of the names of two lists of files, with the names of their fields before them;
-/// without lines the text is empty. Names come in the order of the old files, and then of the new ones,
-/// each with its own lines, or as their [grouping](crate::Grouping) says.
-/// Instants are in seconds from 1970-01-01T00:00:00 UT, or as their [style](crate::Style) has them.
+/// without lines the text is empty. Names come in the order of the old files, and then of the new ones.
+/// Each has lines of its own, or shares them as the [grouping](crate::Grouping) says. Instants are in
+/// seconds from 1970-01-01T00:00:00 UT, or as their [style](crate::Style) has them.
 ///
 /// Of spans there is a line for each name and each longest span within the bounds at which each of its
 /// two files gives one answer, as far as they are compared, and the two differ: the name, the first
@@ -109,7 +109,8 @@ fn push_old(
     requires instants { HasInstants how.now }
     requires within { file < length old.now }
     ensures { OnOk result (IfSome (slice_get old.now file) (λ file. (more : List ℕ)
-        × AreLinesOfOld how.now old.now new.now file more × (lines.new.items ≡ lines.old.items ++ more))) }
+        × AreLinesOfOld how.now old.now new.now file more
+        × (lines.new.items ≡ lines.old.items ++ more))) }
 {
     // Files with the same bytes say the same.
     files_say_one();
@@ -207,7 +208,8 @@ fn push_new(
 ) -> Result<(), AllocError>
     requires { file < length new.now }
     ensures { OnOk result (IfSome (slice_get new.now file) (λ file. (more : List ℕ)
-        × AreLinesOfNew how.now old.now new.now file more × (lines.new.items ≡ lines.old.items ++ more))) }
+        × AreLinesOfNew how.now old.now new.now file more
+        × (lines.new.items ≡ lines.old.items ++ more))) }
 {
     let name = new.name(file);
     if old.find(name).is_some() {

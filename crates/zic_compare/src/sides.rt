@@ -42,8 +42,8 @@ pub enum Style {
 pub enum Grouping {
     /// Each name.
     Apart,
-    /// Names whose files have the same bytes in both releases, as a zone and its links, or in the only
-    /// one that has them, share the lines of the first of them. These begin with all of their names,
+    /// Names whose files have the same bytes in both releases, as a zone and its links, or in the
+    /// one that has them, share the lines of the first of them. These begin with all of the names,
     /// with a space between two.
     Together,
 }
