@@ -20,3 +20,7 @@ abbrev pub quote_line : ℕ → Option ℕ → List ℕ
 quote_line opened (Some ended) =
     codes "A double quote opens in line " ++ (decimal opened ++ (codes ", and the record ends in line " ++ (decimal ended ++ codes ".\n")))
 quote_line opened None = codes "A double quote opens in line " ++ (decimal opened ++ codes ", and nothing closes it.\n")
+
+-- the year in which two rules are out of order
+abbrev pub year_line : ℕ → List ℕ
+year_line year = codes "The two rules are out of order in " ++ (decimal year ++ codes ".\n")

@@ -115,17 +115,42 @@ fn wrong_line(
 }
 
 /// Returns the index of the field that a fault of this kind is about, of a line whose fields are right by
-/// themselves.
+/// themselves. The Zone line stands for all of its zone.
 fn field_of_kind(kind: Kind, form: Form) -> Option<usize> {
-    let label = match kind {
-        Kind::DuplicateName if form == Form::Link => "LINK-NAME",
-        Kind::DuplicateName => "NAME",
-        Kind::NoContinuation => "YEAR",
-        Kind::UnknownRules => "RULES",
-        Kind::UnknownTarget | Kind::LinkCycle => "TARGET",
+    let label = match (kind, form) {
+        (Kind::DuplicateName, Form::Link) => "LINK-NAME",
+        (Kind::DuplicateName, _) => "NAME",
+        (Kind::NoContinuation, _) => "YEAR",
+        (Kind::UnknownRules, _) => "RULES",
+        (Kind::UnknownTarget | Kind::LinkCycle, _) => "TARGET",
+        (_, Form::Continuation) => label_on_continuation(kind)?,
+        (_, Form::Rule) => label_on_rule(kind)?,
         _ => return None,
     };
     form.labels().iter().position(|known| *known == label)
+}
+
+/// Returns what the field of a continuation line is called that causes the fault of its zone.
+fn label_on_continuation(kind: Kind) -> Option<&'static str> {
+    match kind {
+        Kind::OffsetRange
+        | Kind::RulesOutOfOrder
+        | Kind::NoFooter
+        | Kind::PermanentDaylight => Some("RULES"),
+        Kind::UntilNotRising => Some("YEAR"),
+        Kind::NoLetter | Kind::BadAbbreviation => Some("FORMAT"),
+        _ => None,
+    }
+}
+
+/// Returns what the field of a Rule line is called that causes the fault of a zone.
+fn label_on_rule(kind: Kind) -> Option<&'static str> {
+    match kind {
+        Kind::OffsetRange | Kind::PermanentDaylight => Some("SAVE"),
+        Kind::BadAbbreviation => Some("LETTER"),
+        Kind::NoFooter => Some("TO"),
+        _ => None,
+    }
 }
 
 /// Returns where the bytes stand that a fault is about, or all of a line up to its comment.

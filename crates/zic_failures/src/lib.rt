@@ -7,8 +7,8 @@
 //!
 //! `line_place` and `row_place` begin with the path and the number, and go on with bytes that a
 //! terminal takes for no command (`GoesOnShown`), as the texts of `nearest_zone`, `nearest_rules`
-//! and `bad_abbreviation` do; `quote_place` is exactly its line (`quote_line`), and `expectation` what is
-//! expected where an error has a name (`IsExpectation`).
+//! and `bad_abbreviation` do; `quote_place` and `year_place` are exactly their lines (`quote_line`,
+//! `year_line`), and `expectation` what is expected where an error has a name (`IsExpectation`).
 //! `Explainer::explanation` puts these together with what is read again of a column, by the layout
 //! of `read_by`, and with the reason of `refused_for`. It is tested, and has no clause, as
 //! `RecordForm::label`.

@@ -1,7 +1,7 @@
 //! Where a fault is.
 
 ghost use Rattle.std.specs.Prelude.{◌≡◌, OnOk, IfOk, string_bytes};
-ghost use Rattle.zic_failures.specs.Place.{line_head, quote_line, row_head, GoesOnShown};
+ghost use Rattle.zic_failures.specs.Place.{line_head, quote_line, row_head, year_line, GoesOnShown};
 ghost use Rattle.zic_explain.specs.Shown.{IsShownText, StaysShown};
 
 use crate::faulty::faulty_line;
@@ -111,6 +111,17 @@ pub fn quote_place(alloc: Global, lines: QuotedLines) -> Result<String, AllocErr
             "A double quote opens in line {opened}, and nothing closes it.\n"
         ),
     }
+}
+
+/// Returns a line that says in which year two rules are out of order.
+///
+/// # Errors
+///
+/// Memory ran out.
+pub(crate) fn year_place(alloc: Global, year: u16) -> Result<String, AllocError>
+    ensures { IfOk result (λ line. string_bytes line ≡ year_line year) }
+{
+    format!(in alloc; "The two rules are out of order in {year}.\n")
 }
 
 /// Returns the lines about a row, after its number.

@@ -7,8 +7,7 @@ use crate::line::{awaits, entry_of, goes_on, is_line_feed, line_at};
 use std::alloc::{AllocError, Global};
 use zic_explain::cases::BAD_ABBREVIATION_TEXT;
 use zic_explain::{push_bytes, push_line_end};
-use zic_lines::{Entry, Format, Rules, SetName, ZoneLine};
-use zic_states::is_abbreviation;
+use zic_lines::Entry;
 
 /// A line of some texts, by the index of its text and by its number there, from 1.
 #[derive(Clone, Copy, Debug)]
@@ -84,23 +83,16 @@ fn line_of_name(alloc: Global, text: &[u8], name: &[u8]) -> Result<Option<u64>, 
     Ok(None)
 }
 
-/// Returns a line with an abbreviation that a zone gives by its lines and no file may have, if one is
-/// found. The zone begins at this line.
+/// Returns a line with an abbreviation that no file may have.
 ///
 /// # Errors
 ///
 /// Memory ran out.
-pub fn bad_abbreviation(
-    alloc: Global,
-    texts: &[Vec<u8>],
-    zone: TextLine,
-) -> Result<String, AllocError>
+pub fn bad_abbreviation(alloc: Global, abbreviation: &[u8]) -> Result<String, AllocError>
     ensures { IfOk result (λ text. IsShownText (string_bytes text)) }
 {
     let mut text = String::new(alloc);
-    if let Some(bad) = bad_of_zone(alloc, texts, zone)? {
-        push_abbreviation(&mut text, &bad)?;
-    }
+    push_abbreviation(&mut text, abbreviation)?;
     Ok(text)
 }
 
@@ -112,126 +104,4 @@ fn push_abbreviation(text: &mut String, abbreviation: &[u8]) -> Result<(), Alloc
     push_bytes(text, abbreviation)?;
     push_bytes(text, BAD_ABBREVIATION_TEXT.after.as_bytes())?;
     push_line_end(text)
-}
-
-/// Returns an abbreviation of a zone that no file may have.
-fn bad_of_zone(
-    alloc: Global,
-    texts: &[Vec<u8>],
-    zone: TextLine,
-) -> Result<Option<Vec<u8>>, AllocError> {
-    let Some(text) = texts.get(zone.text) else {
-        return Ok(None);
-    };
-    let mut awaited = false;
-    let mut number: u64 = 0;
-    for line in text.split(is_line_feed) {
-        number = number.saturating_add(1);
-        let Some(entry) = entry_of(alloc, awaited, line)? else {
-            continue;
-        };
-        awaited = goes_on(&entry);
-        if number >= zone.line {
-            let bad = bad_of_entry(alloc, texts, &entry)?;
-            if bad.is_some() || !awaited {
-                return Ok(bad);
-            }
-        }
-    }
-    Ok(None)
-}
-
-/// Returns an abbreviation of a Zone or continuation line that no file may have.
-fn bad_of_entry(
-    alloc: Global,
-    texts: &[Vec<u8>],
-    entry: &Entry,
-) -> Result<Option<Vec<u8>>, AllocError> {
-    match entry {
-        Entry::Zone(_, line) | Entry::Continuation(line) => bad_of_line(alloc, texts, line),
-        Entry::Rule(_) | Entry::Link(_) => Ok(None),
-    }
-}
-
-/// Returns an abbreviation of a zone's line that no file may have.
-fn bad_of_line(
-    alloc: Global,
-    texts: &[Vec<u8>],
-    line: &ZoneLine,
-) -> Result<Option<Vec<u8>>, AllocError> {
-    match (&line.format, &line.rules) {
-        (Format::Plain(only), _) => bad_text(alloc, only.octets(), &[], &[]),
-        (Format::Pair(standard, daylight), _) => {
-            match bad_text(alloc, standard.octets(), &[], &[])? {
-                None => bad_text(alloc, daylight.octets(), &[], &[]),
-                bad => Ok(bad),
-            }
-        }
-        (Format::Offset(before, after), _) => {
-            bad_text(alloc, before.octets(), b"+00", after.octets())
-        }
-        (Format::Letter(before, after), Rules::Set(set)) => {
-            bad_of_rules(alloc, texts, set, (before.octets(), after.octets()))
-        }
-        _ => Ok(None),
-    }
-}
-
-/// Returns an abbreviation that no file may have, of the letters of a set's rules between two parts.
-fn bad_of_rules(
-    alloc: Global,
-    texts: &[Vec<u8>],
-    set: &SetName,
-    parts: (&[u8], &[u8]),
-) -> Result<Option<Vec<u8>>, AllocError> {
-    for text in texts {
-        let bad = bad_of_text(alloc, text, set, parts)?;
-        if bad.is_some() {
-            return Ok(bad);
-        }
-    }
-    Ok(None)
-}
-
-/// Returns the same of the rules in a text.
-fn bad_of_text(
-    alloc: Global,
-    text: &[u8],
-    set: &SetName,
-    parts: (&[u8], &[u8]),
-) -> Result<Option<Vec<u8>>, AllocError> {
-    let (before, after) = parts;
-    let mut awaited = false;
-    for line in text.split(is_line_feed) {
-        let Some(entry) = entry_of(alloc, awaited, line)? else {
-            continue;
-        };
-        awaited = goes_on(&entry);
-        if let Entry::Rule(rule) = &*entry {
-            if rule.name.octets() == set.octets() {
-                let bad = bad_text(alloc, before, rule.letter.octets(), after)?;
-                if bad.is_some() {
-                    return Ok(bad);
-                }
-            }
-        }
-    }
-    Ok(None)
-}
-
-/// Returns a text of three parts, if it is no abbreviation that a file may have.
-fn bad_text(
-    alloc: Global,
-    before: &[u8],
-    middle: &[u8],
-    after: &[u8],
-) -> Result<Option<Vec<u8>>, AllocError> {
-    let mut text = Vec::from_slice(alloc, before)?;
-    text.extend_from_slice(middle)?;
-    text.extend_from_slice(after)?;
-    if is_abbreviation(&text) {
-        Ok(None)
-    } else {
-        Ok(Some(text))
-    }
 }
