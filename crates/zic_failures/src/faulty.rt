@@ -133,10 +133,8 @@ fn field_of_kind(kind: Kind, form: Form) -> Option<usize> {
 /// Returns what the field of a continuation line is called that causes the fault of its zone.
 fn label_on_continuation(kind: Kind) -> Option<&'static str> {
     match kind {
-        Kind::OffsetRange
-        | Kind::RulesOutOfOrder
-        | Kind::NoFooter
-        | Kind::PermanentDaylight => Some("RULES"),
+        Kind::OffsetRange | Kind::RulesOutOfOrder | Kind::NoFooter | Kind::PermanentDaylight =>
+            Some("RULES"),
         Kind::UntilNotRising => Some("YEAR"),
         Kind::NoLetter | Kind::BadAbbreviation => Some("FORMAT"),
         _ => None,
