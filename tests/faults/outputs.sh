@@ -213,6 +213,10 @@ for command in 'check plain' "show $file 0" "show --local $file 1970-01-01T00:00
     status=0
     "$program" $command >/dev/full 2>../err || status=$?
     told "pzic $command >/dev/full" 3 '' 'cannot write output'
+    if [ "${command%% *}" != diff ]; then
+        "$program" $command --explain >/dev/full 2>../err || true
+        second_line "pzic $command --explain >/dev/full" '--> standard output: no space left on device'
+    fi
     # A pipe that has no reader any more.
     mkfifo pipe
     exec 3<>pipe 4>pipe 3>&-
@@ -244,6 +248,8 @@ for words in '>&-' '>/dev/full' 'into a closed pipe'; do
     esac
     told "pzic convert plain $words" 3 '' 'cannot write rows'
 done
+"$program" convert --explain plain <column >/dev/full 2>../err || true
+second_line 'pzic convert --explain plain >/dev/full' '--> standard output: no space left on device'
 status=0
 "$program" convert --header plain </dev/null >/dev/full 2>../err || status=$?
 : >../out
@@ -323,6 +329,14 @@ for option in --faults --rejects; do
     esac
     full="cannot write /dev/full"
     expect 3 "$all" "$full"$'\nrow 2: RowZone\n2 rows with faults' convert --keep-going $option /dev/full plain
+    "$program" convert --explain --keep-going $option /dev/full plain <column >../out 2>../err || true
+    second_line "pzic convert --explain $option /dev/full" '--> /dev/full: no space left on device'
+    (
+        trap '' XFSZ
+        ulimit -f 0
+        "$program" convert --explain --keep-going $option filled plain <column 2>&1 >/dev/null
+    ) | cat >../err || true
+    second_line "pzic convert --explain $option, with no byte of the list" '--> filled: file too large'
     expect 3 "$two" "$full"$'\nrow 4: RowInstant\n'"$noted" convert --keep-going $option /dev/full --max-faults 1 plain
     expect 3 "$one" "$full"$'\nrow 3: TooManyRows\n'"$noted" convert --keep-going $option /dev/full --max-rows 2 plain
     expect 3 "$two" "$full"$'\nrow 4: RowTooLong\n'"$noted" convert --keep-going $option /dev/full --max-record 9 plain

@@ -92,8 +92,10 @@ pub enum Request {
     },
     /// List when the files of two sources answer differently, or those of two folders.
     Diff {
-        /// The old source and the new one, or the folders.
+        /// The old sources and then the new ones, or the folders.
         sources: Vec<String>,
+        /// How many of these are old.
+        old: usize,
         /// Whether they are folders of TZif files.
         trees: bool,
         plan: Plan,
@@ -108,7 +110,7 @@ pub enum Request {
         /// Whether the status tells that something differs.
         tells_status: bool,
     },
-    /// Convert a column by the files of a source, which is compiled, or of a folder.
+    /// Convert a column by the files of sources, which are compiled, or of a folder.
     Convert(ConvertOptions),
     /// Tell what a file says of an instant.
     Show {
@@ -163,8 +165,8 @@ pub struct Exporting {
 /// Where the zones of a column come from.
 #[derive(Drop)]
 pub enum Zones {
-    /// A source that is compiled.
-    Source(String),
+    /// Sources that are compiled together.
+    Sources(Vec<String>),
     /// The TZif files of a folder.
     Tree(String),
 }

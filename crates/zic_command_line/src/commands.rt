@@ -135,7 +135,7 @@ static VERIFY: [Word; 8] = [
     EXPLAIN,
 ];
 
-static DIFF: [Word; 15] = [
+static DIFF: [Word; 16] = [
     Word {
         name: "OLD",
         help: "A file of Rule, Zone and Link lines, or -",
@@ -145,6 +145,16 @@ static DIFF: [Word; 15] = [
         name: "NEW",
         help: "Another one, or - for standard input",
         form: Form::Required,
+    },
+    Word {
+        name: "old",
+        help: "Another source of OLD; may be given again",
+        form: Form::OLD,
+    },
+    Word {
+        name: "new",
+        help: "Another source of NEW; may be given again",
+        form: Form::NEW,
     },
     Word {
         name: "trees",
@@ -192,11 +202,6 @@ static DIFF: [Word; 15] = [
         form: Form::INSTANTS,
     },
     Word {
-        name: "group-links",
-        help: "The links of a zone share its lines",
-        form: Form::Flag,
-    },
-    Word {
         name: "status",
         help: "The status is 1 if anything differs",
         form: Form::Flag,
@@ -211,11 +216,16 @@ static DIFF: [Word; 15] = [
     EXPLAIN,
 ];
 
-static CONVERT: [Word; 10] = [
+static CONVERT: [Word; 11] = [
     Word {
         name: "SOURCE",
         help: "A file of Rule, Zone and Link lines",
         form: Form::Optional,
+    },
+    Word {
+        name: "source",
+        help: "A source, or one more; may be given again",
+        form: Form::SOURCES,
     },
     Word {
         name: "tree",
@@ -654,6 +664,7 @@ fn option<'a>(argument: Arg<'a>, name: &'a str, value: Value<'a>) -> Arg<'a> {
         .long(name)
         .value_names(value.label)
         .value_parser(value.parser)
+        .action(value.action)
         .default_values(value.default)
         .hide_possible_values(true)
         .allow_negative_numbers(value.may_be_negative)

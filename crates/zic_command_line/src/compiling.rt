@@ -4,11 +4,10 @@ use crate::command_line::{Building, Differences, Links, Request};
 use crate::instant::date_or_instant;
 use crate::no_request::{NoRequest, usage};
 use crate::release::release_files;
-use crate::values::{given, is_given, plan, texts, word, years};
+use crate::values::{all_given, inputs_of, is_given, plan, word, years};
 use clap::ArgMatches;
 use std::alloc::Global;
-use zic_base::STANDARD_INPUT;
-use zic_compare::{Compared, Grouping, Style};
+use zic_compare::{Compared, Style};
 use zic_dump::Years;
 
 pub(crate) fn check(alloc: Global, matches: &ArgMatches<'_>) -> Result<Request, NoRequest> {
@@ -45,14 +44,11 @@ fn links_of(alloc: Global, matches: &ArgMatches<'_>) -> Result<Links, NoRequest>
 
 /// Returns the words for sources, of which one may be standard input.
 fn sources(alloc: Global, matches: &ArgMatches<'_>) -> Result<Vec<String>, NoRequest> {
-    let Some(words) = matches.get_strs("SOURCE") else {
-        return Err(usage(alloc, "no SOURCE"));
-    };
-    let inputs = words.iter().filter(|word| **word == STANDARD_INPUT).count();
-    if inputs > 1 {
+    let sources = all_given(alloc, matches, &["SOURCE"])?;
+    if inputs_of(&sources) > 1 {
         return Err(usage(alloc, "-, standard input, can be only one SOURCE"));
     }
-    Ok(texts(alloc, words)?)
+    Ok(sources)
 }
 
 pub(crate) fn verify(alloc: Global, matches: &ArgMatches<'_>) -> Result<Request, NoRequest> {
@@ -71,36 +67,42 @@ pub(crate) fn verify(alloc: Global, matches: &ArgMatches<'_>) -> Result<Request,
 
 pub(crate) fn diff(alloc: Global, matches: &ArgMatches<'_>) -> Result<Request, NoRequest> {
     let trees = matches.get_flag("trees");
+    let old = all_given(alloc, matches, &["OLD", "old"])?.len();
     let sources = old_and_new(alloc, matches, trees)?;
     let plan = plan(alloc, matches)?;
     let differences = differences_of(alloc, matches)?;
     let compared = compared(alloc, matches)?;
     Ok(Request::Diff {
         sources,
+        old,
         trees,
         plan,
         differences,
         compared,
         style: style(alloc, matches)?,
-        grouping: grouping(matches),
         shows_release: matches.get_flag("show-release"),
         tells_status: matches.get_flag("status"),
     })
 }
 
-/// Returns the words for the old source and the new one, or for their folders. Only one may be standard
-/// input.
+/// Returns the words for the old sources and then the new ones, or for their folders. Only one source may be
+/// standard input.
 fn old_and_new(
     alloc: Global,
     matches: &ArgMatches<'_>,
     trees: bool,
 ) -> Result<Vec<String>, NoRequest> {
-    let old = given(alloc, matches, "OLD")?;
-    let new = given(alloc, matches, "NEW")?;
-    if !trees && old == STANDARD_INPUT && new == STANDARD_INPUT {
+    let sources = all_given(alloc, matches, &["OLD", "old", "NEW", "new"])?;
+    if trees && sources.len() > 2 {
+        return Err(usage(
+            alloc,
+            "--trees compares OLD with NEW, without --old and --new",
+        ));
+    }
+    if !trees && inputs_of(&sources) > 1 {
         return Err(usage(alloc, "-, standard input, can be only one of OLD and NEW"));
     }
-    Ok(texts(alloc, &[old, new])?)
+    Ok(sources)
 }
 
 /// Returns what is listed of two sources, or of two folders.
@@ -144,15 +146,6 @@ fn style(alloc: Global, matches: &ArgMatches<'_>) -> Result<Style, NoRequest> {
         Some("count") => Ok(Style::Count),
         Some("iso") => Ok(Style::Iso),
         _ => Err(usage(alloc, "--style is count or iso")),
-    }
-}
-
-/// Returns which names have lines of their own.
-fn grouping(matches: &ArgMatches<'_>) -> Grouping {
-    if matches.get_flag("group-links") {
-        Grouping::Together
-    } else {
-        Grouping::Apart
     }
 }
 

@@ -4,10 +4,9 @@ use crate::command_line::{ConvertOptions, Request, Zones};
 use crate::fields::{FieldNames, FieldWords};
 use crate::layout::{fault_fields, layout, max_faults};
 use crate::no_request::{NoRequest, usage};
-use crate::values::{column_plan, optional};
+use crate::values::{all_given, column_plan, inputs_of, optional};
 use clap::ArgMatches;
 use std::alloc::Global;
-use zic_base::STANDARD_INPUT;
 use zic_io::FaultFields;
 use zic_layouts::{Layout, Plan};
 
@@ -86,30 +85,29 @@ fn both_zones(alloc: Global, matches: &ArgMatches<'_>) -> Result<BothZones, NoRe
 
 /// Returns where the zones of a column come from.
 fn zones_of(alloc: Global, matches: &ArgMatches<'_>) -> Result<Zones, NoRequest> {
-    match (matches.get_str("SOURCE"), matches.get_str("tree")) {
-        (Some(STANDARD_INPUT), None) => {
-            Err(usage(alloc, "standard input is the column, so SOURCE can't be -"))
-        }
-        (Some(source), None) => Ok(Zones::Source(String::from_str(alloc, source)?)),
-        (None, Some(folder)) => Ok(Zones::Tree(String::from_str(alloc, folder)?)),
-        (None, None) => Err(usage(alloc, "SOURCE or --tree DIR is missing")),
-        (Some(_), Some(_)) => Err(usage(
-            alloc,
-            "--tree is given in place of SOURCE, not beside it",
-        )),
+    let sources = all_given(alloc, matches, &["SOURCE", "source"])?;
+    if inputs_of(&sources) > 0 {
+        return Err(usage(alloc, "standard input is the column, so SOURCE can't be -"));
+    }
+    match (sources.is_empty(), matches.get_str("tree")) {
+        (false, None) => Ok(Zones::Sources(sources)),
+        (true, Some(folder)) => Ok(Zones::Tree(String::from_str(alloc, folder)?)),
+        (true, None) => Err(usage(alloc, "SOURCE or --tree DIR is missing")),
+        (false, Some(_)) => Err(usage(alloc, "--tree is given in place of SOURCE, not beside it")),
     }
 }
 
 /// Returns where the zones come from that rows are compared with, if they are.
 fn against(alloc: Global, matches: &ArgMatches<'_>) -> Result<Option<Zones>, NoRequest> {
-    match (matches.get_str("against"), matches.get_str("against-tree")) {
-        (Some(STANDARD_INPUT), None) => {
-            Err(usage(alloc, "standard input is the column, so OLD can't be -"))
-        }
-        (Some(source), None) => Ok(Some(Zones::Source(String::from_str(alloc, source)?))),
-        (None, Some(folder)) => Ok(Some(Zones::Tree(String::from_str(alloc, folder)?))),
-        (None, None) => Ok(None),
-        (Some(_), Some(_)) => Err(usage(
+    let sources = all_given(alloc, matches, &["against"])?;
+    if inputs_of(&sources) > 0 {
+        return Err(usage(alloc, "standard input is the column, so OLD can't be -"));
+    }
+    match (sources.is_empty(), matches.get_str("against-tree")) {
+        (false, None) => Ok(Some(Zones::Sources(sources))),
+        (true, Some(folder)) => Ok(Some(Zones::Tree(String::from_str(alloc, folder)?))),
+        (true, None) => Ok(None),
+        (false, Some(_)) => Err(usage(
             alloc,
             "--against-tree is given in place of --against, not beside it",
         )),

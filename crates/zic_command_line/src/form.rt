@@ -1,5 +1,6 @@
 //! What the words and options of commands take.
 
+use clap::ArgAction;
 use clap::builder::{ValueParser, ValueRange};
 use zic_dump::{FIRST_YEAR, LAST_YEAR};
 use zic_layouts::MAX_BYTES;
@@ -35,6 +36,10 @@ pub(crate) enum Form {
     },
     /// An option that is a date or an instant, which is read later on.
     Instant,
+    /// An option that is the path of a source, and may be given again.
+    Sources {
+        label: &'static [&'static str],
+    },
 }
 
 /// What an option takes.
@@ -46,6 +51,8 @@ pub(crate) struct Value<'a> {
     pub(crate) default: &'a [&'a str],
     /// What it has to be.
     pub(crate) parser: ValueParser<'a>,
+    /// Whether it may be given again.
+    pub(crate) action: ArgAction,
     /// Whether it may be a number below zero, which begins as an option does.
     pub(crate) may_be_negative: bool,
 }
@@ -163,11 +170,14 @@ impl Form {
         default: &[],
     };
 
-    /// The path of an older source.
-    pub(crate) const OLD: Form = Form::Text {
-        label: &["OLD"],
-        default: &[],
-    };
+    /// Sources.
+    pub(crate) const SOURCES: Form = Form::Sources { label: &["SOURCE"] };
+
+    /// Older sources.
+    pub(crate) const OLD: Form = Form::Sources { label: &["OLD"] };
+
+    /// Newer sources.
+    pub(crate) const NEW: Form = Form::Sources { label: &["NEW"] };
 
     /// What stands between fields.
     pub(crate) const DELIMITER: Form = Form::Text {
@@ -241,6 +251,7 @@ impl Form {
                 most,
             } => whole(*label, *default, *least, *most),
             Form::Instant => instant(),
+            Form::Sources { label } => sources(*label),
             Form::Flag | Form::Required | Form::Several | Form::Optional => nothing(),
         }
     }
@@ -252,6 +263,7 @@ fn text<'a>(label: &'a [&'a str], default: &'a [&'a str]) -> Value<'a> {
         label,
         default,
         parser: ValueParser::String,
+        action: ArgAction::Set,
         may_be_negative: false,
     }
 }
@@ -280,10 +292,19 @@ fn instant<'a>() -> Value<'a> {
     }
 }
 
+/// Returns the value that is the path of a source, each time that the option is given.
+fn sources<'a>(label: &'a [&'a str]) -> Value<'a> {
+    Value {
+        action: ArgAction::Append,
+        ..text(label, &[])
+    }
+}
+
 /// Returns what a flag takes: whether it is given.
 fn nothing<'a>() -> Value<'a> {
     Value {
         parser: ValueParser::Bool,
+        action: ArgAction::SetTrue,
         ..text(&[], &[])
     }
 }

@@ -4,6 +4,7 @@ use crate::no_request::{NoRequest, usage};
 use clap::ArgMatches;
 use clap::parser::ValueSource;
 use std::alloc::{AllocError, Global};
+use zic_base::STANDARD_INPUT;
 use zic_dump::Years;
 use zic_layouts::Plan;
 
@@ -42,13 +43,41 @@ pub(crate) fn is_given(matches: &ArgMatches<'_>, id: &str) -> bool {
     matches!(matches.value_source(id), Some(ValueSource::CommandLine))
 }
 
-/// Returns words as texts of their own.
-pub(crate) fn texts(alloc: Global, words: &[&str]) -> Result<Vec<String>, AllocError> {
-    let mut texts = Vec::new(alloc);
-    for word in words {
-        texts.push(String::from_str(alloc, word)?)?;
+/// Returns the words that are given for what has one of these names.
+pub(crate) fn all_given(
+    alloc: Global,
+    matches: &ArgMatches<'_>,
+    ids: &[&str],
+) -> Result<Vec<String>, AllocError> {
+    let mut words = Vec::new(alloc);
+    for id in ids {
+        push_given(alloc, matches, id, &mut words)?;
     }
-    Ok(texts)
+    Ok(words)
+}
+
+/// Adds the words that are given for what has this name.
+fn push_given(
+    alloc: Global,
+    matches: &ArgMatches<'_>,
+    id: &str,
+    words: &mut Vec<String>,
+) -> Result<(), AllocError> {
+    for word in matches.get_strs(id).unwrap_or(&[]) {
+        words.push(String::from_str(alloc, word)?)?;
+    }
+    Ok(())
+}
+
+/// Returns how many of these sources are standard input.
+pub(crate) fn inputs_of(sources: &[String]) -> usize {
+    let mut inputs: usize = 0;
+    for source in sources {
+        if source.as_str() == STANDARD_INPUT {
+            inputs = inputs.saturating_add(1);
+        }
+    }
+    inputs
 }
 
 /// Returns the number of an option.

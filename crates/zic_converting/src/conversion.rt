@@ -6,18 +6,19 @@ ghost use Rattle.zic_converting.specs.Ending.{ended, faults_in, path_of, told_be
 
 use crate::ending::{Unwritten, ended, keeps_lists, report};
 use crate::header::Head;
-use crate::lists::Lists;
+use crate::lists::{ListReasons, Lists};
 use crate::ready::{keep_memory, ready_releases};
 use crate::rows::{convert_rows, end_at_header};
 use std::alloc::Global;
 use std::fs::Files;
-use std::io::{ErrorKind, Input, IsTerminal, Write};
+use std::io::{Input, IsTerminal, Write};
 use std::mem;
 use std::random::RandomSource;
 use std::sync::Wait;
 use std::thread::Threads;
 use std::time::Clock;
 use zic_command_line::ConvertOptions;
+use zic_host::WriteReason;
 use zic_io::{Failure, ProgressLine};
 
 /// What a command has read, and what the message of its failure needs besides it.
@@ -34,7 +35,9 @@ pub struct ConvertContext {
     /// The faults of rows after which a run went on, where something else ended it.
     pub faults: Option<Failure>,
     /// Why the system refused what was to be written, as far as that is known.
-    pub reason: Option<ErrorKind>,
+    pub reason: WriteReason,
+    /// Whether the column begins as a file that gzip made.
+    pub is_gzip: bool,
 }
 
 impl ConvertContext {
@@ -46,7 +49,8 @@ impl ConvertContext {
             header: None,
             ended: None,
             faults: None,
-            reason: None,
+            reason: WriteReason::none(),
+            is_gzip: false,
         }
     }
 }
@@ -66,7 +70,7 @@ pub fn convert<
     let mut errors = errors;
     if let Some(failure) = mem::replace(&mut noted.header, None) {
         let line = progress_line(order.progress, errors);
-        return end_at_header(rt, order, line, failure);
+        return end_at_header(rt, order, &noted.reason, line, failure);
     }
     keep_memory(rt.alloc());
     ready_releases(rt, order, &mut errors, noted)?;
@@ -97,7 +101,26 @@ fn convert_listed<
     noted: &mut ConvertContext,
     line: ProgressLine<E>,
 ) -> Result<(), Failure> {
-    let mut lists = Lists::open(rt, order, &mut noted.reason)?;
+    let reasons = ListReasons::none();
+    let converted = convert_into(rt, order, noted, line, &reasons);
+    if let Some(kind) = reasons.take() {
+        noted.reason.set(Some(kind));
+    }
+    converted
+}
+
+/// Converts standard input, and writes the lists, of which it is noted there why the system refuses one.
+fn convert_into<
+    R: Files + Input + Print + Clock + RandomSource + AllocGlobal + Threads + Wait + Sync,
+    E: Write + Drop,
+>(
+    rt: &R,
+    order: &ConvertOptions,
+    noted: &mut ConvertContext,
+    line: ProgressLine<E>,
+    reasons: &ListReasons,
+) -> Result<(), Failure> {
+    let mut lists = Lists::open(rt, order, reasons)?;
     let converted = convert_rows(rt, order, &mut *noted, line, &mut lists.list);
     end(order, noted, lists, converted)
 }

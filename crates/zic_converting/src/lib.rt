@@ -19,15 +19,17 @@
 //!   ended the rows (`by_unread`)
 //! - what is reported and told beside it is this for the faults that the list has noted
 //!   (`faults_in`, `IsReportOf`)
-//! - the files of OLD are those of the first text (`old_texts`, `AreFilesOfTexts`)
+//! - the files of OLD are those of its texts (`AreFilesOfTexts`), one for each of its sources
+//!   (`old_count`)
 //! - the number of rows that were made is told where rows are compared with those of another
 //!   release (`rows_made`)
-//! - a fault of a text has the number of the text where there are several (`numbered`)
+//! - a fault of a text has the number of the text among those of both releases (`numbered`)
 #![tactic(auto)]
 
 mod column;
 mod conversion;
 mod ending;
+mod first;
 mod header;
 mod header_text;
 mod lists;

@@ -8,18 +8,43 @@ use std::fs::Files;
 use std::io::{BufWriter, ErrorKind};
 use std::random::RandomSource;
 use zic_command_line::ConvertOptions;
-use zic_host::random_number;
+use zic_host::{Noting, WriteReason, random_number};
 use zic_io::{Failure, FaultList, ListFile};
+
+/// Why the system refuses the lists of a conversion, as far as it is known.
+#[derive(Drop)]
+pub(crate) struct ListReasons {
+    faults: WriteReason,
+    rejects: WriteReason,
+}
+
+impl ListReasons {
+    /// Returns the note where no list was refused until now.
+    pub(crate) fn none() -> ListReasons {
+        ListReasons {
+            faults: WriteReason::none(),
+            rejects: WriteReason::none(),
+        }
+    }
+
+    /// Returns why the first list that is refused is, if one is, and removes that from the note.
+    pub(crate) fn take(&self) -> Option<ErrorKind> {
+        self.faults.take().or(self.rejects.take())
+    }
+}
+
+/// The writer into the file of a list.
+type ListWriter<'a, R> = BufWriter<Noting<'a, ListFile<'a, R>>>;
 
 /// The lists of a conversion, as far as files are named for them. Each has its path once it is finished by
 /// [`Lists::finish`]; until then what has the path stays, but for a [`ListFile`] that is written where it is.
 #[derive(Drop)]
 pub(crate) struct Lists<'a, R: Files> {
-    pub(crate) list: FaultList<BufWriter<ListFile<'a, R>>>,
+    pub(crate) list: FaultList<ListWriter<'a, R>>,
 }
 
 impl<'a, R: Files + RandomSource + AllocGlobal> Lists<'a, R> {
-    /// Opens the files, and writes nothing to them. Takes note of why the system refuses one.
+    /// Opens the files, and writes nothing to them. It is noted there why the system refuses one, also later.
     ///
     /// # Errors
     ///
@@ -27,10 +52,10 @@ impl<'a, R: Files + RandomSource + AllocGlobal> Lists<'a, R> {
     pub(crate) fn open(
         rt: &'a R,
         order: &ConvertOptions,
-        reason: &mut Option<ErrorKind>,
+        reasons: &'a ListReasons,
     ) -> Result<Lists<'a, R>, Failure> {
-        let faults = list_file(rt, &order.faults, reason)?;
-        match list_file(rt, &order.rejects, reason) {
+        let faults = list_file(rt, &order.faults, &reasons.faults)?;
+        match list_file(rt, &order.rejects, &reasons.rejects) {
             Ok(rejects) => Ok(Lists {
                 list: FaultList::new(rt.alloc(), faults, rejects, order.fault_fields),
             }),
@@ -72,13 +97,13 @@ impl<R: Files> Lists<'_, R> {
 fn list_file<'a, R: Files + RandomSource + AllocGlobal>(
     rt: &'a R,
     path: &Option<String>,
-    reason: &mut Option<ErrorKind>,
-) -> Result<Option<BufWriter<ListFile<'a, R>>>, Failure> {
+    reason: &'a WriteReason,
+) -> Result<Option<ListWriter<'a, R>>, Failure> {
     let Some(path) = path else {
         return Ok(None);
     };
     let file = open_file(rt, path, reason)?;
-    match BufWriter::new(rt.alloc(), file) {
+    match BufWriter::new(rt.alloc(), Noting::new(file, reason)) {
         Ok(file) => Ok(Some(file)),
         Err(_) => Err(Failure::Memory),
     }
@@ -88,22 +113,27 @@ fn list_file<'a, R: Files + RandomSource + AllocGlobal>(
 fn open_file<'a, R: Files + RandomSource + AllocGlobal>(
     rt: &'a R,
     path: &String,
-    reason: &mut Option<ErrorKind>,
+    reason: &WriteReason,
 ) -> Result<ListFile<'a, R>, Failure> {
     match ListFile::open(rt.alloc(), rt, path.as_str(), random_number(rt)) {
         Ok(file) => Ok(file),
         Err(e) if e.kind() == ErrorKind::OutOfMemory => Err(Failure::Memory),
         Err(e) => {
-            *reason = Some(e.kind());
+            reason.set(Some(e.kind()));
             Err(Failure::CannotWrite(path.clone()?))
         }
     }
 }
 
 /// Has the system write a file, if there is one, and gives it its path. Returns whether that succeeded.
-fn is_finished<R: Files>(file: Option<BufWriter<ListFile<'_, R>>>) -> bool {
-    match file {
-        Some(mut file) => file.get_mut().finish().is_ok(),
-        None => true,
+fn is_finished<R: Files>(file: Option<ListWriter<'_, R>>) -> bool {
+    let Some(mut file) = file else {
+        return true;
+    };
+    let writer = file.get_mut();
+    let finished = writer.get_mut().finish();
+    if let Err(e) = &finished {
+        writer.note(e);
     }
+    finished.is_ok()
 }

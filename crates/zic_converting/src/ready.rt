@@ -22,7 +22,7 @@ const SHORT_STACK: usize = 458_752;
 /// The number of bytes that one by up to 64 workers needs, and some more.
 const LONG_STACK: usize = 786_432;
 
-/// Reads the sources of a conversion, that of the release that rows are compared with first, and refuses a
+/// Reads the sources of a conversion, those of the release that rows are compared with first, and refuses a
 /// path that isn't that of a folder. Prints the releases of the zones, if requested.
 pub(crate) fn ready_releases<R: Files + Input + AllocGlobal, E: Write>(
     rt: &R,
@@ -36,7 +36,7 @@ pub(crate) fn ready_releases<R: Files + Input + AllocGlobal, E: Write>(
     ready(rt, order, &order.zones, errors, &mut noted.texts)
 }
 
-/// Adds the text of a source, or refuses a path that isn't that of a folder. Prints the release of the
+/// Adds the texts of sources, or refuses a path that isn't that of a folder. Prints the release of the
 /// zones, if requested.
 fn ready<R: Files + Input + AllocGlobal, E: Write>(
     rt: &R,
@@ -46,10 +46,7 @@ fn ready<R: Files + Input + AllocGlobal, E: Write>(
     texts: &mut Vec<Vec<u8>>,
 ) -> Result<(), Failure> {
     match zones {
-        Zones::Source(source) => {
-            let sources = slice::from_ref(source);
-            add_texts(rt, order, sources, errors, texts)
-        }
+        Zones::Sources(sources) => add_texts(rt, order, sources, errors, texts),
         Zones::Tree(folder) => {
             expect_folder(rt, folder)?;
             if order.shows_release {

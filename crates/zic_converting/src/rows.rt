@@ -3,9 +3,10 @@
 use crate::column::convert_column;
 use crate::conversion::ConvertContext;
 use crate::ending::rows_made;
+use crate::first::FirstBytes;
 use crate::header::Head;
 use std::fs::Files;
-use std::io::{self, Input, Printer, Read, Write};
+use std::io::{Input, Printer, Read, Write};
 use std::mem;
 use std::random::RandomSource;
 use std::sync::Wait;
@@ -13,6 +14,7 @@ use std::thread::Threads;
 use std::time::Clock;
 use zic_command_line::ConvertOptions;
 use zic_counted::Counted;
+use zic_host::{Noting, WriteReason, output};
 use zic_io::{Failure, Progress, ProgressLine};
 use zic_layouts::{Header, Layout, Records, RowLog};
 use zic_pieces::Open;
@@ -34,8 +36,9 @@ pub(crate) fn convert_rows<
     // What ended isn't read again: a terminal would go on.
     let most = if head.is_whole { 0 } else { u64::MAX };
     let rest = rt.reader().take(most);
-    let mut input = Counted::new(head.reader(rt.alloc()).chain(rest));
-    let mut output = Counted::new(progress(rt, &order.layout, line));
+    let column = head.reader(rt.alloc()).chain(rest);
+    let mut input = Counted::new(FirstBytes::of(column, &mut noted.is_gzip));
+    let mut output = Counted::new(progress(rt, &order.layout, &noted.reason, line));
     let conversion = zic_bulk::Conversion {
         rt,
         alloc: rt.alloc(),
@@ -58,10 +61,11 @@ pub(crate) fn convert_rows<
 pub(crate) fn end_at_header<R: Print + Clock, E: Write + Drop>(
     rt: &R,
     order: &ConvertOptions,
+    reason: &WriteReason,
     line: ProgressLine<E>,
     failure: Failure,
 ) -> Result<(), Failure> {
-    let mut rows = progress(rt, &order.layout, line);
+    let mut rows = progress(rt, &order.layout, reason, line);
     count_before(&mut rows, &failure);
     rows.finish(None);
     Err(failure)
@@ -87,16 +91,17 @@ fn is_of_column(failure: &Failure) -> bool {
     )
 }
 
-/// Returns the writer to standard output that reports the rows.
+/// Returns the writer to standard output that reports the rows. It is noted there why the system refuses it.
 fn progress<'a, R: Print + Clock, E: Write>(
     rt: &'a R,
     layout: &Layout,
+    reason: &'a WriteReason,
     line: ProgressLine<E>,
-) -> Progress<'a, Printer<'a, R>, R, E> {
+) -> Progress<'a, Noting<'a, Printer<'a, R>>, R, E> {
     let has_header = layout.header == Header::First;
     let delimiter = match layout.records {
         Records::Csv => Some(layout.delimiter.byte()),
         Records::Lines => None,
     };
-    Progress::new(io::writer(rt), rt, line, has_header, delimiter)
+    Progress::new(output(rt, reason), rt, line, has_header, delimiter)
 }

@@ -2,6 +2,9 @@
 
 use crate::entry::{Expectation, Sentence};
 
+/// A line for `A source`.
+pub const A_SOURCE_GZIP: &str = "The source is compressed: gzip -d makes its text.";
+
 /// A line for `DuplicateName`.
 pub const DUPLICATE_NAME_FIRST: Sentence = Sentence {
     before: "The name is given in ",

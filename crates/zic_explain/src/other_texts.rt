@@ -468,9 +468,7 @@ const GROUP_5: [Entry; 6] = [
         wrong: "  $ pzic check nowhere.zi\n",
         prints: "  cannot read nowhere.zi\n",
         right: "  $ pzic check utc.zi\n",
-        cause: r#"  A wrong path, a folder in place of a file, missing permissions, or the words
-  in another order: DIR comes before SOURCE.
-"#,
+        cause: "  A wrong path, a folder in place of a file, or missing permissions.\n",
     },
     Entry {
         name: "cannot read column",
@@ -583,7 +581,7 @@ const GROUP_6: [Entry; 6] = [
         name: "no thread",
         meaning: "No thread could be started.",
         says: r#"  No thread could be started. Status 4. At present no command ends with this
-  message: the threads that can be started do all the work.
+  message.
 "#,
         expected: "",
         setup: "",

@@ -2,9 +2,9 @@
 
 use crate::column::{column_start, find_record};
 use crate::expected::{Expected, expectation};
-use crate::nearest::{nearest_rules, nearest_zone};
-use crate::place::{line_about, line_place, quote_place, row_place, year_place};
-use crate::reason::{Paths, unwritten};
+use crate::nearest::{nearest_file, nearest_rules, nearest_zone};
+use crate::place::{line_about, line_place, quote_place, row_place};
+use crate::reason::{Paths, refused_line, unwritten};
 use crate::record::RecordForm;
 use crate::refused::refused_file;
 use crate::related::{TextLine, bad_abbreviation, first_name};
@@ -13,16 +13,18 @@ use std::alloc::{AllocError, Global};
 use std::fs::Files;
 use std::io::ErrorKind;
 use std::slice;
-use zic_base::{Kind, Place, RowKind};
-use zic_causes::{Cause, cause_of};
+use zic_base::{Kind, RowKind};
 use zic_command_line::{Building, Exporting, Request, Zones};
-use zic_explain::cases::{A_COLUMN_GZIP, DUPLICATE_NAME_FIRST};
+use zic_explain::cases::{A_COLUMN_GZIP, A_SOURCE_GZIP, DUPLICATE_NAME_FIRST};
 use zic_explain::{entries, entry_named, error_in, shown_word};
 use zic_io::Failure;
 use zic_layouts::{Header, Layout, Records, ZoneFrom};
 
 /// The bytes with which a file begins that gzip made.
 const GZIP: &[u8] = b"\x1f\x8b";
+
+/// What stands for a path where output is refused.
+const OUTPUT: &str = "standard output";
 
 /// Explains the failure of a request.
 #[derive(Drop)]
@@ -31,10 +33,8 @@ pub struct Explainer {
     words: Vec<String>,
     /// The texts of the sources.
     texts: Vec<Vec<u8>>,
-    /// Whether each text is a source of its own.
-    are_apart: bool,
-    /// The index of the text that has the zones of rows.
-    zones: usize,
+    /// How many of the texts come first and are compiled apart from the others: those of OLD.
+    old: usize,
     /// Where standard input begins in its file, if it is one.
     start: Option<u64>,
     /// The number of records before the rows of the column: 1 for a header, else 0.
@@ -47,8 +47,10 @@ pub struct Explainer {
     folder: Option<String>,
     /// What the paths are of.
     paths: Paths,
-    /// Why the system refused what was placed, if that was noted.
+    /// Why the system refused what was written, if that was noted.
     reason: Option<ErrorKind>,
+    /// Whether the column begins as a file that gzip made.
+    is_gzip: bool,
 }
 
 impl Explainer {
@@ -61,8 +63,7 @@ impl Explainer {
         Ok(Explainer {
             words: words_of(rt.alloc(), request)?,
             texts: Vec::new(rt.alloc()),
-            are_apart: matches!(request, Request::Diff { .. } | Request::Convert(_)),
-            zones: old_of(request).is_some() as usize,
+            old: old_count(request),
             start: column_start(rt),
             before: records_before(request),
             records: records_of(request),
@@ -70,6 +71,7 @@ impl Explainer {
             folder: folder_of(request)?,
             paths: Paths::of(request),
             reason: None,
+            is_gzip: false,
         })
     }
 
@@ -78,9 +80,14 @@ impl Explainer {
         self.expected = expected_by(layout);
     }
 
-    /// Takes note of why the system refused what was placed, if it did.
+    /// Takes note of why the system refused what was written, if it did.
     pub fn refused_for(&mut self, reason: Option<ErrorKind>) {
         self.reason = reason;
+    }
+
+    /// Takes note of whether the column begins as a file that gzip made.
+    pub fn begins_as_gzip(&mut self, is_gzip: bool) {
+        self.is_gzip = is_gzip;
     }
 
     /// Returns the lines that explain a failure of a request over sources of these texts, without the last
@@ -192,12 +199,13 @@ impl Explainer {
             Failure::File(_) => ["--> ", self.word(0), "\n"].concat(alloc),
             Failure::Row { row, kind }
             | Failure::Rows { row, kind, .. }
-            | Failure::Rejected { row, kind, .. } => { self.row_place(alloc, *kind, *row, record) }
-            Failure::UnknownZone(name) => {
-                nearest_zone(alloc, self.text(self.zones), name.as_bytes())
-            }
+            | Failure::Rejected { row, kind, .. } => { self.row_place(rt, *kind, *row, record) }
+            Failure::UnknownZone(name) => self.nearest(rt, name.as_bytes()),
             Failure::CannotRead(path) => self.paths.unread(rt, path.as_str(), self.folder()),
             Failure::CannotWrite(path) => unwritten(rt, path.as_str(), self.reason),
+            Failure::CannotWriteRows | Failure::CannotWriteOutput => {
+                refused_line(alloc, OUTPUT, self.reason)
+            }
             _ => Ok(String::new(alloc)),
         }
     }
@@ -212,6 +220,10 @@ impl Explainer {
         line: u64,
     ) -> Result<String, AllocError> {
         let mut place = line_place(alloc, kind, self.word(text), self.text(text), line)?;
+        if self.text(text).starts_with(GZIP) {
+            place.push_str(A_SOURCE_GZIP)?;
+            place.push('\n')?;
+        }
         let related = self.related(alloc, kind, text, line)?;
         place.push_str(related.as_str())?;
         Ok(place)
@@ -225,63 +237,22 @@ impl Explainer {
         text: usize,
         line: u64,
     ) -> Result<String, AllocError> {
-        let (texts, index) = match self.texts.get(text) {
-            Some(alone) if self.are_apart => (slice::from_ref(alone), 0),
-            _ => (&self.texts[..], text),
+        let Side { texts, before } = self.side(text);
+        let at = TextLine {
+            text: text.saturating_sub(before),
+            line,
         };
-        let at = TextLine { text: index, line };
         match kind {
             Kind::UnknownRules => nearest_rules(alloc, texts, at),
+            Kind::BadAbbreviation => bad_abbreviation(alloc, texts, at),
             Kind::DuplicateName => match first_name(alloc, texts, at)? {
-                Some(first) if self.are_apart => self.given_first(alloc, text, first.line),
-                Some(first) => self.given_first(alloc, first.text, first.line),
+                Some(first) => {
+                    self.given_first(alloc, before.saturating_add(first.text), first.line)
+                }
                 None => Ok(String::new(alloc)),
             },
-            _ => self.caused(alloc, kind, texts, text.saturating_sub(index), at),
+            _ => Ok(String::new(alloc)),
         }
-    }
-
-    /// Returns the lines that say which lines besides its Zone line cause the fault of a zone. The texts
-    /// of the source are those from the one at index `first` on.
-    fn caused(
-        &self,
-        alloc: Global,
-        kind: Kind,
-        texts: &[Vec<u8>],
-        first: usize,
-        at: TextLine,
-    ) -> Result<String, AllocError> {
-        let zone = Place {
-            text: (at.text as u64).saturating_add(1),
-            line: at.line,
-        };
-        let Some(cause) = cause_of(alloc, texts, kind, zone)? else {
-            return Ok(String::new(alloc));
-        };
-        let lines = self.cause_lines(alloc, kind, zone, first, &cause);
-        drop(cause);
-        lines
-    }
-
-    /// Returns the lines for what causes the fault of the zone whose Zone line stands at `zone`.
-    fn cause_lines(
-        &self,
-        alloc: Global,
-        kind: Kind,
-        zone: Place,
-        first: usize,
-        cause: &Cause,
-    ) -> Result<String, AllocError> {
-        let mut lines = String::new(alloc);
-        for place in &cause.places {
-            if *place != zone {
-                let text = first.saturating_add(place.text.saturating_sub(1) as usize);
-                let shown = line_place(alloc, kind, self.word(text), self.text(text), place.line)?;
-                lines.push_str(shown.as_str())?;
-            }
-        }
-        lines.push_str(detail(alloc, cause)?.as_str())?;
-        Ok(lines)
     }
 
     /// Returns a line that says where a name is given first.
@@ -292,29 +263,41 @@ impl Explainer {
     }
 
     /// Returns the lines that say where the fault of a row is, and which zone's name is nearest.
-    fn row_place(
+    fn row_place<R: Files + AllocGlobal>(
         &self,
-        alloc: Global,
+        rt: &R,
         kind: RowKind,
         row: u64,
         record: Option<&ShownRecord>,
     ) -> Result<String, AllocError> {
-        let Some(record) = record else {
-            return row_place(alloc, kind, row, self.expected.form, None);
+        let text = match record {
+            Some(record) => Some(&record.text[..]),
+            None => None,
         };
-        let mut place = row_place(alloc, kind, row, self.expected.form, Some(&record.text[..]))?;
-        if record.text.starts_with(GZIP) {
+        let alloc = rt.alloc();
+        let mut place = row_place(alloc, kind, row, self.expected.form, text)?;
+        if self.is_gzip {
             place.push_str(A_COLUMN_GZIP)?;
             place.push('\n')?;
         }
+        let Some(record) = record else {
+            return Ok(place);
+        };
         if let Some(lines) = record.lines {
             place.push_str(quote_place(alloc, lines)?.as_str())?;
         }
         if kind == RowKind::RowZone {
-            let nearest = nearest_zone(alloc, self.text(self.zones), &record.zone)?;
-            place.push_str(nearest.as_str())?;
+            place.push_str(self.nearest(rt, &record.zone)?.as_str())?;
         }
         Ok(place)
+    }
+
+    /// Returns the lines that name the zone whose name is nearest to this one, if one is near.
+    fn nearest<R: Files + AllocGlobal>(&self, rt: &R, name: &[u8]) -> Result<String, AllocError> {
+        match &self.folder {
+            Some(folder) => nearest_file(rt, folder, name),
+            None => nearest_zone(rt.alloc(), self.side(self.old).texts, name),
+        }
     }
 
     /// Returns what is shown of the record of the row that a failure is about, where it can be read
@@ -328,6 +311,22 @@ impl Explainer {
             zone: self.expected.form.zone,
         };
         find_record(rt, self.start?, sought)
+    }
+
+    /// Returns the texts that are compiled together with the one at this index.
+    fn side(&self, text: usize) -> Side<'_> {
+        let (old, new) = self.texts.split_at(self.texts.len().min(self.old));
+        if text < self.old {
+            Side {
+                texts: old,
+                before: 0,
+            }
+        } else {
+            Side {
+                texts: new,
+                before: self.old,
+            }
+        }
     }
 
     /// Returns the folder that the words name, or an empty text.
@@ -355,12 +354,18 @@ impl Explainer {
     }
 }
 
-/// Returns the line that says in which year rules are out of order, or what is no abbreviation.
-fn detail(alloc: Global, cause: &Cause) -> Result<String, AllocError> {
-    match (cause.year, &cause.abbreviation) {
-        (Some(year), _) => year_place(alloc, year),
-        (None, Some(abbreviation)) => bad_abbreviation(alloc, abbreviation),
-        (None, None) => Ok(String::new(alloc)),
+/// The texts of a release, and how many others come before them.
+#[derive(Clone, Copy)]
+struct Side<'a> {
+    texts: &'a [Vec<u8>],
+    before: usize,
+}
+
+/// Returns how many texts are compiled apart from those after them.
+fn old_count(request: &Request) -> usize {
+    match request {
+        Request::Diff { old, .. } => *old,
+        _ => old_of(request).len(),
     }
 }
 
@@ -415,7 +420,7 @@ fn folder_of(request: &Request) -> Result<Option<String>, AllocError> {
         }
         Request::Convert(order) => match &order.zones {
             Zones::Tree(folder) => Ok(Some(folder.clone()?)),
-            Zones::Source(_) => Ok(None),
+            Zones::Sources(_) => Ok(None),
         },
         _ => Ok(None),
     }
@@ -424,31 +429,35 @@ fn folder_of(request: &Request) -> Result<Option<String>, AllocError> {
 /// Returns the words of a request that name sources or a file, as they are shown to people.
 fn words_of(alloc: Global, request: &Request) -> Result<Vec<String>, AllocError> {
     let mut words = Vec::new(alloc);
-    if let Some(old) = old_of(request) {
-        words.push(shown_word(alloc, old.as_str())?)?;
-    }
-    for word in named_in(request) {
-        words.push(shown_word(alloc, word.as_str())?)?;
-    }
+    push_words(alloc, old_of(request), &mut words)?;
+    push_words(alloc, named_in(request), &mut words)?;
     Ok(words)
 }
 
-/// Returns the source that rows are compared with, if there is one.
-fn old_of(request: &Request) -> Option<&String> {
+/// Adds words as they are shown to people.
+fn push_words(alloc: Global, named: &[String], words: &mut Vec<String>) -> Result<(), AllocError> {
+    for word in named {
+        words.push(shown_word(alloc, word.as_str())?)?;
+    }
+    Ok(())
+}
+
+/// Returns the sources that rows are compared with, if there are any.
+fn old_of(request: &Request) -> &[String] {
     match request {
         Request::Convert(order) => match &order.against {
-            Some(Zones::Source(old)) => Some(old),
-            Some(Zones::Tree(_)) | None => None,
+            Some(Zones::Sources(old)) => old,
+            Some(Zones::Tree(_)) | None => &[],
         },
-        _ => None,
+        _ => &[],
     }
 }
 
-/// Returns the words of a request that name sources or a file, but for that of [`old_of`].
+/// Returns the words of a request that name sources or a file, but for those of [`old_of`].
 fn named_in(request: &Request) -> &[String] {
     match request {
         Request::Convert(order) => match &order.zones {
-            Zones::Source(source) => slice::from_ref(source),
+            Zones::Sources(sources) => sources,
             Zones::Tree(_) => &[],
         },
         Request::Check { sources, .. }

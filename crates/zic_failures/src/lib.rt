@@ -10,8 +10,8 @@
 //! and `bad_abbreviation` do; `quote_place` and `year_place` are exactly their lines (`quote_line`,
 //! `year_line`), and `expectation` what is expected where an error has a name (`IsExpectation`).
 //! `Explainer::explanation` puts these together with what is read again of a column, by the layout
-//! of `read_by`, and with the reason of `refused_for`. It is tested, and has no clause, as
-//! `RecordForm::label`.
+//! of `read_by`, with the reason of `refused_for`, and with what `begins_as_gzip` notes. It is tested,
+//! and has no clause, as `RecordForm::label`.
 #![tactic(auto)]
 
 mod column;

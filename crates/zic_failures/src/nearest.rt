@@ -6,26 +6,46 @@ ghost use Rattle.zic_explain.specs.Shown.{IsShownText, StaysShown};
 use crate::line::{entry_of, goes_on, is_line_feed};
 use crate::related::{TextLine, entry_at};
 use std::alloc::{AllocError, Global};
+use std::fs::Files;
 use zic_explain::{near_name, push_bytes, push_line_end};
+use zic_host::names_below;
 use zic_lines::{Entry, Rules};
 
 /// The greatest length of a zone's name. No more is compared of a longer name.
 const LONGEST: usize = 255;
 
-/// Returns a title and the name that is nearest to this one, among the names of the zones and links of a
-/// source without faults; or an empty text if none is near. A terminal shows every byte of it. The contract
-/// says only this; which names a source gives is tested.
+/// Returns a title and the name that is nearest to this one, among the names of the zones and links of
+/// sources without faults; or an empty text if none is near. A terminal shows every byte of it. The contract
+/// says only this; which names sources give is tested.
 ///
 /// # Errors
 ///
 /// Memory ran out.
-pub fn nearest_zone(alloc: Global, source: &[u8], name: &[u8]) -> Result<String, AllocError>
+pub fn nearest_zone(alloc: Global, texts: &[Vec<u8>], name: &[u8]) -> Result<String, AllocError>
     ensures { IfOk result (λ text. IsShownText (string_bytes text)) }
 {
-    let mut names = Vec::new(alloc);
-    push_names(alloc, &mut names, source, Named::Zones)?;
+    let names = names_in(alloc, texts, Named::Zones)?;
     let name = spelled(alloc, name)?;
     nearest_of(alloc, &names, name.as_str())
+}
+
+/// Returns the same among the names of the files of a folder, as far as it can be read.
+///
+/// # Errors
+///
+/// Memory ran out.
+pub(crate) fn nearest_file<R: Files + AllocGlobal>(
+    rt: &R,
+    folder: &String,
+    name: &[u8],
+) -> Result<String, AllocError>
+    ensures { IfOk result (λ text. IsShownText (string_bytes text)) }
+{
+    let name = spelled(rt.alloc(), name)?;
+    match names_below(rt, folder) {
+        Ok(names) => nearest_of(rt.alloc(), &names.files, name.as_str()),
+        Err(_) => Ok(String::new(rt.alloc())),
+    }
 }
 
 /// Returns the same among the names of the rule sets of some texts, for the set that a line of one of
@@ -41,10 +61,7 @@ pub fn nearest_rules(
 ) -> Result<String, AllocError>
     ensures { IfOk result (λ text. IsShownText (string_bytes text)) }
 {
-    let mut names = Vec::new(alloc);
-    for text in texts {
-        push_names(alloc, &mut names, text, Named::Rules)?;
-    }
+    let names = names_in(alloc, texts, Named::Rules)?;
     let name = rules_in(alloc, texts, zone_line)?;
     nearest_of(alloc, &names, name.as_str())
 }
@@ -70,10 +87,25 @@ fn nearest_of(alloc: Global, names: &[String], name: &str) -> Result<String, All
 {
     let mut text = String::new(alloc);
     let names = texts_of(alloc, names)?;
-    if let Some(nearest) = near_name(alloc, &names, name)? {
+    if let Some(nearest) = another(alloc, &names, name)? {
         push_nearest(&mut text, nearest)?;
     }
     Ok(text)
+}
+
+/// Returns the name of these that is this one but for the case of its letters, or else the one that is near.
+/// There is none where this one is among them.
+fn another<'a>(
+    alloc: Global,
+    names: &[&'a str],
+    name: &str,
+) -> Result<Option<&'a str>, AllocError> {
+    for known in names {
+        if known.eq_ignore_ascii_case(name) {
+            return Ok((*known != name).then_some(*known));
+        }
+    }
+    near_name(alloc, names, name)
 }
 
 /// Returns the texts of names.
@@ -104,6 +136,15 @@ enum Named {
     Zones,
     /// Those of rule sets.
     Rules,
+}
+
+/// Returns the names that the lines of texts give.
+fn names_in(alloc: Global, texts: &[Vec<u8>], named: Named) -> Result<Vec<String>, AllocError> {
+    let mut names = Vec::new(alloc);
+    for text in texts {
+        push_names(alloc, &mut names, text, named)?;
+    }
+    Ok(names)
 }
 
 /// Adds the names that the lines of a text give.

@@ -29,7 +29,7 @@ impl Paths {
     pub(crate) fn of(request: &Request) -> Paths {
         match request {
             Request::Convert(order) => match &order.zones {
-                Zones::Source(_) => Paths::SourcesOr("--tree"),
+                Zones::Sources(_) => Paths::SourcesOr("--tree"),
                 Zones::Tree(_) => Paths::Others,
             },
             Request::Diff { trees: false, .. } => Paths::SourcesOr("--trees"),
@@ -96,8 +96,19 @@ pub(crate) fn unwritten<R: Files + AllocGlobal>(
     let alloc = rt.alloc();
     match (file_above(rt, path), reason) {
         (Some(file), _) => line(alloc, file, "not a directory"),
-        (None, Some(kind)) => line(alloc, path, words(kind)),
-        (None, None) => Ok(String::new(alloc)),
+        (None, reason) => refused_line(alloc, path, reason),
+    }
+}
+
+/// Returns a line that says why the system refuses what has this path or name, where that is known.
+pub(crate) fn refused_line(
+    alloc: Global,
+    path: &str,
+    reason: Option<ErrorKind>,
+) -> Result<String, AllocError> {
+    match reason {
+        Some(kind) => line(alloc, path, words(kind)),
+        None => Ok(String::new(alloc)),
     }
 }
 

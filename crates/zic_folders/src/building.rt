@@ -4,12 +4,12 @@ use crate::ending::Ending;
 use crate::extras::Extras;
 use std::alloc::Global;
 use std::fs::Files;
-use std::io::{ErrorKind, Input};
+use std::io::Input;
 use std::random::RandomSource;
 use std::sync::Wait;
 use std::thread::Threads;
 use zic_command_line::{Building, Links, NoRequest, usage_of};
-use zic_host::{Refusal, random_number, read_texts};
+use zic_host::{Refusal, WriteReason, random_number, read_texts};
 use zic_io::{Disk, Durability, Failure, LinkKind, LinkedFolder};
 
 /// Compiles sources, and places their files in a folder, with tables and the name of a release if these
@@ -24,7 +24,7 @@ pub fn build<R: Files + Input + RandomSource + AllocGlobal + Threads + Wait + Sy
     rt: &R,
     order: &Building,
     texts: &mut Vec<Vec<u8>>,
-    reason: &mut Option<ErrorKind>,
+    reason: &WriteReason,
 ) -> Result<Ending, Refusal> {
     expect_path(rt.alloc(), order.folder.as_str())?;
     read_texts(rt, &order.sources, texts)?;
@@ -51,7 +51,7 @@ fn place_with<R: Files + RandomSource + AllocGlobal + Threads + Wait + Sync>(
     order: &Building,
     texts: &[Vec<u8>],
     extras: &Extras,
-    reason: &mut Option<ErrorKind>,
+    reason: &WriteReason,
 ) -> Result<Ending, Refusal> {
     extras.expect_room(rt.alloc(), "build", texts)?;
     Ok(place(rt, order, texts, extras, reason)?)
@@ -63,7 +63,7 @@ fn place<R: Files + RandomSource + AllocGlobal + Threads + Wait + Sync>(
     order: &Building,
     texts: &[Vec<u8>],
     extras: &Extras,
-    reason: &mut Option<ErrorKind>,
+    reason: &WriteReason,
 ) -> Result<Ending, Failure> {
     let durability = if order.sync {
         Durability::Synced
@@ -72,7 +72,7 @@ fn place<R: Files + RandomSource + AllocGlobal + Threads + Wait + Sync>(
     };
     let mut disk = Disk::new(rt.alloc(), rt, random_number(rt), durability);
     let placed = place_on(rt, order, texts, extras, &mut disk);
-    *reason = disk.reason();
+    reason.set(disk.reason());
     drop(disk);
     placed
 }

@@ -1,6 +1,6 @@
 //! `diff`: when the files of two releases answer otherwise.
 
-ghost use Rattle.std.specs.Prelude.{◌≡◌, ◌≤ℤ◌, IfOk};
+ghost use Rattle.std.specs.Prelude.{◌≡◌, ◌≤ℤ◌, IfOk, IfSome};
 ghost use Rattle.zic_compare.specs.Files.{HasInstants};
 ghost use Rattle.zic_compile.specs.Build.{AreFilesOfTexts};
 ghost use Rattle.zic_source.specs.Texts.{texts_of};
@@ -29,8 +29,10 @@ use zic_tzif::Instants;
 /// Which two releases are compared, and what is listed of them.
 #[derive(Clone, Copy)]
 pub struct Differing<'a> {
-    /// The old source and the new one, or the folders.
+    /// The old sources and then the new ones, or the folders.
     pub sources: &'a [String],
+    /// How many of these are old.
+    pub old: usize,
     /// Whether they are folders of TZif files.
     pub trees: bool,
     pub plan: &'a Plan,
@@ -46,13 +48,13 @@ pub struct Differing<'a> {
     pub tells_status: bool,
 }
 
-/// Lists when the files of the second source or folder answer otherwise than those of the first. Reads the
-/// texts of sources. Returns how the command ends.
+/// Lists when the files of the new sources or the new folder answer otherwise than those of the old. Reads
+/// the texts of sources. Returns how the command ends.
 ///
 /// # Errors
 ///
-/// Why the texts aren't read or have no files, `CannotRead` with the path of a folder or for the clock,
-/// `CannotWriteOutput`, or `Memory`. By then a beginning of the list may be printed.
+/// Why the texts aren't read or have no files, `CannotRead` with the path of a folder, `CannotWriteOutput`,
+/// or `Memory`. By then a beginning of the list may be printed.
 pub fn diff<
     R: Files + Input + Print + Clock + RandomSource + AllocGlobal + Threads + Wait + Sync,
     E: Write + Drop,
@@ -63,7 +65,9 @@ pub fn diff<
     texts: &mut Vec<Vec<u8>>,
 ) -> Result<Ending, Failure> {
     let mut errors = errors;
-    let how = listed(rt, differing)?;
+    let Some(how) = listed(rt, differing) else {
+        return Ok(Ending::NoClock);
+    };
     let differ = if differing.trees {
         if differing.shows_release {
             show_of_folders(rt, &mut errors, differing.sources)?;
@@ -74,25 +78,26 @@ pub fn diff<
         if differing.shows_release {
             show_of_sources(rt.alloc(), &mut errors, differing.sources, texts)?;
         }
-        diff_texts(rt, differing.plan, texts, &how)?
+        let texts = old_and_new(texts, differing.old);
+        diff_texts(rt, differing.plan, &texts, &how)?
     };
     Ok(Ending::of_zones(differing.tells_status, differ))
 }
 
-/// Returns what is listed of two sources or folders.
-fn listed<R: Clock + AllocGlobal>(rt: &R, differing: &Differing<'_>) -> Result<Listed, Failure>
-    ensures { IfOk result HasInstants }
+/// Returns what is listed of two sources or folders, or `None` where that needs a clock that can't be read.
+fn listed<R: Clock>(rt: &R, differing: &Differing<'_>) -> Option<Listed>
+    ensures { IfSome result HasInstants }
 {
     let (compared, style) = (differing.compared, differing.style);
     let grouping = differing.grouping;
     match differing.differences {
-        Differences::Within { years, since } => Ok(Listed::Spans(Comparison {
+        Differences::Within { years, since } => Some(Listed::Spans(Comparison {
             compared,
             style,
             grouping,
             bounds: from_on(years.instants(), *since),
         })),
-        Differences::Summary { since } => Ok(Listed::Summaries(Survey {
+        Differences::Summary { since } => Some(Listed::Summaries(Survey {
             compared,
             style,
             grouping,
@@ -122,44 +127,43 @@ fn from_on(bounds: Instants, since: Option<i64>) -> Instants
     }
 }
 
-/// Returns the instant that is given as now, or the clock's in whole seconds.
-fn present<R: Clock + AllocGlobal>(rt: &R, given: Option<i64>) -> Result<i64, Failure> {
-    if let Some(now) = given {
-        return Ok(now);
+/// Returns the instant that is given as now, or the clock's in whole seconds, if it can be read.
+fn present<R: Clock>(rt: &R, given: Option<i64>) -> Option<i64> {
+    if given.is_some() {
+        return given;
     }
     match rt.since_1970() {
-        Ok(time) => Ok(i64::try_from(time.as_secs()).unwrap_or(i64::MAX)),
-        Err(_) => Err(Failure::CannotRead(String::from_str(rt.alloc(), "clock")?)),
+        Ok(time) => Some(i64::try_from(time.as_secs()).unwrap_or(i64::MAX)),
+        Err(_) => None,
     }
 }
 
-/// Lists when the files of the second text answer otherwise than those of the first.
+/// Lists when the files of the new texts answer otherwise than those of the old.
 fn diff_texts<R: Print + AllocGlobal + Threads + Wait + Sync>(
     rt: &R,
     plan: &Plan,
-    texts: &[Vec<u8>],
+    texts: &OldAndNew<'_>,
     how: &Listed,
 ) -> Result<bool, Failure>
     requires { HasInstants how.now }
 {
-    let OldAndNew { old, new } = old_and_new(texts);
-    let old = text_files(rt, plan, old, 1)?;
-    let done = diff_text(rt, plan, &old, new, how);
+    let old = text_files(rt, plan, texts.old, 0)?;
+    let done = diff_new(rt, plan, &old, texts, how);
     drop(old);
     done
 }
 
-/// Lists when the files of a text answer otherwise than these.
-fn diff_text<R: Print + AllocGlobal + Threads + Wait + Sync>(
+/// Lists when the files of the new texts answer otherwise than these.
+fn diff_new<R: Print + AllocGlobal + Threads + Wait + Sync>(
     rt: &R,
     plan: &Plan,
     old: &ZoneFiles,
-    new: &[Vec<u8>],
+    texts: &OldAndNew<'_>,
     how: &Listed,
 ) -> Result<bool, Failure>
     requires { HasInstants how.now }
 {
-    let new = text_files(rt, plan, new, 2)?;
+    let new = text_files(rt, plan, texts.new, texts.old.len() as u64)?;
     let none: Vec<String> = Vec::new(rt.alloc());
     let refused = Refused {
         old: &none,
@@ -175,18 +179,18 @@ fn diff_text<R: Print + AllocGlobal + Threads + Wait + Sync>(
     done
 }
 
-/// Returns the files of the text of this number. A fault of it is that of several texts.
+/// Returns the files of texts, before which this many others stand. A fault of one is that of several texts.
 fn text_files<R: AllocGlobal + Threads + Wait + Sync>(
     rt: &R,
     plan: &Plan,
     texts: &[Vec<u8>],
-    text: u64,
+    before: u64,
 ) -> Result<ZoneFiles, Failure>
     ensures { IfOk result (AreFilesOfTexts (texts_of texts.now)) }
 {
     match files_of(rt, rt.alloc(), plan, texts) {
         Ok(files) => Ok(files),
-        Err(failure) => Err(fault_in(text, failure)),
+        Err(failure) => Err(fault_in(before, failure)),
     }
 }
 

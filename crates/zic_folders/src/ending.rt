@@ -13,6 +13,8 @@ pub enum Ending {
     ZonesDiffer,
     /// No source names the release that a folder is to be of.
     NoRelease,
+    /// A comparison needs the date, and the clock can't be read.
+    NoClock,
 }
 
 impl Ending {

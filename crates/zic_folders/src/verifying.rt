@@ -12,8 +12,8 @@ use zic_command_line::ReleaseFiles;
 use zic_explain::shown_word;
 use zic_files::Files as ZoneFiles;
 use zic_host::{
-    NamesBelow, Refusal, UnreadFile, WholeFolder, expect_folder, is_missing, names_below,
-    read_texts, tell,
+    NamesBelow, Refusal, UnreadFile, WholeFolder, WriteReason, expect_folder, is_missing,
+    names_below, read_texts, tell,
 };
 use zic_io::Failure;
 use zic_layouts::Plan;
@@ -28,6 +28,8 @@ pub struct Verifying<'a> {
     pub release_files: &'a ReleaseFiles,
     /// Whether other files of the folder count.
     pub strict: bool,
+    /// Where it is noted why the system refuses what is printed.
+    pub reason: &'a WriteReason,
 }
 
 /// Reads the texts of the sources, and prints which of the files that `build` places for them, and for the
@@ -111,7 +113,7 @@ fn verify_files<R: Files + Print + AllocGlobal>(
         let names = others(rt, verifying.folder, extras)?;
         lines.extend_from_slice(&zic_compare::extra(rt.alloc(), files, &names)?)?;
     }
-    tell(rt, &lines)?;
+    tell(rt, verifying.reason, &lines)?;
     Ok(Ending::of(&lines))
 }
 

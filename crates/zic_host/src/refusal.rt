@@ -28,20 +28,24 @@ pub enum Refusal {
     /// No source begins with a line that names its release.
     #[error("no release in the sources")]
     NoRelease,
+    /// The clock can't be read, which a comparison needs.
+    #[error("cannot read clock; --now gives the date")]
+    NoClock,
     /// The command gave up, and lines after the first explain why.
     #[error("{failure}\n{text}")]
     Explained { failure: Failure, text: String },
 }
 
 impl Refusal {
-    /// Returns the status of a program that ends so: 2 for its words or for sources without a release, 1 where a folder or zones differ, else that
-    /// of the command's failure.
+    /// Returns the status of a program that ends so: 2 for its words or for sources without a release, 1 where
+    /// a folder or zones differ, 3 for the clock, else that of the command's failure.
     pub fn status(&self) -> u8
         ensures { result ≡ refusal_status self.now }
     {
         match self {
             Refusal::Usage(_) | Refusal::NoRelease => 2,
             Refusal::Differs | Refusal::ZonesDiffer => 1,
+            Refusal::NoClock => 3,
             Refusal::Command(failure) | Refusal::Explained { failure, .. } => failure.status(),
         }
     }

@@ -26,29 +26,38 @@ pub fn read_texts<R: Files + Input + AllocGlobal>(
 /// The texts of two releases that are compared.
 #[derive(Clone, Copy)]
 pub struct OldAndNew<'a> {
-    /// The text of OLD, or none where there are no texts.
+    /// The texts of OLD.
     pub old: &'a [Vec<u8>],
     /// The texts of the other release.
     pub new: &'a [Vec<u8>],
 }
 
-/// Returns the text of OLD, which is the first that was read, and those of the release that is compared
-/// with it.
-pub fn old_and_new(texts: &[Vec<u8>]) -> OldAndNew<'_>
-    ensures old { result.old.now ≡ old_texts texts.now }
-    ensures new { result.new.now ≡ new_texts texts.now }
+/// Returns the texts of OLD, which are this many and were read first, and those of the release that is
+/// compared with it.
+pub fn old_and_new(texts: &[Vec<u8>], count: usize) -> OldAndNew<'_>
+    ensures old { result.old.now ≡ old_texts count texts.now }
+    ensures new { result.new.now ≡ new_texts count texts.now }
 {
-    let (old, new) = texts.split_at(texts.len().min(1));
+    let (old, new) = texts.split_at(texts.len().min(count));
     OldAndNew { old, new }
 }
 
-/// Gives a fault at a line the number of its text, of several that were compiled each alone. Any other
-/// failure stays as it is.
-pub fn fault_in(text: u64, failure: Failure) -> Failure
-    ensures { result ≡ fault_in text failure }
+/// Gives a fault at a line the number of its text among all texts, of which this many stand before those of
+/// its release. Any other failure stays as it is.
+pub fn fault_in(before: u64, failure: Failure) -> Failure
+    ensures { result ≡ fault_in before failure }
 {
     match failure {
-        Failure::Line { line, kind } => Failure::TextLine { text, line, kind },
+        Failure::Line { line, kind } => Failure::TextLine {
+            text: before.saturating_add(1),
+            line,
+            kind,
+        },
+        Failure::TextLine { text, line, kind } => Failure::TextLine {
+            text: before.saturating_add(text),
+            line,
+            kind,
+        },
         other => other,
     }
 }

@@ -20,8 +20,9 @@ pub(crate) fn answer<
     E: Write + IsTerminal + Drop,
 >(rt: &R, errors: E, request: &Request, noted: &mut ConvertContext) -> Result<Ending, Refusal> {
     let texts = &mut noted.texts;
+    let reason = &noted.reason;
     let done = match request {
-        Request::Build(order) => return build(rt, order, texts, &mut noted.reason),
+        Request::Build(order) => return build(rt, order, texts, reason),
         Request::Verify {
             folder,
             sources,
@@ -35,12 +36,14 @@ pub(crate) fn answer<
                 plan,
                 release_files,
                 strict: *strict,
+                reason,
             };
             return verify(rt, &verifying, texts);
         }
-        Request::Check { sources, plan } => check(rt, sources, plan, texts),
+        Request::Check { sources, plan } => check(rt, sources, plan, texts, reason),
         Request::Diff {
             sources,
+            old,
             trees,
             plan,
             differences,
@@ -52,6 +55,7 @@ pub(crate) fn answer<
         } => {
             let differing = Differing {
                 sources,
+                old: *old,
                 trees: *trees,
                 plan,
                 differences,
@@ -64,17 +68,17 @@ pub(crate) fn answer<
             return Ok(diff(rt, errors, &differing, texts)?);
         }
         Request::Convert(order) => convert(rt, order, errors, noted),
-        Request::Show { file, instant } => show(rt, file.as_str(), *instant),
-        Request::ShowLocal { file, local } => show_local(rt, file.as_str(), local),
+        Request::Show { file, instant } => show(rt, file.as_str(), *instant, reason),
+        Request::ShowLocal { file, local } => show_local(rt, file.as_str(), local, reason),
         Request::ShowNext {
             file,
             schedule,
             after,
-        } => show_next(rt, file.as_str(), schedule, *after),
-        Request::Dump { file, years } => dump(rt, file.as_str(), years),
-        Request::Export(order) => return export(rt, order),
+        } => show_next(rt, file.as_str(), schedule, *after, reason),
+        Request::Dump { file, years } => dump(rt, file.as_str(), years, reason),
+        Request::Export(order) => return export(rt, order, reason),
         Request::Explain { text } | Request::Version { text } | Request::Help { text } => {
-            tell(rt, text.as_bytes())
+            tell(rt, reason, text.as_bytes())
         }
     };
     match done {

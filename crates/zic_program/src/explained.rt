@@ -59,11 +59,13 @@ fn lines_after<R: Files + AllocGlobal>(
         ended,
         faults,
         reason,
+        is_gzip,
         ..
     } = noted;
     let mut text = match explainer {
         Some(mut explainer) => {
-            explainer.refused_for(reason);
+            explainer.refused_for(reason.take());
+            explainer.begins_as_gzip(is_gzip);
             explainer.explanation(rt, failure, texts)?
         }
         None => String::new(rt.alloc()),

@@ -7,7 +7,7 @@ use std::rt::Env;
 use zic_command_line::{Exporting, NoRequest, usage_of};
 use zic_dump::{CalendarStop, vtimezone};
 use zic_folders::Ending;
-use zic_host::{Refusal, tell};
+use zic_host::{Refusal, WriteReason, tell};
 use zic_io::{Failure, read_file};
 use zic_tzif::{Zone, read};
 
@@ -19,9 +19,10 @@ use zic_tzif::{Zone, read};
 pub(crate) fn export<R: Env + Files + Print + AllocGlobal>(
     rt: &R,
     order: &Exporting,
+    reason: &WriteReason,
 ) -> Result<Ending, Refusal> {
     let path = path(rt, order)?;
-    let ending = export_at(rt, order, path.as_str());
+    let ending = export_at(rt, order, path.as_str(), reason);
     drop(path);
     ending
 }
@@ -36,13 +37,14 @@ fn export_at<R: Files + Print + AllocGlobal>(
     rt: &R,
     order: &Exporting,
     path: &str,
+    reason: &WriteReason,
 ) -> Result<Ending, Refusal> {
     let zone = zone_at(rt, path)?;
     let name = name_of(order, path);
     let made = vtimezone(rt.alloc(), &zone, name, order.since, order.until);
     drop(zone);
     match made {
-        Ok(text) => Ok(printed(rt, text)?),
+        Ok(text) => Ok(printed(rt, reason, text)?),
         Err(stop) => Ok(refused(rt.alloc(), stop)?),
     }
 }
@@ -68,8 +70,8 @@ fn name_of<'a>(order: &'a Exporting, path: &'a str) -> &'a str {
 }
 
 /// Prints a component.
-fn printed<R: Print>(rt: &R, text: String) -> Result<Ending, Failure> {
-    tell(rt, text.as_bytes())?;
+fn printed<R: Print>(rt: &R, reason: &WriteReason, text: String) -> Result<Ending, Failure> {
+    tell(rt, reason, text.as_bytes())?;
     Ok(Ending::Done)
 }
 

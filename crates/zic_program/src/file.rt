@@ -2,13 +2,13 @@
 
 use crate::zone_file::path_of;
 use std::fs::Files;
-use std::io::{self, Input};
+use std::io::Input;
 use std::rt::Env;
 use std::sync::Wait;
 use std::thread::Threads;
 use zic_counted::Counted;
 use zic_dump::Years;
-use zic_host::read_texts;
+use zic_host::{WriteReason, output, read_texts};
 use zic_io::{Failure, read_file};
 use zic_layouts::Plan;
 use zic_local::{LocalTime, Schedule};
@@ -19,9 +19,10 @@ pub(crate) fn check<R: Files + Input + Print + AllocGlobal + Threads + Wait + Sy
     sources: &[String],
     plan: &Plan,
     texts: &mut Vec<Vec<u8>>,
+    reason: &WriteReason,
 ) -> Result<(), Failure> {
     read_texts(rt, sources, texts)?;
-    let mut output = Counted::new(io::writer(rt));
+    let mut output = Counted::new(output(rt, reason));
     zic_bulk::check(rt, rt.alloc(), plan, texts, &mut output)
 }
 
@@ -30,9 +31,10 @@ pub(crate) fn show<R: Env + Files + Print + AllocGlobal>(
     rt: &R,
     file: &str,
     instant: i64,
+    reason: &WriteReason,
 ) -> Result<(), Failure> {
     let bytes = bytes_of(rt, file)?;
-    let mut output = Counted::new(io::writer(rt));
+    let mut output = Counted::new(output(rt, reason));
     zic_bulk::show(rt.alloc(), &bytes, instant, &mut output)
 }
 
@@ -41,9 +43,10 @@ pub(crate) fn show_local<R: Env + Files + Print + AllocGlobal>(
     rt: &R,
     file: &str,
     local: &LocalTime,
+    reason: &WriteReason,
 ) -> Result<(), Failure> {
     let bytes = bytes_of(rt, file)?;
-    let mut output = Counted::new(io::writer(rt));
+    let mut output = Counted::new(output(rt, reason));
     zic_bulk::show_local(rt.alloc(), &bytes, local, &mut output)
 }
 
@@ -53,9 +56,10 @@ pub(crate) fn show_next<R: Env + Files + Print + AllocGlobal>(
     file: &str,
     schedule: &Schedule,
     after: i64,
+    reason: &WriteReason,
 ) -> Result<(), Failure> {
     let bytes = bytes_of(rt, file)?;
-    let mut output = Counted::new(io::writer(rt));
+    let mut output = Counted::new(output(rt, reason));
     zic_bulk::show_next(rt.alloc(), &bytes, schedule, after, &mut output)
 }
 
@@ -64,9 +68,10 @@ pub(crate) fn dump<R: Env + Files + Print + AllocGlobal>(
     rt: &R,
     file: &str,
     years: &Years,
+    reason: &WriteReason,
 ) -> Result<(), Failure> {
     let bytes = bytes_of(rt, file)?;
-    let mut output = Counted::new(io::writer(rt));
+    let mut output = Counted::new(output(rt, reason));
     zic_bulk::dump(rt.alloc(), file, &bytes, years, &mut output)
 }
 

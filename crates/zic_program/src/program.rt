@@ -112,5 +112,6 @@ fn ended(ending: Ending) -> Result<(), Refusal>
         Ending::Differs => Err(Refusal::Differs),
         Ending::ZonesDiffer => Err(Refusal::ZonesDiffer),
         Ending::NoRelease => Err(Refusal::NoRelease),
+        Ending::NoClock => Err(Refusal::NoClock),
     }
 }
