@@ -132,7 +132,12 @@ fn advice(command: &str, word: &str) -> Option<&'static str> {
 fn advice_on_place(command: &str, word: &str) -> Option<&'static str> {
     match command {
         "convert" if !word.starts_with('-') => {
-            Some("the column is standard input: 'pzic convert SOURCE <COLUMN'")
+            Some(
+                "the column is standard input: 'pzic convert SOURCE <COLUMN'; --source adds a source",
+            )
+        }
+        "diff" if !word.starts_with('-') => {
+            Some("--old and --new add sources to OLD and to NEW")
         }
         "" if word.contains('/') || word.ends_with(".zi") => {
             Some("a command comes first, as in 'pzic check SOURCE'")
