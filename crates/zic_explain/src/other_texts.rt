@@ -457,9 +457,7 @@ const GROUP_5: [Entry; 6] = [
     Entry {
         name: "cannot read PATH",
         meaning: "The source, the file or the folder can't be read.",
-        says: r#"  The source, the file or the folder can't be read. Status 3. `cannot read
-  clock` is that of `diff --summary` without `--now`.
-"#,
+        says: "  The source, the file or the folder can't be read. Status 3.\n",
         expected: r#"  The path of a readable file. For `check`, `build`, `verify` and `diff` it may
   be `-`, standard input. A source has at most 67,108,864 bytes. For `--tree`
   and `--trees`, a folder.

@@ -315,7 +315,7 @@ impl Explainer {
 
     /// Returns the texts that are compiled together with the one at this index.
     fn side(&self, text: usize) -> Side<'_> {
-        let (old, new) = self.texts.split_at(self.texts.len().min(self.old));
+        let (old, new) = self.texts.split_at(self.old.min(self.texts.len()));
         if text < self.old {
             Side {
                 texts: old,

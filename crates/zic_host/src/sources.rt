@@ -38,7 +38,7 @@ pub fn old_and_new(texts: &[Vec<u8>], count: usize) -> OldAndNew<'_>
     ensures old { result.old.now ≡ old_texts count texts.now }
     ensures new { result.new.now ≡ new_texts count texts.now }
 {
-    let (old, new) = texts.split_at(texts.len().min(count));
+    let (old, new) = texts.split_at(count.min(texts.len()));
     OldAndNew { old, new }
 }
 
