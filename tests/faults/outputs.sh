@@ -3,7 +3,7 @@
 # It has folders in place of files and files in place of folders, links, a disk that is full after some bytes, and a folder that may
 # not be written. It has trees in which a system call fails, by `strace`, names with line ends, and tables that are pipes or links. It
 # ends conversions in each way whose lists can't be written. As root, it tries what may not be read or written as the user nobody.
-# Parts need: strace
+# Parts need: strace, cc
 set -euo pipefail
 cd "$(dirname "${BASH_SOURCE[0]}")/../.."
 . tests/common.sh
@@ -257,6 +257,27 @@ told 'pzic convert --header plain >/dev/full' 3 '' 'cannot write rows'
 status=0
 head -n 1 column | "$program" convert --tree zones.tree >/dev/full 2>../err || status=$?
 told 'pzic convert --tree zones.tree >/dev/full' 3 '' 'cannot write rows'
+
+# ------------------------------------------------------------------ a clock that can't be read
+
+if command -v cc >/dev/null; then
+    cat >../clock.c <<'END'
+#include <errno.h>
+#include <time.h>
+int clock_gettime(clockid_t clock, struct timespec *time) { return errno = EINVAL, -1; }
+END
+    cc -shared -fPIC -o ../clock.so ../clock.c
+    for options in '--summary' '--summary --explain'; do
+        status=0
+        LD_PRELOAD=$PWD/../clock.so "$program" diff $options plain later >../out 2>../err || status=$?
+        told "pzic diff $options, without a clock" 3 '' 'cannot read clock; --now gives the date'
+    done
+    status=0
+    LD_PRELOAD=$PWD/../clock.so "$program" diff --summary --now 0 plain plain >../out 2>../err || status=$?
+    told 'pzic diff --summary --now 0, without a clock' 0 '' ''
+else
+    echo "skipped: a clock that can't be read: there is no cc"
+fi
 
 # ------------------------------------------------------------------ files that can't be written
 
