@@ -35,8 +35,8 @@ _pzic() {
     check) options='--workers --zone-piece --explain --help' ;;
     build) options='--links --sync --release --tables --workers --zone-piece --explain --help' ;;
     verify) options='--strict --release --tables --workers --zone-piece --explain --help' ;;
-    diff) options='--old --new --trees --from --to --ignore --summary --now --style --status --show-release --workers --zone-piece --explain --help' ;;
-    convert) options='--source --tree --against --against-tree --workers --zone-piece --row-piece --max-rows --max-bytes --max-record --header --skip-header --prefix --zone --zone-field --time-field --delimiter --unit --from --ambiguous --style --records --quotes --append --keep-going --faults --faults-with --rejects --max-faults --progress --show-release --explain --help' ;;
+    diff) options='--old --new --trees --from --to --ignore --summary --now --style --group-links --status --show-release --workers --zone-piece --explain --help' ;;
+    convert) options='--source --ignore --tree --against --against-tree --workers --zone-piece --row-piece --max-rows --max-bytes --max-record --header --skip-header --prefix --zone --zone-field --time-field --delimiter --unit --from --ambiguous --show-ambiguous --empty --style --only --records --quotes --append --keep-going --faults --faults-with --rejects --max-faults --progress --show-release --explain --help' ;;
     show) options='--local --next --weekdays --disambiguation --explain --help' ;;
     dump) options='--from --to --explain --help' ;;
     export) options='--ics --name --since --until --explain --help' ;;
@@ -51,7 +51,7 @@ _pzic() {
     *:--release) takes='from-source' ;;
     *:--tables | *:--tree | *:--against-tree) takes='folders' ;;
     *:--old | *:--new | *:--source | *:--against | *:--faults | *:--rejects) takes='files' ;;
-    diff:--from | dump:--from | *:--to | *:--now | *:--zone-piece | *:--row-piece | *:--max-rows | *:--max-bytes | *:--max-record | *:--prefix | *:--zone-field | *:--time-field | *:--max-faults | *:--next | *:--name | *:--since | *:--until) takes='none' ;;
+    diff:--from | dump:--from | *:--to | *:--now | *:--zone-piece | *:--row-piece | *:--max-rows | *:--max-bytes | *:--max-record | *:--prefix | *:--zone-field | *:--time-field | *:--only | *:--max-faults | *:--next | *:--name | *:--since | *:--until) takes='none' ;;
     *:--ignore) takes='daylight abbreviation daylight,abbreviation' ;;
     diff:--style) takes='count iso' ;;
     *:--workers) takes='1 2 4 8 16 32 64' ;;
@@ -60,7 +60,8 @@ _pzic() {
     *:--unit) takes='s ms us ns' ;;
     convert:--from) takes='count seconds rfc3339 utc local' ;;
     *:--ambiguous) takes='reject earlier later compatible' ;;
-    convert:--style) takes='fields iso' ;;
+    *:--empty) takes='fault keep' ;;
+    convert:--style) takes='fields iso utc' ;;
     *:--records) takes='csv lines' ;;
     *:--quotes) takes='strict lenient' ;;
     *:--faults-with) takes='line value line,value' ;;

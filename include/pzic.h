@@ -584,7 +584,10 @@ enum { PZIC_START_FIELDS = 0, PZIC_START_RECORD = 1 };
 /* A row with a fault ends the run, is written without local time, or is left out. */
 enum { PZIC_FAULT_ENDS = 0, PZIC_FAULT_GOES_ON = 1, PZIC_FAULT_REJECTS = 2 };
 
-/* A row has local time and the UT offset in two fields, or in one, as 2007-03-11T03:00:00-04:00. */
+/*
+ * A row has local time and the UT offset in two fields, or in one, as 2007-03-11T03:00:00-04:00. By this
+ * one a row of a local time has the instant before it as 2007-03-11T07:00:00Z, and not as a count.
+ */
 enum { PZIC_STYLE_FIELDS = 0, PZIC_STYLE_ISO = 1 };
 
 /*
@@ -593,7 +596,7 @@ enum { PZIC_STYLE_FIELDS = 0, PZIC_STYLE_ISO = 1 };
  * --skip-header, --append, --keep-going, --rejects, --style, --quotes and --max-record.
  *
  * These options have no counterpart here. --against: convert by the files of both releases and compare
- * the rows. Fields by their names in a header. --faults-with: a fault has its row and its kind, and not
+ * the rows. --only, --style utc, --show-ambiguous and --empty. Fields by their names in a header. --faults-with: a fault has its row and its kind, and not
  * the line or the value. --max-rows, --max-bytes and --max-faults. --explain and --show-release. A call
  * works on the calling thread, without --workers and --progress.
  */

@@ -47,7 +47,8 @@ class Layout(NamedTuple):
     those of ``"csv"`` or ``"lines"``. With ``header`` the first record is one and one is written, with
     ``skip_header`` none is. Rows begin
     with their records by ``append``, and rows with faults are written by ``keep_going``. By the
-    ``style`` ``"iso"`` local time and the UT offset are one field, and else two. A record has at most
+    ``style`` ``"iso"`` local time and the UT offset are one field, and else two; by it the instant of a
+    local time stands before it as ``2007-03-11T07:00:00Z``. A record has at most
     ``max_record`` bytes, without its line end; a longer one has the fault ``RowTooLong``, which ends the run
     unless records are lines and ``keep_going`` is set, and a longer header is row 0. By the
     ``quotes`` ``"strict"`` a record has the fault ``RowQuote`` whose double quotes are open at its end, or in which a

@@ -155,6 +155,7 @@ def compile_texts(folder):
     check(rows.number == 2 and rows.faults == (pzic.RowFault(2, "RowInstant"),) and not rows.ended, rows)
     check(made.convert(b"A,0\n", style="iso") == b"A,0,1970-01-01T01:00:00+01:00,0,AAA\n", "iso")
     check(made.convert(b"1970-01-01T01:00:00\n", zone="A", source="local").endswith(b",0,+01:00:00,0,AAA\n"), "local")
+    check(made.convert(b"A,1970-01-01T01:00:00\n", source="local", style="iso").endswith(b",1970-01-01T00:00:00Z,1970-01-01T01:00:00+01:00,0,AAA\n"), "UT")
     check(made.convert(b"A,7.25\n", source="seconds", unit="ms") == b"A,7250,1970-01-01T01:00:07.250,+01:00:00,0,AAA\n", "seconds")
     for source, text in ("seconds", b"60.0"), ("utc", b"1970-01-01 00:01"), ("rfc3339", b"1970-01-01t02:01+02"):
         check(made.convert(b"A," + text + b"\n", source=source) == b"A,60,1970-01-01T01:01:00,+01:00:00,0,AAA\n", source)

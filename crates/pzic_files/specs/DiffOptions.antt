@@ -1,8 +1,8 @@
 -- What is listed of two lists of files, by numbers that C has. Own choice.
 use Rattle.std.specs.Prelude.{◌≡◌, ℕ, Bool, true, false}
 use Rattle.zic_compare.specs.Files.{HasInstants}
-use Rattle.zic_compare.specs.declared.sides.Compared.{Compared}
 use Rattle.zic_compare.specs.declared.sides.Grouping.TheVariants as groupings
+use Rattle.zic_layouts.specs.declared.compared.Compared.{Compared}
 use Rattle.zic_compare.specs.declared.sides.Listed.{Listed}
 use Rattle.zic_compare.specs.declared.sides.Listed.TheVariants as listed
 use Rattle.zic_compare.specs.declared.sides.Style.TheVariants as styles

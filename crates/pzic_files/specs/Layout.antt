@@ -19,6 +19,9 @@ use Rattle.zic_layouts.specs.declared.layout.RowStart.{RowStart}
 use Rattle.zic_layouts.specs.declared.layout.RowStart.TheVariants as starts
 use Rattle.zic_layouts.specs.declared.layout.Style.{Style}
 use Rattle.zic_layouts.specs.declared.layout.Style.TheVariants as styles
+use Rattle.zic_layouts.specs.declared.layout.EmptyTime.TheVariants as empty
+use Rattle.zic_layouts.specs.declared.row_field.RowFields.{RowFields}
+use Rattle.zic_layouts.specs.declared.row_field.RowFields.TheVariants as rows
 use Rattle.zic_layouts.specs.declared.layout.TimeFrom.{TimeFrom}
 use Rattle.zic_layouts.specs.declared.layout.TimeFrom.TheVariants as from
 use Rattle.zic_layouts.specs.declared.layout.Unit.{Unit}
@@ -79,6 +82,11 @@ abbrev pub style_number : Style → ℕ
 style_number styles.Fields = 0
 style_number styles.Iso = 1
 
+-- rows have the usual fields in the style of this number
+abbrev pub IsStyle : ℕ → RowFields → Type 0
+IsStyle n (rows.Usual style) = n ≡ style_number style
+IsStyle n (rows.Only fields) = ⊥
+
 -- how many fields a record has: this number, or by 1 for `more` at least this number
 abbrev pub IsFieldCount : ℕ → ℕ → FieldCount → Type 0
 IsFieldCount n more (fields.Exactly count) = (more ≡ 0) × (n ≡ count)
@@ -107,7 +115,7 @@ pub record HaveNumbers (given : ColumnLayout) (layout : Layout) : Type 0 where
   pub start : given.start ≡ start_number layout.start
   pub at_fault : given.at_fault ≡ fault_number layout.at_fault
   pub notes : layout.notes ≡ notes.Faults
-  pub style : given.style ≡ style_number layout.style
+  pub style : IsStyle given.style layout.fields
   pub max_record : IsLimit given.max_record layout.max_record
 
 -- The layout of these numbers, whose zones come from a field, or all are that of a name.
@@ -116,6 +124,7 @@ pub record IsLayoutOf (given : ColumnLayout) (name : List ℕ) (layout : Layout)
   pub delimiter : is_delimiter layout.delimiter ≡ true
   pub zone : IsZoneFrom given.zone name layout.zone
   pub prefix : layout.prefix ≡ []
+  pub empty : layout.empty ≡ empty.Fault
 
 -- No layout has the numbers, or the delimiter can't be one, or the name is no text.
 abbrev pub HasNoLayout : ColumnLayout → List ℕ → Type 0

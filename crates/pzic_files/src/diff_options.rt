@@ -3,7 +3,8 @@
 ghost use Rattle.std.specs.Prelude.{◌≡◌, Bool, MatchOption};
 ghost use Rattle.pzic_files.specs.DiffOptions.{HasNoListing, IsComparedBy, IsListedBy, ignore_number};
 
-use zic_compare::{Compared, Comparison, Grouping, Listed, Style, Survey};
+use zic_compare::{Comparison, Grouping, Listed, Style, Survey};
+use zic_layouts::Compared;
 use zic_tzif::Instants;
 
 /// What is listed of the names of two lists of files, by numbers.

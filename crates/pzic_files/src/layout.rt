@@ -8,8 +8,8 @@ ghost use Rattle.pzic_files.specs.Layout.{fault_number, from_number, header_numb
 use std::alloc::{AllocError, Global};
 use std::str::from_utf8;
 use zic_layouts::{
-    AtFault, Delimiter, Disambiguation, FieldCount, Header, InstantText, Layout, Notes, Prefix,
-    Quotes, Records, RowStart, Style, TimeFrom, Unit, ZoneFrom,
+    AtFault, Compared, Delimiter, Disambiguation, EmptyTime, FieldCount, Header, InstantText,
+    Layout, Notes, Prefix, Quotes, Records, RowFields, RowStart, Style, TimeFrom, Unit, ZoneFrom,
 };
 
 /// How a column is read, and what its rows are, by numbers.
@@ -253,7 +253,12 @@ pub(crate) fn layout_of(
         max_record: limit_of(given.max_record),
         start,
         prefix: Prefix::none(),
-        style,
+        fields: RowFields::Usual(style),
+        compared: Compared {
+            daylight: true,
+            abbreviation: true,
+        },
+        empty: EmptyTime::Fault,
         at_fault,
         notes: Notes::Faults,
     })

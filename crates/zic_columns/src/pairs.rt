@@ -89,7 +89,7 @@ fn after_return(bytes: &[u8], at: usize) -> usize
     next
 }
 
-/// Returns the index after the line end that stands at an index, if one does.
+/// Returns the index after the line end at an index, if one does.
 #[inline(always)]
 fn after_line_end(bytes: &[u8], at: usize) -> Option<usize>
     requires { at < length bytes.now }

@@ -128,7 +128,7 @@ fn advice(command: &str, word: &str) -> Option<&'static str> {
     advice_on_place(command, word)
 }
 
-/// Returns the sentence that helps where a word is refused that stands at the wrong place.
+/// Returns the sentence that helps for a word that is refused since it is at the wrong place.
 fn advice_on_place(command: &str, word: &str) -> Option<&'static str> {
     match command {
         "convert" if !word.starts_with('-') => {

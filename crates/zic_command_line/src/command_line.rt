@@ -15,11 +15,11 @@ use std::alloc::{AllocError, Global};
 use std::env::Args;
 use std::rt::Env;
 use std::{env, io};
-use zic_compare::{Compared, Grouping, Style};
+use zic_compare::{Grouping, Style};
 use zic_dump::Years;
 use zic_explain::shown_word;
 use zic_io::FaultFields;
-use zic_layouts::{Layout, Plan};
+use zic_layouts::{Compared, Layout, Plan};
 use zic_local::{LocalTime, Schedule};
 
 /// What the names of Link lines are made as.

@@ -135,7 +135,7 @@ static VERIFY: [Word; 8] = [
     EXPLAIN,
 ];
 
-static DIFF: [Word; 16] = [
+static DIFF: [Word; 17] = [
     Word {
         name: "OLD",
         help: "A file of Rule, Zone and Link lines, or -",
@@ -202,6 +202,11 @@ static DIFF: [Word; 16] = [
         form: Form::INSTANTS,
     },
     Word {
+        name: "group-links",
+        help: "The links of a zone share its lines",
+        form: Form::Flag,
+    },
+    Word {
         name: "status",
         help: "The status is 1 if anything differs",
         form: Form::Flag,
@@ -216,7 +221,7 @@ static DIFF: [Word; 16] = [
     EXPLAIN,
 ];
 
-static CONVERT: [Word; 11] = [
+static CONVERT: [Word; 12] = [
     Word {
         name: "SOURCE",
         help: "A file of Rule, Zone and Link lines",
@@ -226,6 +231,11 @@ static CONVERT: [Word; 11] = [
         name: "source",
         help: "A source, or one more; may be given again",
         form: Form::SOURCES,
+    },
+    Word {
+        name: "ignore",
+        help: "What isn't compared: daylight, abbreviation, or both",
+        form: Form::IGNORE,
     },
     Word {
         name: "tree",
@@ -281,7 +291,7 @@ static CONVERT: [Word; 11] = [
     },
 ];
 
-static CONVERT_ROWS: [Word; 22] = [
+static CONVERT_ROWS: [Word; 25] = [
     Word {
         name: "header",
         help: "Takes the first record for a header, writes one",
@@ -333,9 +343,24 @@ static CONVERT_ROWS: [Word; 22] = [
         form: Form::AMBIGUOUS,
     },
     Word {
+        name: "show-ambiguous",
+        help: "A field more: gap or fold, or empty",
+        form: Form::Flag,
+    },
+    Word {
+        name: "empty",
+        help: "An empty time: fault, or keep it",
+        form: Form::EMPTY,
+    },
+    Word {
         name: "style",
-        help: "Form of local time: fields or iso",
+        help: "Local time as fields, iso or utc",
         form: Form::STYLE,
+    },
+    Word {
+        name: "only",
+        help: "These fields of rows, as local,offset",
+        form: Form::FIELDS,
     },
     Word {
         name: "records",

@@ -4,10 +4,10 @@ use crate::command_line::{Building, Differences, Links, Request};
 use crate::instant::date_or_instant;
 use crate::no_request::{NoRequest, usage};
 use crate::release::release_files;
-use crate::values::{all_given, inputs_of, is_given, plan, word, years};
+use crate::values::{all_given, compared, inputs_of, is_given, plan, word, years};
 use clap::ArgMatches;
 use std::alloc::Global;
-use zic_compare::{Compared, Style};
+use zic_compare::{Grouping, Style};
 use zic_dump::Years;
 
 pub(crate) fn check(alloc: Global, matches: &ArgMatches<'_>) -> Result<Request, NoRequest> {
@@ -80,6 +80,7 @@ pub(crate) fn diff(alloc: Global, matches: &ArgMatches<'_>) -> Result<Request, N
         differences,
         compared,
         style: style(alloc, matches)?,
+        grouping: grouping(matches),
         shows_release: matches.get_flag("show-release"),
         tells_status: matches.get_flag("status"),
     })
@@ -149,17 +150,11 @@ fn style(alloc: Global, matches: &ArgMatches<'_>) -> Result<Style, NoRequest> {
     }
 }
 
-/// Returns what is compared of answers.
-fn compared(alloc: Global, matches: &ArgMatches<'_>) -> Result<Compared, NoRequest> {
-    let (daylight, abbreviation) = match matches.get_str("ignore") {
-        None => (true, true),
-        Some("daylight") => (false, true),
-        Some("abbreviation") => (true, false),
-        Some("daylight,abbreviation" | "abbreviation,daylight") => (false, false),
-        Some(_) => return Err(usage(alloc, "--ignore is daylight, abbreviation, or both")),
-    };
-    Ok(Compared {
-        daylight,
-        abbreviation,
-    })
+/// Returns which names have lines of their own.
+fn grouping(matches: &ArgMatches<'_>) -> Grouping {
+    if matches.get_flag("group-links") {
+        Grouping::Together
+    } else {
+        Grouping::Apart
+    }
 }

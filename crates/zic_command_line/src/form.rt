@@ -101,8 +101,21 @@ impl Form {
     /// Words for how a row has its local time and its UT offset.
     pub(crate) const STYLE: Form = Form::Choice {
         label: &["STYLE"],
-        words: &["fields", "iso"],
+        words: &["fields", "iso", "utc"],
         default: &["fields"],
+    };
+
+    /// Words for what an empty time does.
+    pub(crate) const EMPTY: Form = Form::Choice {
+        label: &["WHAT"],
+        words: &["fault", "keep"],
+        default: &["fault"],
+    };
+
+    /// The names of the fields of rows.
+    pub(crate) const FIELDS: Form = Form::Text {
+        label: &["FIELDS"],
+        default: &[],
     };
 
     /// What the names of fields begin with.

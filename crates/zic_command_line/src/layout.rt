@@ -2,12 +2,13 @@
 
 use crate::fields::{FieldWord, FieldWords};
 use crate::no_request::{NoRequest, usage};
+use crate::row_forms::{RowForms, row_forms};
 use clap::ArgMatches;
 use std::alloc::{AllocError, Global};
 use zic_io::FaultFields;
 use zic_layouts::{
-    AtFault, Delimiter, Disambiguation, FieldCount, Header, InstantText, Layout, Notes, Prefix,
-    Quotes, Records, RowStart, Style, TimeFrom, Unit, ZoneFrom,
+    AtFault, Delimiter, Disambiguation, EmptyTime, FieldCount, Header, InstantText, Layout, Notes,
+    Prefix, Quotes, Records, RowFields, RowStart, Style, TimeFrom, Unit, ZoneFrom,
 };
 
 /// How the fields of a record are written.
@@ -16,7 +17,7 @@ struct FieldForms {
     delimiter: Delimiter,
     unit: Unit,
     from: TimeFrom,
-    style: Style,
+    rows: RowForms,
 }
 
 /// What records are, and which of them is a header.
@@ -56,7 +57,7 @@ pub(crate) fn layout(
         delimiter,
         unit,
         from,
-        style,
+        rows,
     } = forms;
     let layout = Layout {
         zone,
@@ -71,7 +72,9 @@ pub(crate) fn layout(
         max_record: matches.get_one::<u64>("max-record"),
         start,
         prefix,
-        style,
+        fields: rows.fields,
+        compared: rows.compared,
+        empty: rows.empty,
         at_fault: reads.at_fault,
         notes: notes(matches),
     };
@@ -93,12 +96,12 @@ fn field_forms(alloc: Global, matches: &ArgMatches<'_>) -> Result<FieldForms, No
     let delimiter = delimiter(alloc, matches)?;
     let unit = unit(alloc, matches)?;
     let from = time_from(alloc, matches)?;
-    let style = style(alloc, matches)?;
+    let rows = row_forms(alloc, matches, from, is_compared(matches))?;
     Ok(FieldForms {
         delimiter,
         unit,
         from,
-        style,
+        rows,
     })
 }
 
@@ -388,15 +391,6 @@ fn disambiguation(alloc: Global, choice: Option<&str>) -> Result<Disambiguation,
     }
 }
 
-/// Returns how a row has its local time and its UT offset.
-fn style(alloc: Global, matches: &ArgMatches<'_>) -> Result<Style, NoRequest> {
-    match matches.get_str("style") {
-        Some("fields") => Ok(Style::Fields),
-        Some("iso") => Ok(Style::Iso),
-        _ => Err(usage(alloc, "--style is fields or iso")),
-    }
-}
-
 /// Returns where a record ends.
 fn records(alloc: Global, matches: &ArgMatches<'_>) -> Result<Records, NoRequest> {
     match matches.get_str("records") {
@@ -446,7 +440,8 @@ fn is_plain(layout: &Layout) -> bool {
         layout,
         Layout {
             start: RowStart::Fields,
-            style: Style::Fields,
+            fields: RowFields::Usual(Style::Fields),
+            empty: EmptyTime::Fault,
             at_fault: AtFault::End,
             notes: Notes::Faults,
             ..

@@ -21,6 +21,7 @@ mod instant;
 mod layout;
 mod no_request;
 mod release;
+mod row_forms;
 mod schedule;
 mod values;
 mod zone_file;

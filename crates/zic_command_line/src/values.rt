@@ -6,7 +6,7 @@ use clap::parser::ValueSource;
 use std::alloc::{AllocError, Global};
 use zic_base::STANDARD_INPUT;
 use zic_dump::Years;
-use zic_layouts::Plan;
+use zic_layouts::{Compared, Plan};
 
 /// Returns the word for what is required.
 pub(crate) fn given<'a>(
@@ -119,4 +119,19 @@ pub(crate) fn column_plan(alloc: Global, matches: &ArgMatches<'_>) -> Result<Pla
         Some(plan) => Ok(plan),
         None => Err(usage(alloc, "an option has a number outside its range")),
     }
+}
+
+/// Returns what is compared of answers.
+pub(crate) fn compared(alloc: Global, matches: &ArgMatches<'_>) -> Result<Compared, NoRequest> {
+    let (daylight, abbreviation) = match matches.get_str("ignore") {
+        None => (true, true),
+        Some("daylight") => (false, true),
+        Some("abbreviation") => (true, false),
+        Some("daylight,abbreviation" | "abbreviation,daylight") => (false, false),
+        Some(_) => return Err(usage(alloc, "--ignore is daylight, abbreviation, or both")),
+    };
+    Ok(Compared {
+        daylight,
+        abbreviation,
+    })
 }

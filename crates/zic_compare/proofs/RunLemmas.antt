@@ -9,7 +9,7 @@ use Rattle.zic_base.specs.State.{Shown}
 use Rattle.zic_compare.specs.Answers.{Pair, AreSeenAt, DifferAt, IsSeenAt, seen}
 use Rattle.zic_compare.specs.Differences.{HasAnswersAt, IsDifference, AreDifferences}
 use Rattle.zic_compare.specs.code.Run.{up_to, HasAnswersOf, Closes, IsRun, AreBefore}
-use Rattle.zic_compare.specs.declared.sides.Compared.{Compared}
+use Rattle.zic_layouts.specs.declared.compared.Compared.{Compared}
 use Rattle.zic_compare.specs.declared.difference.Difference.{Difference}
 use Rattle.zic_posix.specs.Instants.{Includes}
 use Rattle.zic_posix.specs.declared.span.Instants.{Instants}

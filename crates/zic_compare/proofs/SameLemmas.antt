@@ -8,7 +8,7 @@ use Rattle.zic_compare.specs.Differences.{AreDifferences, IsDifference}
 use Rattle.zic_compare.specs.Files.{AreLinesOfBoth}
 use Rattle.zic_compare.specs.Summary.{AgreeAt}
 use Rattle.zic_compare.specs.code.Short.{AreShort, IsShort}
-use Rattle.zic_compare.specs.declared.sides.Compared.{Compared}
+use Rattle.zic_layouts.specs.declared.compared.Compared.{Compared}
 use Rattle.zic_compare.specs.declared.sides.Listed.{Listed}
 use Rattle.zic_compare.specs.declared.sides.Listed.TheVariants as listed
 use Rattle.zic_compare.proofs.RunLemmas.{one_seen_of}

@@ -13,7 +13,7 @@ use Rattle.zic_compare.specs.Answers.{Pair, DifferAt, IsSeenAt}
 use Rattle.zic_compare.specs.Differences.{AreDifferences, HasAnswersAt, IsDifference}
 use Rattle.zic_compare.specs.Laws.{FourHundredYearsDecide, NoneComes}
 use Rattle.zic_compare.specs.Summary.{AgreeAt, AgreeFrom, DifferForEver, IsEndOfDifference, IsFirstDifference, IsSummary}
-use Rattle.zic_compare.specs.declared.sides.Compared.{Compared}
+use Rattle.zic_layouts.specs.declared.compared.Compared.{Compared}
 use Rattle.zic_compare.specs.declared.difference.Difference.{Difference}
 use Rattle.zic_compare.specs.declared.summary.Summary.{Summary}
 use Rattle.zic_posix.specs.Instants.{Includes}

@@ -1,7 +1,7 @@
 -- What two files answer at an instant, as far as it is compared.
 use Rattle.std.specs.Prelude.{◌≡◌, ◌≢◌, ◌&&◌, ℤ, if◌then◌else◌, [], Option, Some, None}
 use Rattle.zic_base.specs.State.{Shown}
-use Rattle.zic_compare.specs.declared.sides.Compared.{Compared}
+use Rattle.zic_layouts.specs.declared.compared.Compared.{Compared}
 use Rattle.zic_tzif.specs.Answer.{Answers}
 use Rattle.zic_tzif.specs.Content.{Content}
 

@@ -3,7 +3,7 @@ use Rattle.std.specs.Prelude.{◌*◌, ℤ, pos, ◌+ℤ◌, ◌<ℤ◌, ◌≤�
 use Rattle.zic_compare.specs.Answers.{Pair, pair, DifferAt}
 use Rattle.zic_compare.specs.Differences.{AreDifferences}
 use Rattle.zic_compare.specs.Summary.{AgreeAt}
-use Rattle.zic_compare.specs.declared.sides.Compared.{Compared}
+use Rattle.zic_layouts.specs.declared.compared.Compared.{Compared}
 use Rattle.zic_posix.specs.declared.span.Instants.{Instants}
 use Rattle.zic_tzif.specs.Answer.{IsBeforeLast}
 use Rattle.zic_tzif.specs.Content.{Content}

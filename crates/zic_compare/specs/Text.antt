@@ -4,7 +4,7 @@ use Rattle.std.specs.Ordering.{int_eq}
 use Rattle.zic_base.specs.Digits.{offset_text}
 use Rattle.zic_base.specs.State.{Shown}
 use Rattle.zic_compare.specs.InstantText.{instant_text}
-use Rattle.zic_compare.specs.declared.sides.Compared.{Compared}
+use Rattle.zic_layouts.specs.declared.compared.Compared.{Compared}
 use Rattle.zic_compare.specs.declared.sides.Comparison.{Comparison}
 use Rattle.zic_compare.specs.declared.difference.Difference.{Difference}
 use Rattle.zic_tzif.specs.Answer.{answered}

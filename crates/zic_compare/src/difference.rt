@@ -6,8 +6,9 @@ ghost use Rattle.zic_compare.specs.Differences.{AreDifferences, HasAnswersAt};
 ghost use Rattle.zic_compare.specs.code.Run.{Closes, HasAnswersOf, up_to};
 ghost use Rattle.zic_posix.specs.Instants.{Includes};
 
-use crate::sides::{Compared, are_same, seen};
+use crate::sides::{are_same, seen};
 use std::alloc::{AllocError, Global};
+use zic_layouts::Compared;
 use zic_tzif::{Answer, Instants, Zone};
 
 /// Instants, and what two files answer at each of them, as far as it is compared.

@@ -8,7 +8,7 @@ use crate::sides::Style;
 use itoa::Buffer;
 use std::alloc::{AllocError, Global};
 use zic_layouts::Unit;
-use zic_row_text::RowText;
+use zic_row_text::{RowText, RowTime};
 
 /// The start of the year 1 in UT.
 const FIRST_DATE: i64 = -62_135_596_800;
@@ -62,7 +62,12 @@ fn push_utc(alloc: Global, lines: &mut Vec<u8>, t: i64) -> Result<(), AllocError
     ensures { OnOk result (lines.new.items ≡ lines.old.items ++ utc_text t) }
 {
     let mut text = RowText::new(alloc);
-    text.push_local_time(i128::from(t), Unit::Second, b'Z')?;
+    let time = RowTime {
+        second: t,
+        fraction: 0,
+        unit: Unit::Second,
+    };
+    text.push_local_time(time, b'Z')?;
     lines.extend_from_slice(&text.bytes()[1..])?;
     lines.push(b'Z')?;
     Ok(())

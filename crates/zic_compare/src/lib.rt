@@ -42,9 +42,7 @@ mod writing;
 
 pub use difference::{Difference, differences};
 pub use files::{diff, lines_of_new, lines_of_old, with_names};
-pub use sides::{
-    Compared, Comparison, DiffStop, Grouping, Listed, Refused, Sides, Style, Survey, read_tree,
-};
+pub use sides::{Comparison, DiffStop, Grouping, Listed, Refused, Sides, Style, Survey, read_tree};
 pub use summary::{Summary, summarize};
 pub use verifying::{extra, verify};
 pub use writing::write_diff;

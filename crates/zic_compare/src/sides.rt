@@ -9,6 +9,7 @@ ghost use Rattle.zic_compare.specs.Reading.{IsReadAt};
 use std::alloc::{AllocError, Global};
 use zic_base::State;
 use zic_files::{Files, TreeFiles, ZoneTree};
+use zic_layouts::Compared;
 use zic_tzif::{Answer, Instants};
 
 /// The files that are compared, by their names: the old ones, and the new ones.
@@ -68,15 +69,6 @@ pub struct Survey {
     pub since: i64,
     /// The instant up to which an end of differences is past.
     pub present: i64,
-}
-
-/// Which parts of an answer are compared, besides its UT offset.
-#[derive(Clone, Copy, Debug, PartialEq, Eq)]
-pub struct Compared {
-    /// The daylight flag.
-    pub daylight: bool,
-    /// The abbreviation.
-    pub abbreviation: bool,
 }
 
 /// What is compared, and at which instants.

@@ -11,9 +11,10 @@ ghost use Rattle.zic_compare.specs.SummaryText.{lone_line, offset_field, summary
 
 use crate::difference::{Difference, differences};
 use crate::instant::push_instant;
-use crate::sides::{Compared, Style, Survey};
+use crate::sides::{Style, Survey};
 use std::alloc::{AllocError, Global};
 use zic_base::offset_text;
+use zic_layouts::Compared;
 use zic_tzif::{Answer, Instants, Zone};
 
 /// The seconds of 400 years, after which footers repeat what they say.

@@ -12,9 +12,10 @@ ghost use Rattle.zic_tzif.specs.Answer.{answered};
 
 use crate::difference::{Difference, differences};
 use crate::instant::push_instant;
-use crate::sides::{Compared, Comparison};
+use crate::sides::Comparison;
 use std::alloc::{AllocError, Global};
 use zic_base::{State, offset_text};
+use zic_layouts::Compared;
 use zic_tzif::{Answer, Zone};
 
 /// Adds a line for each span at which each of the two files of a name gives one answer, and the two

@@ -1,7 +1,7 @@
 -- The fault of a header, by its own bytes.
-use Rattle.std.proofs.Common.{◌≡◌, ◌⊎◌, ◌∙◌, ℕ, true, false, List, [], ◌∷◌, ◌++◌, map, take, arith, Option, Some, None, inl, inr, refl, sym, ap, subst, ⊎_elim}
+use Rattle.std.proofs.Common.{◌≡◌, ◌⊎◌, ◌∙◌, ℕ, ℤ, true, false, List, [], ◌∷◌, ◌++◌, map, take, arith, Option, Some, None, Result, inl, inr, refl, sym, ap, subst, ⊎_elim}
 use Rattle.std.specs.Option.{option_or}
-use Rattle.std.specs.Prelude.{All, IfSome, IsSome, ◌==◌, length, option_map, slice_get}
+use Rattle.std.specs.Prelude.{All, IfSome, IsSome, ◌==◌, is_some, length, nat_le, option_map, slice_get}
 use Rattle.csv.specs.Reading.{strip_bom}
 use Rattle.zic_base.specs.declared.stops.RunStop.TheVariants as stop
 use Rattle.zic_counted.specs.Counts.{Counts}
@@ -26,21 +26,28 @@ use Rattle.zic_columns.proofs.ByMode.{owns_by}
 use Rattle.zic_columns.specs.Lines.{line_records, open_record, records_by, texts_by}
 use Rattle.zic_columns.specs.Own.{CsvRecord, csv_records, first_text}
 use Rattle.zic_columns.specs.Quotes.{is_open}
-use Rattle.zic_columns.specs.Round.{records_of}
+use Rattle.zic_columns.specs.Round.{may_have, records_of}
 use Rattle.zic_columns.proofs.PieceRecords.{wholes_none}
 use Rattle.zic_columns.proofs.SomeRecords.{column_records-nil}
 use Rattle.zic_files.specs.File.{File}
 use Rattle.zic_layouts.specs.declared.layout.AtFault.{AtFault}
 use Rattle.zic_layouts.specs.declared.layout.AtFault.TheVariants as at
+use Rattle.zic_layouts.specs.Layout.{AreSameZones, IsUnkept, has_count}
+use Rattle.zic_layouts.specs.declared.layout.EmptyTime.TheVariants as empty
 use Rattle.zic_layouts.specs.declared.layout.Layout.{Layout}
+use Rattle.zic_layouts.specs.declared.layout.ZoneFrom.{ZoneFrom}
+use Rattle.zic_layouts.specs.declared.layout.ZoneFrom.TheVariants as from
 use Rattle.zic_layouts.specs.declared.layout.Records.{Records}
 use Rattle.zic_layouts.specs.declared.layout.Records.TheVariants as by
 use Rattle.zic_layouts.specs.Noted.{RowNote}
-use Rattle.zic_zones.specs.Zones.{ReleasesAgree, zone_in}
+use Rattle.zic_zones.specs.Zones.{ReleasesAgree, is_named, zone_in}
 use Rattle.zic_zones.specs.declared.zones.Releases.{Releases}
-use Rattle.zic_piece_rows.specs.LayoutRows.{ending, ends_by, fault_by, if_rejected, noted}
+use Rattle.zic_piece_rows.specs.LayoutRows.{count_in, ending, ends_by, err_fault, fault_by, file_named, has_right_quotes, if_rejected, noted, ok_count, time_by}
+use Rattle.zic_base.specs.Check.{first_failed}
+use Rattle.zic_row_text.specs.Count.{second_of}
+use Rattle.zic_piece_rows.specs.Rows.{is_row_instant, row_checks}
 use Rattle.zic_piece_rows.specs.PieceRows.{AreRowsOf, RowsOf}
-use Rattle.zic_convert.specs.Header.{fault_read, header_fault, header_kind}
+use Rattle.zic_convert.specs.Header.{fault_read, header_fault, header_kind, unkept}
 use Rattle.zic_convert.specs.code.Progress.{AreOfOne, EndsNoLine, HaltsAtCheck, HaltsAtHead, IsOwnFault, header_passed, is_open_by, kept_of, records_left}
 use Rattle.zic_convert.proofs.Staying.{IsKnownZone, fault_same, kept, round_known}
 
@@ -148,6 +155,26 @@ module _ (law : FirstRecordIsAlone) (d : ℕ) (can : CanDelimit d) where
 
 -- ---- the fault of a header with these own bytes
 
+-- a fault goes by the zone's field or name
+zone_fault : (layout : Layout) (a b : ZoneFrom) → AreSameZones a b → (files : List File) (most number : ℕ) (given : CsvRecord)
+    → fault_by (record layout { zone = b; empty = empty.Fault }) files most number given ≡ fault_by (record layout { zone = a; empty = empty.Fault }) files most number given
+zone_fault layout (from.Field i) (from.Field j) same files most number given = rw same refl
+zone_fault layout (from.Name a) (from.Name b) same files most number given = ap fault_of_name same where
+  time : List ℕ → Result ℤ RowKind
+  time name = time_by layout (file_named files name) (count_in layout given.fields)
+
+  fault_of_name : List ℕ → Option RowKind
+  fault_of_name name =
+      first_failed
+      (row_checks (nat_le number most) (may_have layout.max_record (length given.own)) (has_right_quotes layout.quotes layout.delimiter given) (has_count layout.count (length given.fields)) (is_named files name)
+      (is_some (ok_count (time name))) (err_fault (time name)) (is_row_instant (option_map (second_of layout.unit) (ok_count (time name)))))
+zone_fault layout (from.Field i) (from.Name b) same files most number given = absurd same
+zone_fault layout (from.Name a) (from.Field j) same files most number given = absurd same
+
+-- the fault where an empty time is one
+pub unkept_fault : (layout other : Layout) → IsUnkept layout other → (files : List File) (most number : ℕ) (given : CsvRecord) → fault_by other files most number given ≡ fault_by (unkept layout) files most number given
+unkept_fault layout other (zone, same, is) files most number given = ap (λ (l : Layout). fault_by l files most number given) is ∙ zone_fault layout layout.zone zone same files most number given
+
 module _ (law : FirstRecordIsAlone) (layout : Layout) (can : CanDelimit layout.delimiter) (own : List ℕ) where
   read_same : (mode : Records) → AreOfOne mode layout.delimiter own → is_open_by mode layout.delimiter own ≡ false → records_by mode layout.delimiter own ≡ csv_records layout.delimiter own
   read_same by.Csv of closed = refl
@@ -155,7 +182,7 @@ module _ (law : FirstRecordIsAlone) (layout : Layout) (can : CanDelimit layout.d
 
   -- of a record that a CSV reader gives
   pub read_by_mode : (files : List File) (mode : Records) → (own ≡ [] → ⊥) → AreOfOne mode layout.delimiter own → is_open_by mode layout.delimiter own ≡ false → (fault : Option RowKind)
-      → ((given : CsvRecord) → csv_records layout.delimiter own ≡ given ∷ [] → fault ≡ fault_by layout files 0 0 given)
+      → ((given : CsvRecord) → csv_records layout.delimiter own ≡ given ∷ [] → fault ≡ fault_by (unkept layout) files 0 0 given)
       → header_kind fault ≡ header_fault layout files (records_by mode layout.delimiter own)
   read_by_mode files mode some of closed fault is = ⊎_elim
       (λ (none : own ≡ []). absurd (some none))
@@ -165,7 +192,7 @@ module _ (law : FirstRecordIsAlone) (layout : Layout) (can : CanDelimit layout.d
 
   -- of an open line
   pub open_by_mode : (files : List File) (mode : Records) → EndsNoLine mode own → is_open_by mode layout.delimiter own ≡ true → (kind : RowKind)
-      → fault_by layout files 0 0 (open_record own) ≡ Some kind → header_kind (Some kind) ≡ header_fault layout files (records_by mode layout.delimiter own)
+      → fault_by (unkept layout) files 0 0 (open_record own) ≡ Some kind → header_kind (Some kind) ≡ header_fault layout files (records_by mode layout.delimiter own)
   open_by_mode files by.Csv ended opened kind is = absurd (cc opened)
   open_by_mode files by.Lines ended opened kind is = ap header_kind (sym is) ∙ sym (ap (header_fault layout files) (law.opened layout.delimiter own can ended opened))
 
@@ -206,7 +233,7 @@ module _ (law : FirstRecordIsAlone) (layout : Layout) (can : CanDelimit layout.d
   first_fault [] is = refl
   first_fault (first ∷ others) is =
       let keeps = (kept agree).zones in
-      ap header_kind (fault_same known.zones releases.zones keeps.still keeps.differ layout 0 0 first (All-head IsKnown first others is))
+      ap header_kind (fault_same known.zones releases.zones keeps.still keeps.differ (unkept layout) 0 0 first (All-head IsKnown first others is))
 
   pub own_same : AreOfOne layout.records layout.delimiter own → header_fault layout known.zones (records_left layout own) ≡ header_fault layout releases.zones (records_left layout own)
   own_same of = first_fault (records_left layout own) (known_by layout.records of.ended)

@@ -1,5 +1,5 @@
 -- That a column converts to one list of texts, and one fault or none.
-use Rattle.std.proofs.Common.{inl, inr, ◌≡◌, ◌≢◌, ◌+◌, ℕ, ℤ, List, [], ◌∷◌, ◌++◌, Option, Some, None, Result, Ok, refl, sym, ap, ap₂, subst, ◌∙◌}
+use Rattle.std.proofs.Common.{inl, inr, ◌≡◌, ◌≢◌, ◌+◌, ℕ, ℤ, Bool, true, false, List, [], ◌∷◌, ◌++◌, Option, Some, None, Result, Ok, refl, sym, ap, ap₂, subst, ◌∙◌}
 use Rattle.std.specs.Prelude.{Contains, IfSome, IsSome, bytes_eq}
 use Rattle.std.specs.Cmp.Lexicographic.{bytes_decides}
 use Rattle.std.proofs.lemmas.Bool.{cases_Bool}
@@ -15,11 +15,13 @@ use Rattle.zic_base.proofs.Elements.{get_contained}
 use Rattle.zic_base.proofs.OrderedLists.{one_by_key}
 use Rattle.zic_files.specs.File.{File}
 use Rattle.zic_files.specs.Sound.{AreSoundFiles, IsSoundFile}
+use Rattle.zic_layouts.specs.RowField.{compared_of}
 use Rattle.zic_layouts.specs.declared.layout.Layout.{Layout}
+use Rattle.zic_layouts.specs.declared.row_field.RowField.{RowField}
 use Rattle.zic_zones.specs.declared.zones.Releases.{Releases}
 use Rattle.zic_base.specs.declared.row_fault.RowKind.{RowKind}
 use Rattle.zic_convert.specs.Laws.{AreSoundReleases, ColumnsConvertOnce}
-use Rattle.zic_piece_rows.specs.LayoutRows.{HasAnswer, RecordsConvertBy, IsAnswerAt, IsAnswerBy, IsMovedRow, IsRowAt, IsTextBy, IsWrittenWith, with_answer, ends_by, fault_by, instant_by, rest_by, start_text}
+use Rattle.zic_piece_rows.specs.LayoutRows.{HasAnswer, RecordsConvertBy, IsAnswerAt, IsAnswerBy, IsMovedRow, IsRowAt, IsSoundAnswer, IsSoundRow, IsTextBy, IsWrittenWith, with_answer, empty_fields, ends_by, fault_by, fields_by, instant_by, keeps, row_fields, start_text}
 use Rattle.zic_piece_rows.specs.Rows.{RecordsConvertTo, IsTextOf, fault_of}
 
 same_count : (a b : ℤ) → ◌≡◌ {A = Result ℤ RowKind} (Ok a) (Ok b) → a ≡ b
@@ -69,23 +71,33 @@ module _ (answers : FilesAnswerOnce) (files : List File) (sound : AreSoundFiles 
   one_text_by layout row_record t u a b =
       let (file, input, count, state) = one_has layout row_record a.has b.has in
       let start : start_text layout row_record.own a.has.file.name a.has.input ≡ start_text layout row_record.own b.has.file.name b.has.input = rw (file, input) refl in
-      let rest : rest_by layout.delimiter layout.style layout.from layout.unit a.has.count a.has.state ≡ rest_by layout.delimiter layout.style layout.from layout.unit b.has.count b.has.state = rw (count, state) refl in
+      let rest : fields_by layout (row_fields layout) a.has.file a.has.input a.has.count a.has.state ≡ fields_by layout (row_fields layout) b.has.file b.has.input b.has.count b.has.state = rw (file, input, count, state) refl in
       a.is ∙ ap₂ (λ (x y : List ℕ). x ++ y) start rest ∙ sym b.is
 
   -- and the answer
-  one_answer_by : (layout : Layout) (row_record : CsvRecord) (t u : List ℕ) → IsAnswerBy layout files row_record t → IsAnswerBy layout files row_record u → t ≡ u
-  one_answer_by layout row_record t u a b =
+  one_answer_by : (layout : Layout) (fields : List RowField) (row_record : CsvRecord) (t u : List ℕ) → IsAnswerBy layout fields files row_record t → IsAnswerBy layout fields files row_record u → t ≡ u
+  one_answer_by layout fields row_record t u a b =
       let (file, input, count, state) = one_has layout row_record a.has b.has in
-      let rest : rest_by layout.delimiter layout.style layout.from layout.unit a.has.count a.has.state ≡ rest_by layout.delimiter layout.style layout.from layout.unit b.has.count b.has.state = rw (count, state) refl in
+      let rest : fields_by layout fields a.has.file a.has.input a.has.count a.has.state ≡ fields_by layout fields b.has.file b.has.input b.has.count b.has.state = rw (file, input, count, state) refl in
       a.is ∙ rest ∙ sym b.is
 
-  one_answer : (layout : Layout) (fault : Option RowKind) (row_record : CsvRecord) (t u : List ℕ) → IsAnswerAt layout files fault row_record t → IsAnswerAt layout files fault row_record u → t ≡ u
-  one_answer layout None row_record t u a b = one_answer_by layout row_record t u a b
-  one_answer layout (Some kind) row_record t u a b = a ∙ sym b
+  one_sound_answer : (layout : Layout) (fields : List RowField) (without : List ℕ) (kept : Bool) (row_record : CsvRecord) (t u : List ℕ) → IsSoundAnswer kept layout fields without files row_record t
+      → IsSoundAnswer kept layout fields without files row_record u → t ≡ u
+  one_sound_answer layout fields without false row_record t u a b = one_answer_by layout fields row_record t u a b
+  one_sound_answer layout fields without true row_record t u a b = a ∙ sym b
+
+  one_answer : (layout : Layout) (fields : List RowField) (without : List ℕ) (fault : Option RowKind) (row_record : CsvRecord) (t u : List ℕ) → IsAnswerAt layout fields without files fault row_record t
+      → IsAnswerAt layout fields without files fault row_record u → t ≡ u
+  one_answer layout fields without None row_record t u a b = one_sound_answer layout fields without (keeps layout row_record) row_record t u a b
+  one_answer layout fields without (Some kind) row_record t u a b = a ∙ sym b
+
+  one_sound : (layout : Layout) (kept : Bool) (row_record : CsvRecord) (t u : List ℕ) → IsSoundRow kept layout files row_record t → IsSoundRow kept layout files row_record u → t ≡ u
+  one_sound layout false row_record t u a b = one_text_by layout row_record t u a b
+  one_sound layout true row_record t u a b = a ∙ sym b
 
   -- and so has a row, with this fault or none
   one_row : (layout : Layout) (fault : Option RowKind) (row_record : CsvRecord) (t u : List ℕ) → IsRowAt layout files fault row_record t → IsRowAt layout files fault row_record u → t ≡ u
-  one_row layout None row_record t u a b = one_text_by layout row_record t u a b
+  one_row layout None row_record t u a b = one_sound layout (keeps layout row_record) row_record t u a b
   one_row layout (Some kind) row_record t u a b = a ∙ sym b
 
   module _ (most : ℕ) where
@@ -108,16 +120,19 @@ module _ (answers : FilesAnswerOnce) (releases : Releases) (sound : AreSoundRele
   one_moved layout old sound_old number row_record t u a b =
       let fault = fault_by layout releases.zones most number row_record in
       let old_fault = fault_by layout old most number row_record in
-      let row = one_row answers releases.zones sound.zones layout fault row_record a.row b.row a.by b.by in
-      let answer = one_answer answers releases.zones sound.zones layout fault row_record a.answer b.answer a.answers b.answers in
-      let other = one_answer answers old sound_old layout old_fault row_record a.other b.other a.others b.others in
-      elim (cases_Bool (bytes_eq a.answer a.other)) [
+      let row = one_row answers releases.zones sound.zones layout fault row_record a.row b.row a.is_row b.is_row in
+      let fields = row_fields layout in
+      let compared = compared_of layout.compared fields in
+      let seen = one_answer answers releases.zones sound.zones layout compared [] fault row_record a.seen b.seen a.is_seen b.is_seen in
+      let old_seen = one_answer answers old sound_old layout compared [] old_fault row_record a.old_seen b.old_seen a.is_old_seen b.is_old_seen in
+      let old_answer = one_answer answers old sound_old layout fields (empty_fields layout.delimiter fields) old_fault row_record a.old_answer b.old_answer a.is_old_answer b.is_old_answer in
+      elim (cases_Bool (bytes_eq a.seen a.old_seen)) [
         | inl is ↦
-            let same = (bytes_decides a.answer a.other).0 is in
-            a.same same ∙ sym (b.same (sym answer ∙ same ∙ other))
+            let same = (bytes_decides a.seen a.old_seen).0 is in
+            a.same same ∙ sym (b.same (sym seen ∙ same ∙ old_seen))
         | inr unlike ↦
-            let differ : (a.answer ≡ a.other → ⊥) = λ e. (let yes = (bytes_decides a.answer a.other).1 e in cc (sym yes ∙ unlike)) in
-            a.moved differ ∙ ap₂ with_answer row other ∙ sym (b.moved (λ e. differ (answer ∙ e ∙ sym other)))
+            let differ : (a.seen ≡ a.old_seen → ⊥) = λ e. (let yes = (bytes_decides a.seen a.old_seen).1 e in cc (sym yes ∙ unlike)) in
+            a.moved differ ∙ ap₂ with_answer row old_answer ∙ sym (b.moved (λ e. differ (seen ∙ e ∙ sym old_seen)))
       ]
 
   one_written : (layout : Layout) (old : Option (List File)) → IfSome old AreSoundFiles → (number : ℕ) (row_record : CsvRecord) (t u : List ℕ)

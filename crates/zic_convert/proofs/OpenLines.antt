@@ -8,13 +8,15 @@ use Rattle.zic_columns.specs.Round.{may_have}
 use Rattle.zic_counted.specs.Counts.{Counts}
 use Rattle.zic_files.specs.File.{File}
 use Rattle.zic_zones.specs.declared.zones.Releases.{Releases}
+use Rattle.zic_layouts.specs.RowField.{compared_of}
 use Rattle.zic_layouts.specs.declared.layout.Layout.{Layout}
+use Rattle.zic_layouts.specs.declared.row_field.RowField.{RowField}
 use Rattle.zic_layouts.specs.Noted.{RowNote}
 use Rattle.zic_base.specs.declared.row_fault.RowKind.{RowKind}
 use Rattle.zic_base.specs.declared.row_fault.RowKind.TheVariants as kinds
 use Rattle.zic_base.specs.declared.stops.RunStop.{RunStop}
 use Rattle.zic_base.specs.declared.stops.RunStop.TheVariants as stop
-use Rattle.zic_piece_rows.specs.LayoutRows.{IsAnswerAt, IsRowAt, IsWrittenWith, empty_fields, ending, ends_by, fault_by, faulty_text, if_rejected, noted, unless_rejected}
+use Rattle.zic_piece_rows.specs.LayoutRows.{IsAnswerAt, IsRowAt, IsWrittenWith, empty_fields, ending, ends_by, fault_by, faulty_text, if_rejected, noted, row_fields, unless_rejected}
 use Rattle.zic_convert.specs.By.{By}
 use Rattle.zic_convert.specs.code.Pieces.{joined}
 use Rattle.zic_piece_rows.specs.PieceRows.{AreRowsOf, RowsOf, empty_rows}
@@ -48,14 +50,21 @@ module _ (layout : Layout) (releases : Releases) (most number : ℕ) (given : Cs
   faulty_written None = subst (λ (o : Option RowKind). IsRowAt layout releases.zones o given (faulty_text layout kind given)) (sym (here releases.zones)) refl
   faulty_written (Some old) = record {
     row = faulty_text layout kind given;
-    by = subst (λ (o : Option RowKind). IsRowAt layout releases.zones o given (faulty_text layout kind given)) (sym (here releases.zones)) refl;
-    answer = empty_fields layout;
-    answers = subst (λ (o : Option RowKind). IsAnswerAt layout releases.zones o given (empty_fields layout)) (sym (here releases.zones)) refl;
-    other = empty_fields layout;
-    others = subst (λ (o : Option RowKind). IsAnswerAt layout old o given (empty_fields layout)) (sym (here old)) refl;
+    is_row = subst (λ (o : Option RowKind). IsRowAt layout releases.zones o given (faulty_text layout kind given)) (sym (here releases.zones)) refl;
+    seen = [];
+    is_seen = subst (λ (o : Option RowKind). IsAnswerAt layout compared [] releases.zones o given []) (sym (here releases.zones)) refl;
+    old_seen = [];
+    is_old_seen = subst (λ (o : Option RowKind). IsAnswerAt layout compared [] old o given []) (sym (here old)) refl;
+    old_answer = none;
+    is_old_answer = subst (λ (o : Option RowKind). IsAnswerAt layout (row_fields layout) none old o given none) (sym (here old)) refl;
     same = λ e. refl;
     moved = λ differ. absurd (differ refl);
-  }
+  } where
+    compared : List RowField
+    compared = compared_of layout.compared (row_fields layout)
+
+    none : List ℕ
+    none = empty_fields layout.delimiter (row_fields layout)
 
   -- a record whose row has a fault
   pub one_faulty : ending layout.at_fault layout.records (Some kind) ≡ None

@@ -20,6 +20,7 @@ use Rattle.zic_layouts.specs.declared.layout.Layout.{Layout}
 use Rattle.zic_layouts.specs.declared.layout.Style.TheVariants as styles
 use Rattle.zic_layouts.specs.declared.layout.Unit.{Unit}
 use Rattle.zic_layouts.specs.declared.layout.Unit.TheVariants as unit
+use Rattle.zic_row_text.proofs.UsualFields.{usual_fields}
 use Rattle.zic_row_text.proofs.Counts.{count_seconds, counted_seconds, second_one}
 use Rattle.zic_row_text.specs.Count.{counted_rest_text, counted_row_text, second_of}
 use Rattle.zic_row_text.specs.Instant.{instant_of}
@@ -31,7 +32,7 @@ use Rattle.zic_convert.specs.By.{By}
 use Rattle.zic_convert.specs.Column.{AreRowRecords, ConvertsBodyTo, ConvertsBy, ConvertsTo, read_by, records_read}
 use Rattle.zic_convert.specs.Laws.{PlainColumnsConvertAlike}
 use Rattle.zic_piece_rows.specs.Rows.{RecordsConvertTo, IsTextOf, fault_of, instant_in, is_closed, is_row_instant, name_in}
-use Rattle.zic_piece_rows.specs.LayoutRows.{RecordsConvertBy, IsRowAt, IsTextBy, count_in, ends_by, fault_by, file_named, rest_by, start_text, time_by, ok_count, err_fault}
+use Rattle.zic_piece_rows.specs.LayoutRows.{RecordsConvertBy, IsRowAt, IsSoundRow, IsTextBy, count_in, ends_by, fault_by, fields_by, file_named, keeps, row_fields, start_text, time_by, ok_count, err_fault}
 use Rattle.zic_convert.specs.code.Row.{fields_of_all}
 
 same_seconds : (o : Option ℤ) → option_map (second_of unit.Second) o ≡ o
@@ -63,10 +64,15 @@ row_in_parts u name count state = append_assoc name (44 ∷ signed_decimal count
 module _ (layout : Layout) (plain : HasPlainRows layout) (files : List File) where
   -- the text of a row that begins with a name and an instant, with commas
   plain_row_text : (own name : List ℕ) (count : ℤ) (state : Shown)
-      → start_text layout own name count ++ rest_by layout.delimiter layout.style layout.from layout.unit count state ≡ row_text name count state
-  plain_row_text own name count state =
-      rw (plain.start, plain.style, plain.delimiter, plain.from, plain.unit)
-      (row_in_parts unit.Second name count state ∙ counted_seconds name count state)
+      → (file : File) (input : ℤ) → start_text layout own name count ++ fields_by layout (row_fields layout) file input count state ≡ row_text name count state
+  plain_row_text own name count state file input =
+      rw (plain.start, plain.fields, plain.delimiter, plain.from, plain.unit)
+      (ap (λ (l : List ℕ). (name ++ 44 ∷ signed_decimal count) ++ l) (usual_fields 44 styles.Fields unit.Second count state [])
+      ∙ row_in_parts unit.Second name count state ∙ counted_seconds name count state)
+
+  -- no empty field is kept
+  pub none_kept : (row_record : CsvRecord) → keeps layout row_record ≡ false
+  none_kept row_record = rw plain.empty refl
 
   -- the count of a field is that of an instant
   plain_count : (file : Option File) (count : Option ℤ) → ok_count (time_by layout file count) ≡ count
@@ -91,7 +97,7 @@ module _ (layout : Layout) (plain : HasPlainRows layout) (files : List File) whe
     fault_made number own (a ∷ b ∷ []) =
         let file = file_named files (zone_in layout.zone (a ∷ b ∷ [])) in
         let count = count_in layout (a ∷ b ∷ []) in
-        rw (plain.max_record, plain.quotes, plain_count file count, plain_missing file count, plain.count, plain.zone, plain.time, plain.from, plain.unit, count_seconds b, same_seconds (instant_of b)) refl
+        rw (plain.max_record, plain.quotes, plain.empty, plain_count file count, plain_missing file count, plain.count, plain.zone, plain.time, plain.from, plain.unit, count_seconds b, same_seconds (instant_of b)) refl
     fault_made number own (a ∷ b ∷ c ∷ rest) = other_fault number own (a ∷ b ∷ c ∷ rest) (ne_eqb (length (a ∷ b ∷ c ∷ rest)) 2 (λ e. omega (arith, e)))
 
     -- a record has the fault that it has in a plain column
@@ -119,7 +125,7 @@ module _ (layout : Layout) (plain : HasPlainRows layout) (files : List File) whe
           state = is.state;
           answers = rw (plain.unit, second_one is.instant) is.answers;
         };
-        is = is.is ∙ sym (plain_row_text own is.file.name is.instant is.state);
+        is = is.is ∙ sym (plain_row_text own is.file.name is.instant is.state is.file is.instant);
       }
 
   -- and the other way round
@@ -136,8 +142,8 @@ module _ (layout : Layout) (plain : HasPlainRows layout) (files : List File) whe
         state = is.has.state;
         answers = subst (λ (t : ℤ). Answers is.has.file.image.content t (Some is.has.state)) (sym same) (rw (plain.unit, second_one is.has.count) at is.has.answers);
         is = is.is
-            ∙ ap (λ (t : ℤ). start_text layout row_record.own is.has.file.name is.has.input ++ rest_by layout.delimiter layout.style layout.from layout.unit t is.has.state) (sym same)
-            ∙ plain_row_text row_record.own is.has.file.name is.has.input is.has.state;
+            ∙ ap (λ (t : ℤ). start_text layout row_record.own is.has.file.name is.has.input ++ fields_by layout (row_fields layout) is.has.file is.has.input t is.has.state) (sym same)
+            ∙ plain_row_text row_record.own is.has.file.name is.has.input is.has.state is.has.file is.has.input;
       }
 
   -- a record without a fault has two fields
@@ -155,7 +161,8 @@ module _ (layout : Layout) (plain : HasPlainRows layout) (files : List File) whe
   come_plainly most number (row_record ∷ row_records) (text ∷ texts) fault come =
       let sound = sym (plain_ends most number row_record) ∙ come.0 in
       let two = two_of most number row_record.fields sound in
-      let row = subst (λ (o : Option RowKind). IsRowAt layout files o row_record text) (plain_fault most number row_record ∙ sound) come.1 in
+      let row = subst (λ (b : Bool). IsSoundRow b layout files row_record text) (none_kept row_record)
+      (subst (λ (o : Option RowKind). IsRowAt layout files o row_record text) (plain_fault most number row_record ∙ sound) come.1) in
       (sound, text_plainly row_record two.0 two.1 text two.2 row, come_plainly most (number + 1) row_records texts fault come.2)
 
   -- and the other way round
@@ -167,7 +174,7 @@ module _ (layout : Layout) (plain : HasPlainRows layout) (files : List File) whe
       let two = two_of most number row_record.fields come.0 in
       let row = text_by row_record.own row_record.fields two.0 two.1 text two.2 come.1 in (
         plain_ends most number row_record ∙ come.0,
-        subst (λ (o : Option RowKind). IsRowAt layout files o row_record text) (sym (plain_fault most number row_record ∙ come.0)) row,
+        subst (λ (o : Option RowKind). IsRowAt layout files o row_record text) (sym (plain_fault most number row_record ∙ come.0)) (subst (λ (b : Bool). IsSoundRow b layout files row_record text) (sym (none_kept row_record)) row),
         come_by most (number + 1) row_records texts fault come.2,
       )
 

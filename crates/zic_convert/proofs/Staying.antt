@@ -1,6 +1,6 @@
 -- Rows by the files that are known, and by other files that may be.
 use Rattle.std.proofs.Common.{◌≡◌, ◌≢◌, ◌∙◌, ◌+◌, ℕ, ℤ, Bool, true, false, List, [], ◌∷◌, ◌++◌, map, Option, Some, None, Result, ap, ap₂, refl, sym, subst, arith}
-use Rattle.std.specs.Prelude.{All, AllPairs, Contains, bytes_eq, is_some, nat_le, option_map, length, if◌then◌else◌}
+use Rattle.std.specs.Prelude.{◌||◌, All, AllPairs, Contains, bytes_eq, is_some, nat_le, option_map, length, if◌then◌else◌}
 use Rattle.std.proofs.lemmas.List.Elements.{All-cons, All-head, All-tail}
 use Rattle.std.proofs.lemmas.Option.{same_Some}
 use Rattle.std.proofs.lemmas.Slice.Eq.{bytes_eq-Decides}
@@ -17,16 +17,18 @@ use Rattle.zic_columns.specs.Round.{records_of, records_of_pieces, taken_records
 use Rattle.zic_columns.proofs.PieceRecords.{pieces_fields}
 use Rattle.zic_files.specs.File.{File}
 use Rattle.zic_layouts.specs.Layout.{has_count}
+use Rattle.zic_layouts.specs.RowField.{compared_of}
 use Rattle.zic_layouts.specs.declared.layout.Layout.{Layout}
+use Rattle.zic_layouts.specs.declared.row_field.RowField.{RowField}
 use Rattle.zic_layouts.specs.declared.layout.ZoneFrom.{ZoneFrom}
 use Rattle.zic_layouts.specs.Noted.{RowNote}
 use Rattle.zic_base.specs.declared.row_fault.RowKind.{RowKind}
 use Rattle.zic_base.specs.declared.row_fault.RowKind.TheVariants as kind
 use Rattle.zic_row_text.specs.Count.{second_of}
 use Rattle.zic_zones.specs.declared.zones.Releases.{Releases}
-use Rattle.zic_zones.specs.Zones.{Agree, OldAgree, ReleasesAgree, is_named, number_of, zone_in}
+use Rattle.zic_zones.specs.Zones.{Agree, OldAgree, ReleasesAgree, field_at, is_named, number_of, zone_in}
 use Rattle.zic_piece_rows.specs.Rows.{is_closed, is_row_instant}
-use Rattle.zic_piece_rows.specs.LayoutRows.{HasAnswer, RecordsConvertBy, IsAnswer, IsAnswerAt, IsAnswerBy, IsRowAt, IsRowBy, IsTextBy, IsWrittenWith, admits_stray, count_in, ending, ends_by, fault_by, faults_by, file_at, file_named, noted, time_by, ok_count, err_fault}
+use Rattle.zic_piece_rows.specs.LayoutRows.{HasAnswer, RecordsConvertBy, IsAnswer, IsAnswerAt, IsAnswerBy, IsRowAt, IsRowBy, IsSoundAnswer, IsSoundRow, IsTextBy, IsWrittenWith, admits_stray, count_in, empty_fields, ending, ends_by, fault_by, faults_by, file_at, file_named, is_kept, keeps as keeps_time, noted, row_fields, time_by, ok_count, err_fault}
 use Rattle.zic_convert.specs.code.Row.{fields_of_all}
 use Rattle.zic_piece_rows.specs.PieceRows.{AreRowsOf, RowsOf}
 use Rattle.zic_piece_rows.proofs.MadeTexts.{among}
@@ -95,8 +97,8 @@ module _ (known files : List File) (still : (file : File) → Contains known fil
         ∷ check (admits_stray layout.quotes (has_stray layout.delimiter own)) kind.RowQuote
         ∷ check (has_count layout.count (length fields)) kind.RowFields
         ∷ check named kind.RowZone
-        ∷ check (is_some (ok_count time)) (err_fault time)
-        ∷ check (is_row_instant (option_map (second_of layout.unit) (ok_count time))) kind.RowRange
+        ∷ check (is_kept layout.empty (field_at fields layout.time) || is_some (ok_count time)) (err_fault time)
+        ∷ check (is_kept layout.empty (field_at fields layout.time) || is_row_instant (option_map (second_of layout.unit) (ok_count time))) kind.RowRange
         ∷ [])) (named_same (zone_in layout.zone fields) (only refl))
         (ap (λ (file : Option File). time_by layout file (count_in layout fields)) (file_same (zone_in layout.zone fields) (only refl)))
 
@@ -122,22 +124,33 @@ module _ (known files : List File) (still : (file : File) → Contains known fil
     unfolding has_same
     text_same row_record text is = record { has = has_same row_record is.has; is = is.is }
 
+    sound_same : (kept : Bool) (row_record : CsvRecord) (text : List ℕ) → IsSoundRow kept layout known row_record text → IsSoundRow kept layout files row_record text
+    sound_same false row_record text is = text_same row_record text is
+    sound_same true row_record text is = is
+
     row_same : (fault : Option RowKind) (row_record : CsvRecord) (text : List ℕ) → IsRowAt layout known fault row_record text → IsRowAt layout files fault row_record text
-    row_same None row_record text is = text_same row_record text is
+    row_same None row_record text is = sound_same (keeps_time layout row_record) row_record text is
     row_same (Some kind) row_record text is = is
 
     -- which ends with the answer
-    answer_text_same : (row_record : CsvRecord) (answer : List ℕ) → IsAnswerBy layout known row_record answer → IsAnswerBy layout files row_record answer
+    answer_text_same : (fields : List RowField) (row_record : CsvRecord) (answer : List ℕ) → IsAnswerBy layout fields known row_record answer → IsAnswerBy layout fields files row_record answer
     unfolding has_same
-    answer_text_same row_record answer is = record { has = has_same row_record is.has; is = is.is }
+    answer_text_same fields row_record answer is = record { has = has_same row_record is.has; is = is.is }
 
-    answer_at_same : (fault : Option RowKind) (row_record : CsvRecord) (answer : List ℕ) → IsAnswerAt layout known fault row_record answer → IsAnswerAt layout files fault row_record answer
-    answer_at_same None row_record answer is = answer_text_same row_record answer is
-    answer_at_same (Some kind) row_record answer is = is
+    sound_answer_same : (fields : List RowField) (without : List ℕ) (kept : Bool) (row_record : CsvRecord) (answer : List ℕ) → IsSoundAnswer kept layout fields without known row_record answer
+        → IsSoundAnswer kept layout fields without files row_record answer
+    sound_answer_same fields without false row_record answer is = answer_text_same fields row_record answer is
+    sound_answer_same fields without true row_record answer is = is
 
-    answer_same : (number : ℕ) (w : CsvRecord) (answer : List ℕ) → IsKnownZone layout.zone known files w → IsAnswer layout known most number w answer → IsAnswer layout files most number w answer
-    answer_same number w answer only is =
-        subst (λ (f : Option RowKind). IsAnswerAt layout files f w answer) (fault_same number w only) (answer_at_same (fault_by layout known most number w) w answer is)
+    answer_at_same : (fields : List RowField) (without : List ℕ) (fault : Option RowKind) (row_record : CsvRecord) (answer : List ℕ) → IsAnswerAt layout fields without known fault row_record answer
+        → IsAnswerAt layout fields without files fault row_record answer
+    answer_at_same fields without None row_record answer is = sound_answer_same fields without (keeps_time layout row_record) row_record answer is
+    answer_at_same fields without (Some kind) row_record answer is = is
+
+    answer_same : (fields : List RowField) (without : List ℕ) (number : ℕ) (w : CsvRecord) (answer : List ℕ) → IsKnownZone layout.zone known files w → IsAnswer layout fields without known most number w answer
+        → IsAnswer layout fields without files most number w answer
+    answer_same fields without number w answer only is =
+        subst (λ (f : Option RowKind). IsAnswerAt layout fields without files f w answer) (fault_same number w only) (answer_at_same fields without (fault_by layout known most number w) w answer is)
 
     row_by_same : (number : ℕ) (w : CsvRecord) (text : List ℕ) → IsKnownZone layout.zone known files w → IsRowBy layout known most number w text → IsRowBy layout files most number w text
     row_by_same number w text only is =
@@ -194,11 +207,13 @@ module _ (known releases : Releases) (keeps : KeepsBoth known releases) (layout 
   written_same (Some files) None keep number w text only only_old is = absurd keep
   written_same (Some first) (Some files) keep number w text only only_old is = record {
     row = is.row;
-    by = row_by_same known.zones releases.zones keeps.zones.still keeps.zones.differ layout most number w is.row only is.by;
-    answer = is.answer;
-    answers = answer_same known.zones releases.zones keeps.zones.still keeps.zones.differ layout most number w is.answer only is.answers;
-    other = is.other;
-    others = answer_same first files keep.still keep.differ layout most number w is.other only_old is.others;
+    is_row = row_by_same known.zones releases.zones keeps.zones.still keeps.zones.differ layout most number w is.row only is.is_row;
+    seen = is.seen;
+    is_seen = answer_same known.zones releases.zones keeps.zones.still keeps.zones.differ layout most (compared_of layout.compared (row_fields layout)) [] number w is.seen only is.is_seen;
+    old_seen = is.old_seen;
+    is_old_seen = answer_same first files keep.still keep.differ layout most (compared_of layout.compared (row_fields layout)) [] number w is.old_seen only_old is.is_old_seen;
+    old_answer = is.old_answer;
+    is_old_answer = answer_same first files keep.still keep.differ layout most (row_fields layout) (empty_fields layout.delimiter (row_fields layout)) number w is.old_answer only_old is.is_old_answer;
     same = is.same;
     moved = is.moved;
   }

@@ -9,12 +9,13 @@ use Rattle.zic_columns.specs.Own.{CsvRecord}
 use Rattle.zic_counted.specs.Counts.{Counts}
 use Rattle.zic_files.specs.File.{File}
 use Rattle.zic_zones.specs.declared.zones.Releases.{Releases}
+use Rattle.zic_layouts.specs.RowField.{compared_of}
 use Rattle.zic_layouts.specs.declared.layout.Layout.{Layout}
 use Rattle.zic_layouts.specs.Noted.{RowNote}
 use Rattle.zic_base.specs.declared.row_fault.RowFault.{RowFault}
 use Rattle.zic_base.specs.declared.row_fault.RowKind.{RowKind}
 use Rattle.zic_base.specs.declared.row_fault.RowKind.TheVariants as kinds
-use Rattle.zic_piece_rows.specs.LayoutRows.{RecordsConvertBy, IsAnswerAt, IsRowAt, IsWrittenWith, ending, ends_by, fault_by, faults_by, if_rejected, noted}
+use Rattle.zic_piece_rows.specs.LayoutRows.{RecordsConvertBy, IsAnswerAt, IsRowAt, IsWrittenWith, empty_fields, ending, ends_by, fault_by, faults_by, if_rejected, noted, row_fields}
 use Rattle.zic_convert.specs.By.{By, by_of}
 use Rattle.zic_convert.specs.Run.{AreFew, IsOneTooMany, Notes}
 use Rattle.zic_piece_rows.specs.PieceRows.{AreRowsOf, RowsOf}
@@ -148,11 +149,13 @@ module _ (layout : Layout) (releases : Releases) where
   written_low most low number x t may less None is = subst (λ (f : Option RowKind). IsRowAt layout releases.zones f x t) (fault_low most low number x may less) is
   written_low most low number x t may less (Some old) is = record {
     row = is.row;
-    by = subst (λ (f : Option RowKind). IsRowAt layout releases.zones f x is.row) (fault_low most low number x may less) is.by;
-    answer = is.answer;
-    answers = subst (λ (f : Option RowKind). IsAnswerAt layout releases.zones f x is.answer) (fault_low most low number x may less) is.answers;
-    other = is.other;
-    others = subst (λ (f : Option RowKind). IsAnswerAt layout old f x is.other) (low_alike old most low number x may less) is.others;
+    is_row = subst (λ (f : Option RowKind). IsRowAt layout releases.zones f x is.row) (fault_low most low number x may less) is.is_row;
+    seen = is.seen;
+    is_seen = subst (λ (f : Option RowKind). IsAnswerAt layout (compared_of layout.compared (row_fields layout)) [] releases.zones f x is.seen) (fault_low most low number x may less) is.is_seen;
+    old_seen = is.old_seen;
+    is_old_seen = subst (λ (f : Option RowKind). IsAnswerAt layout (compared_of layout.compared (row_fields layout)) [] old f x is.old_seen) (low_alike old most low number x may less) is.is_old_seen;
+    old_answer = is.old_answer;
+    is_old_answer = subst (λ (f : Option RowKind). IsAnswerAt layout (row_fields layout) (empty_fields layout.delimiter (row_fields layout)) old f x is.old_answer) (low_alike old most low number x may less) is.is_old_answer;
     same = is.same;
     moved = is.moved;
   }

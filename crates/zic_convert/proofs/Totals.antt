@@ -1,6 +1,6 @@
 -- That all records come to rows, up to the first fault.
-use Rattle.std.proofs.Common.{◌∙◌, ◌≡◌, ◌+◌, ℕ, ℤ, suc, Bool, true, false, List, [], ◌∷◌, ◌++◌, length, Option, Some, None, Result, Ok, Err, inl, inr, refl, sym}
-use Rattle.std.specs.Prelude.{All, IfSome, bytes_eq, is_some, nat_le, option_map, slice_get}
+use Rattle.std.proofs.Common.{◌∙◌, ◌≡◌, ◌+◌, ℕ, ℤ, suc, Bool, true, false, List, [], ◌∷◌, ◌++◌, length, Option, Some, None, Result, Ok, Err, inl, inr, refl, sym, subst}
+use Rattle.std.specs.Prelude.{◌||◌, All, IfSome, bytes_eq, is_some, nat_le, option_map, slice_get}
 use Rattle.std.specs.Cmp.Lexicographic.{bytes_decides}
 use Rattle.std.proofs.lemmas.Bool.{cases_Bool}
 use Rattle.std.proofs.lemmas.List.{append-nil}
@@ -11,13 +11,15 @@ use Rattle.zic_columns.specs.Own.{CsvRecord}
 use Rattle.zic_columns.specs.Round.{may_have}
 use Rattle.zic_files.specs.File.{File}
 use Rattle.zic_layouts.specs.Layout.{has_count}
+use Rattle.zic_layouts.specs.RowField.{compared_of}
 use Rattle.zic_layouts.specs.declared.layout.Layout.{Layout}
+use Rattle.zic_layouts.specs.declared.row_field.RowField.{RowField}
 use Rattle.zic_zones.specs.declared.zones.Releases.{Releases}
 use Rattle.zic_base.specs.declared.row_fault.RowKind.{RowKind}
 use Rattle.zic_base.specs.declared.row_fault.RowKind.TheVariants as kind
 use Rattle.zic_zones.specs.Zones.{is_named, number_of, zone_in}
 use Rattle.zic_piece_rows.specs.Rows.{is_row_instant}
-use Rattle.zic_piece_rows.specs.LayoutRows.{RecordsConvertBy, IsAnswer, IsAnswerAt, IsRowAt, IsRowBy, IsTextBy, IsWrittenWith, empty_fields, with_answer, count_in, ends_by, fault_by, faulty_text, has_right_quotes, instant_by, rest_by, start_text, time_by, time_in, ok_count, err_fault}
+use Rattle.zic_piece_rows.specs.LayoutRows.{HasAnswer, RecordsConvertBy, IsAnswer, IsAnswerAt, IsRowAt, IsRowBy, IsSoundAnswer, IsSoundRow, IsWrittenWith, empty_fields, with_answer, count_in, ends_by, fault_by, faulty_text, fields_by, has_right_quotes, instant_by, keeps, row_fields, start_text, time_by, time_in, timeless_text, ok_count, err_fault}
 use Rattle.zic_piece_rows.specs.PieceRows.{AreRowsOf, RowsOf}
 use Rattle.zic_piece_rows.proofs.Coming.{come_after, come_more}
 use Rattle.zic_piece_rows.proofs.MadeTexts.{among}
@@ -60,49 +62,59 @@ module _ (layout : Layout) (files : List File) (most : ℕ) (known : All IsKnown
   input_in fields n file count number got is = input_for file (count_in layout fields) count (rw (number, got) at is)
 
   -- the text of a row without a fault
-  have_text : (number : ℕ) (row_record : CsvRecord) → fault_by layout files most number row_record ≡ None → (text : List ℕ) × IsTextBy layout files row_record text
-  have_text number row_record none =
+  have_text : (number : ℕ) (row_record : CsvRecord) → keeps layout row_record ≡ false → fault_by layout files most number row_record ≡ None → HasAnswer layout files row_record
+  have_text number row_record unkept none =
       let zone = zone_in layout.zone row_record.fields in
       let time = time_in layout files row_record.fields in
-      let (named, says) = passed (nat_le number most) (may_have layout.max_record (length row_record.own)) (has_right_quotes layout.quotes layout.delimiter row_record) (has_count layout.count (length row_record.fields)) (is_named files zone) (is_some (ok_count time)) (is_row_instant (option_map (second_of layout.unit) (ok_count time)))
+      let kept = keeps layout row_record in
+      let (named, passes) = passed (nat_le number most) (may_have layout.max_record (length row_record.own)) (has_right_quotes layout.quotes layout.delimiter row_record) (has_count layout.count (length row_record.fields)) (is_named files zone) (kept || is_some (ok_count time)) (kept || is_row_instant (option_map (second_of layout.unit) (ok_count time)))
       kind.TooManyRows kind.RowTooLong kind.RowQuote kind.RowFields kind.RowZone (err_fault time) kind.RowRange none in
+      let says : is_some (ok_count time) ≡ true = subst (λ (b : Bool). (b || is_some (ok_count time)) ≡ true) unkept passes in
       let (n, number) = numbered files zone named in
       let (file, got, called, is_known) = found files zone n number in
       let has = among files n file got in
       let (count, at) = the_count time says in
       let (input, said, means) = input_in row_record.fields n file count number got at in
-      let (state, answers) = All-contains IsKnown files file known has (second_of layout.unit count) in (
-        start_text layout row_record.own file.name input ++ rest_by layout.delimiter layout.style layout.from layout.unit count state,
-        record {
-          has = record {
-            file = file;
-            among = has;
-            named = called;
-            input = input;
-            says = said;
-            count = count;
-            means = means;
-            state = state;
-            answers = answers;
-          };
-          is = refl;
-        },
-      )
+      let (state, answers) = All-contains IsKnown files file known has (second_of layout.unit count) in
+      record {
+        file = file;
+        among = has;
+        named = called;
+        input = input;
+        says = said;
+        count = count;
+        means = means;
+        state = state;
+        answers = answers;
+      }
+
+  -- of a sound row
+  have_sound : (number : ℕ) (row_record : CsvRecord) → fault_by layout files most number row_record ≡ None → (kept : Bool) → keeps layout row_record ≡ kept → (text : List ℕ) × IsSoundRow kept layout files row_record text
+  have_sound number row_record none true e = (timeless_text layout.start layout row_record, refl)
+  have_sound number row_record none false e =
+      let has = have_text number row_record e none in
+      (start_text layout row_record.own has.file.name has.input ++ fields_by layout (row_fields layout) has.file has.input has.count has.state, record { has = has; is = refl })
+
+  have_sound_answer : (fields : List RowField) (without : List ℕ) (number : ℕ) (row_record : CsvRecord) → fault_by layout files most number row_record ≡ None → (kept : Bool) → keeps layout row_record ≡ kept
+      → (answer : List ℕ) × IsSoundAnswer kept layout fields without files row_record answer
+  have_sound_answer fields without number row_record none true e = (without, refl)
+  have_sound_answer fields without number row_record none false e =
+      let has = have_text number row_record e none in
+      (fields_by layout fields has.file has.input has.count has.state, record { has = has; is = refl })
 
   -- the text of a row, with a fault or without
   have_row : (number : ℕ) (row_record : CsvRecord) → (text : List ℕ) × IsRowBy layout files most number row_record text
   have_row number row_record = by_fault (fault_by layout files most number row_record) refl where
     by_fault : (fault : Option RowKind) → fault_by layout files most number row_record ≡ fault → (text : List ℕ) × IsRowAt layout files fault row_record text
-    by_fault None e = have_text number row_record e
+    by_fault None e = have_sound number row_record e (keeps layout row_record) refl
     by_fault (Some fault) e = (faulty_text layout fault row_record, refl)
 
   -- what the files answer a record
-  have_answer : (number : ℕ) (row_record : CsvRecord) → (answer : List ℕ) × IsAnswer layout files most number row_record answer
-  have_answer number row_record = by_fault (fault_by layout files most number row_record) refl where
-    by_fault : (fault : Option RowKind) → fault_by layout files most number row_record ≡ fault → (answer : List ℕ) × IsAnswerAt layout files fault row_record answer
-    by_fault None e =
-        let (text, is) = have_text number row_record e in (rest_by layout.delimiter layout.style layout.from layout.unit is.has.count is.has.state, record { has = is.has; is = refl })
-    by_fault (Some fault) e = (empty_fields layout, refl)
+  have_answer : (fields : List RowField) (without : List ℕ) (number : ℕ) (row_record : CsvRecord) → (answer : List ℕ) × IsAnswer layout fields without files most number row_record answer
+  have_answer fields without number row_record = by_fault (fault_by layout files most number row_record) refl where
+    by_fault : (fault : Option RowKind) → fault_by layout files most number row_record ≡ fault → (answer : List ℕ) × IsAnswerAt layout fields without files fault row_record answer
+    by_fault None e = have_sound_answer fields without number row_record e (keeps layout row_record) refl
+    by_fault (Some fault) e = (without, refl)
 
 module _ (layout : Layout) (releases : Releases) (most : ℕ) (known : All IsKnown releases.zones × IfSome releases.old (All IsKnown)) where
   -- what is written of a record
@@ -110,15 +122,18 @@ module _ (layout : Layout) (releases : Releases) (most : ℕ) (known : All IsKno
   have_written number row_record None all = have_row layout releases.zones most known.0 number row_record
   have_written number row_record (Some old) all =
       let (row, is_row) = have_row layout releases.zones most known.0 number row_record in
-      let (answer, answers) = have_answer layout releases.zones most known.0 number row_record in
-      let (other, others) = have_answer layout old most all number row_record in
-      elim (cases_Bool (bytes_eq answer other)) [
+      let fields = row_fields layout in
+      let compared = compared_of layout.compared fields in
+      let (seen, is_seen) = have_answer layout releases.zones most known.0 compared [] number row_record in
+      let (old_seen, is_old_seen) = have_answer layout old most all compared [] number row_record in
+      let (old_answer, is_old_answer) = have_answer layout old most all fields (empty_fields layout.delimiter fields) number row_record in
+      elim (cases_Bool (bytes_eq seen old_seen)) [
         | inl is ↦
-            let same = (bytes_decides answer other).0 is in
-            ([], record { row = row; by = is_row; answer = answer; answers = answers; other = other; others = others; same = λ _. refl; moved = λ differ. absurd (differ same) })
+            let same = (bytes_decides seen old_seen).0 is in
+            ([], record { row = row; is_row = is_row; seen = seen; is_seen = is_seen; old_seen = old_seen; is_old_seen = is_old_seen; old_answer = old_answer; is_old_answer = is_old_answer; same = λ _. refl; moved = λ differ. absurd (differ same) })
         | inr unlike ↦
-            let differ : (answer ≡ other → ⊥) = λ e. (let yes = (bytes_decides answer other).1 e in cc (sym yes ∙ unlike)) in
-            (with_answer row other, record { row = row; by = is_row; answer = answer; answers = answers; other = other; others = others; same = λ e. absurd (differ e); moved = λ _. refl })
+            let differ : (seen ≡ old_seen → ⊥) = λ e. (let yes = (bytes_decides seen old_seen).1 e in cc (sym yes ∙ unlike)) in
+            (with_answer row old_answer, record { row = row; is_row = is_row; seen = seen; is_seen = is_seen; old_seen = old_seen; is_old_seen = is_old_seen; old_answer = old_answer; is_old_answer = is_old_answer; same = λ e. absurd (differ e); moved = λ _. refl })
       ]
 
   row_first : (number : ℕ) (row_record : CsvRecord) (row_records : List CsvRecord) (fault : Option RowKind) → ends_by layout releases.zones most number row_record ≡ fault

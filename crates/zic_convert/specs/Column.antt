@@ -18,8 +18,12 @@ use Rattle.zic_layouts.specs.declared.layout.Records.TheVariants as records
 use Rattle.zic_layouts.specs.declared.plan.TheConstants.{MAX_BYTES}
 use Rattle.zic_layouts.specs.declared.layout.RowStart.{RowStart}
 use Rattle.zic_layouts.specs.declared.layout.RowStart.TheVariants as start
-use Rattle.zic_layouts.specs.declared.layout.Style.{Style}
 use Rattle.zic_layouts.specs.declared.layout.Style.TheVariants as styles
+use Rattle.zic_layouts.specs.RowField.{fields_of}
+use Rattle.zic_layouts.specs.declared.row_field.RowField.{RowField}
+use Rattle.zic_layouts.specs.declared.row_field.RowField.TheVariants as field
+use Rattle.zic_layouts.specs.declared.row_field.RowFields.{RowFields}
+use Rattle.zic_layouts.specs.declared.row_field.RowFields.TheVariants as rows
 use Rattle.zic_layouts.specs.declared.layout.TimeFrom.{TimeFrom}
 use Rattle.zic_layouts.specs.declared.layout.TimeFrom.TheVariants as from
 use Rattle.zic_base.specs.declared.row_fault.RowKind.{RowKind}
@@ -84,14 +88,26 @@ time_name from.Count = codes "instant"
 time_name (from.Text form) = codes "instant"
 time_name (from.Local choice) = codes "local"
 
--- the names of the fields that a row adds to its record: own choice
-abbrev pub added_names : Style → TimeFrom → List (List ℕ)
-added_names styles.Fields from.Count = codes "local" ∷ codes "offset" ∷ codes "daylight" ∷ codes "abbreviation" ∷ []
-added_names styles.Fields (from.Text form) = codes "local" ∷ codes "offset" ∷ codes "daylight" ∷ codes "abbreviation" ∷ []
-added_names styles.Fields (from.Local choice) = codes "instant" ∷ codes "offset" ∷ codes "daylight" ∷ codes "abbreviation" ∷ []
-added_names styles.Iso from.Count = codes "local" ∷ codes "daylight" ∷ codes "abbreviation" ∷ []
-added_names styles.Iso (from.Text form) = codes "local" ∷ codes "daylight" ∷ codes "abbreviation" ∷ []
-added_names styles.Iso (from.Local choice) = codes "instant" ∷ codes "time" ∷ codes "daylight" ∷ codes "abbreviation" ∷ []
+-- the name of a field that a row adds to its record: own choice
+abbrev pub field_name : RowField → List ℕ
+field_name field.Local = codes "local"
+field_name field.Time = codes "time"
+field_name field.Instant = codes "instant"
+field_name field.Utc = codes "utc"
+field_name field.Offset = codes "offset"
+field_name field.Daylight = codes "daylight"
+field_name field.Abbreviation = codes "abbreviation"
+field_name field.Ambiguous = codes "ambiguous"
+
+-- its name in a header: by the style `Iso` a time with its offset has the name `local`, where records have instants, and in a list its own
+abbrev pub name_among : RowFields → TimeFrom → RowField → List ℕ
+name_among (rows.Usual styles.Iso) from.Count field.Time = codes "local"
+name_among (rows.Usual styles.Iso) (from.Text form) field.Time = codes "local"
+name_among fields time f = field_name f
+
+-- the names of the fields that a row adds to its record
+abbrev pub added_names : RowFields → TimeFrom → List (List ℕ)
+added_names fields time = map (name_among fields time) (fields_of fields time)
 
 -- the names of the fields that another release answers, after all others, where there is one: own choice
 abbrev pub names_after : Option (List File) → List (List ℕ) → List (List ℕ)
@@ -101,7 +117,7 @@ names_after (Some old) names = map (λ name. codes "old_" ++ name) names
 -- the names of all fields that a row by a layout adds to its record, each with the layout's prefix and after the delimiter
 abbrev pub names_added : Layout → Option (List File) → List ℕ
 names_added layout old =
-    let names : List (List ℕ) = added_names layout.style layout.from in
+    let names : List (List ℕ) = added_names layout.fields layout.from in
     delimited layout.delimiter (map (λ name. layout.prefix ++ name) (names ++ names_after old names))
 
 -- the line of the names of all fields of rows that begin with a zone's name

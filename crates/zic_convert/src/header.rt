@@ -95,10 +95,11 @@ pub(crate) fn header_fault(
     // The delimiter is no double quote and ends no line.
     prove!(layout.delimiter.byte() <= u8::MAX);
     first_record_is_alone();
+    let unkept = layout.without_kept_times(alloc)?;
     let fault = if is_open(layout, own) {
-        Some(open_kind(layout, 0, 0, own))
+        Some(open_kind(&unkept, 0, 0, own))
     } else {
-        record_fault(alloc, layout, releases, own)?
+        record_fault(alloc, &unkept, releases, own)?
     };
     Ok(header_kind(fault))
 }

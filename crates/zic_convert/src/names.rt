@@ -1,16 +1,16 @@
 //! The names of fields in headers.
 
-ghost use Rattle.std.specs.Prelude.{◌≡◌, ◌+◌, ◌*◌, ◌≤◌, ◌++◌, ◌∷◌, All, length, map};
+ghost use Rattle.std.specs.Prelude.{◌≡◌, ◌+◌, ◌≤◌, ◌++◌, ◌∷◌, length, map};
 ghost use Rattle.arrayvec.specs.ArrayVec.{array_vec_len};
-ghost use Rattle.zic_convert.specs.Column.{added_names, delimited, names_added, row_names, time_name};
+ghost use Rattle.zic_convert.specs.Column.{added_names, delimited, field_name, name_among, names_added, row_names, time_name};
 ghost use Rattle.zic_layouts.specs.declared.prefix.TheConstants.{MAX_PREFIX};
 
 use arrayvec::ArrayVec;
-use zic_layouts::{Layout, MAX_PREFIX, Style, TimeFrom};
+use zic_layouts::{Layout, MAX_PREFIX, RowField, RowFields, Style, TimeFrom};
 use zic_zones::RowZones;
 
-/// The room for a line of names, in bytes: eight names of 81 with their delimiters, and 40 more.
-const NAMES_ROOM: usize = 688;
+/// The room for a line of names, in bytes: sixteen names of 81 with their delimiters, and 40 more.
+const NAMES_ROOM: usize = 1336;
 
 /// A line of names, or a part of one.
 pub(crate) type Names = ArrayVec<u8, NAMES_ROOM>;
@@ -26,23 +26,32 @@ fn time_name(from: TimeFrom) -> &'static [u8]
     }
 }
 
-/// Returns the names of the fields that a row adds to its record.
-fn added_names(style: Style, from: TimeFrom) -> &'static [&'static [u8]]
-    ensures value { map (λ name. name.now) result.now ≡ added_names style from }
-    ensures few { length result.now ≤ 4 }
-    ensures short { All (λ name. length name.now ≤ 12) result.now }
+/// Returns the name of a field that a row adds to its record.
+fn field_name(field: RowField) -> &'static [u8]
+    ensures value { result.now ≡ field_name field }
+    ensures short { length result.now ≤ 12 }
 {
-    match (style, from) {
-        (Style::Fields, TimeFrom::Count | TimeFrom::Text(_)) => {
-            &[b"local", b"offset", b"daylight", b"abbreviation"]
-        }
-        (Style::Fields, TimeFrom::Local(_)) => {
-            &[b"instant", b"offset", b"daylight", b"abbreviation"]
-        }
-        (Style::Iso, TimeFrom::Count | TimeFrom::Text(_)) => {
-            &[b"local", b"daylight", b"abbreviation"]
-        }
-        (Style::Iso, TimeFrom::Local(_)) => &[b"instant", b"time", b"daylight", b"abbreviation"],
+    match field {
+        RowField::Local => b"local",
+        RowField::Time => b"time",
+        RowField::Instant => b"instant",
+        RowField::Utc => b"utc",
+        RowField::Offset => b"offset",
+        RowField::Daylight => b"daylight",
+        RowField::Abbreviation => b"abbreviation",
+        RowField::Ambiguous => b"ambiguous",
+    }
+}
+
+/// Returns the name of a field among those of a layout's rows.
+fn name_among(layout: &Layout, field: RowField) -> &'static [u8]
+    ensures value { result.now ≡ name_among layout.now.fields layout.now.from field }
+    ensures short { length result.now ≤ 12 }
+{
+    match (&layout.fields, layout.from, field) {
+        (RowFields::Usual(Style::Iso), TimeFrom::Count | TimeFrom::Text(_), RowField::Time) =>
+            b"local",
+        _ => field_name(field),
     }
 }
 
@@ -69,19 +78,18 @@ fn push_name(text: &mut Names, start: NameStart<'_>, name: &[u8])
     text.try_extend_from_slice(name).unwrap();
 }
 
-/// Appends names, each after the same.
-fn push_names(text: &mut Names, start: NameStart<'_>, names: &[&[u8]])
-    requires room { array_vec_len text.old + 81 * length names.now ≤ NAMES_ROOM }
+/// Appends the names of the fields that a row adds to its record, each after the same.
+fn push_names(text: &mut Names, start: NameStart<'_>, layout: &Layout)
+    requires room { array_vec_len text.old + 648 ≤ NAMES_ROOM }
     requires prefix { length start.prefix.now ≤ MAX_PREFIX }
     requires release { length start.release.now ≤ 4 }
-    requires short { All (λ name. length name.now ≤ 12) names.now }
     ensures items { text.new.items ≡ text.old.items ++ delimited start.entry.delimiter
         (map (λ name. start.entry.prefix.now ++ (start.entry.release.now ++ name))
-        (map (λ name. name.now) names.now)) }
-    ensures len { array_vec_len text.new ≤ array_vec_len text.old + 81 * length names.now }
+        (added_names layout.now.fields layout.now.from)) }
+    ensures len { array_vec_len text.new ≤ array_vec_len text.old + 648 }
 {
-    for name in names {
-        push_name(text, start, name);
+    for field in layout.fields.fields(layout.from) {
+        push_name(text, start, name_among(layout, *field));
     }
 }
 
@@ -102,15 +110,14 @@ fn name_start<'a>(layout: &'a Layout, release: &'a [u8]) -> NameStart<'a>
 /// Appends the names of the fields that a row adds to its record, each after the layout's delimiter:
 /// also those of another release's fields, where there is one.
 pub(crate) fn push_added(text: &mut Names, layout: &Layout, old: &Option<RowZones<'_>>)
-    requires { array_vec_len text.old + 648 ≤ NAMES_ROOM }
+    requires { array_vec_len text.old + 1296 ≤ NAMES_ROOM }
     ensures items { text.new.items ≡ text.old.items ++ names_added layout.now old.now }
-    ensures len { array_vec_len text.new ≤ array_vec_len text.old + 648 }
+    ensures len { array_vec_len text.new ≤ array_vec_len text.old + 1296 }
 {
-    let names = added_names(layout.style, layout.from);
-    push_names(text, name_start(layout, b""), names);
+    push_names(text, name_start(layout, b""), layout);
     match old {
         None => {}
-        Some(_) => push_names(text, name_start(layout, b"old_"), names),
+        Some(_) => push_names(text, name_start(layout, b"old_"), layout),
     }
 }
 

@@ -89,7 +89,7 @@ impl<'a> FieldText<'a> {
         }
     }
 
-    /// Returns the text of the field that stands in these bytes, or its start.
+    /// Returns the text of the field in these bytes, or its start.
     fn of(&mut self, field: &[u8]) -> Result<&[u8], AllocError> {
         let field = front(field, self.most);
         let all = Span {

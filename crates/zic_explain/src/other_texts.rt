@@ -239,11 +239,11 @@ const GROUP_2: [Entry; 6] = [
     },
     Entry {
         name: "HeaderIsRow",
-        meaning: "The record that `--header` or `--skip-header` takes names a zone that there is, and has an instant or a local time, also one out of range or that clocks don't show once: it's a row.",
+        meaning: "The record that `--header` or `--skip-header` takes names a zone that there is, and has a time, also one out of range or that clocks don't show once: it's a row.",
         says: r#"  The record that `--header` or `--skip-header` takes names a zone that there
-  is, and has an instant or a local time, also one out of range or that clocks
-  don't show once: it's a row. It is row 0, and ends the command, also with
-  `--keep-going`.
+  is, and has a time, also one out of range or that clocks don't show once: it's
+  a row. It is row 0, and ends the command, also with `--keep-going`. An empty
+  field is no time here, whatever `--empty` says.
 "#,
         expected: r#"  A header has another text than a known zone's name, or than a time, in these
   fields: `zone,instant`.

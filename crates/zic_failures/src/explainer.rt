@@ -3,7 +3,7 @@
 use crate::column::{column_start, find_record};
 use crate::expected::{Expected, expectation};
 use crate::nearest::{nearest_file, nearest_rules, nearest_zone};
-use crate::place::{line_about, line_place, quote_place, row_place};
+use crate::place::{line_about, line_place, quote_place, row_place, year_place};
 use crate::reason::{Paths, refused_line, unwritten};
 use crate::record::RecordForm;
 use crate::refused::refused_file;
@@ -13,7 +13,8 @@ use std::alloc::{AllocError, Global};
 use std::fs::Files;
 use std::io::ErrorKind;
 use std::slice;
-use zic_base::{Kind, RowKind};
+use zic_base::{Kind, Place, RowKind};
+use zic_causes::{Cause, cause_of};
 use zic_command_line::{Building, Exporting, Request, Zones};
 use zic_explain::cases::{A_COLUMN_GZIP, A_SOURCE_GZIP, DUPLICATE_NAME_FIRST};
 use zic_explain::{entries, entry_named, error_in, shown_word};
@@ -244,15 +245,57 @@ impl Explainer {
         };
         match kind {
             Kind::UnknownRules => nearest_rules(alloc, texts, at),
-            Kind::BadAbbreviation => bad_abbreviation(alloc, texts, at),
             Kind::DuplicateName => match first_name(alloc, texts, at)? {
                 Some(first) => {
                     self.given_first(alloc, before.saturating_add(first.text), first.line)
                 }
                 None => Ok(String::new(alloc)),
             },
-            _ => Ok(String::new(alloc)),
+            _ => self.caused(alloc, kind, texts, before, at),
         }
+    }
+
+    /// Returns the lines that say which lines besides its Zone line cause the fault of a zone. The texts
+    /// of the source are those from the one at index `first` on.
+    fn caused(
+        &self,
+        alloc: Global,
+        kind: Kind,
+        texts: &[Vec<u8>],
+        first: usize,
+        at: TextLine,
+    ) -> Result<String, AllocError> {
+        let zone = Place {
+            text: (at.text as u64).saturating_add(1),
+            line: at.line,
+        };
+        let Some(cause) = cause_of(alloc, texts, kind, zone)? else {
+            return Ok(String::new(alloc));
+        };
+        let lines = self.cause_lines(alloc, kind, zone, first, &cause);
+        drop(cause);
+        lines
+    }
+
+    /// Returns the lines for what causes the fault of the zone whose Zone line stands at `zone`.
+    fn cause_lines(
+        &self,
+        alloc: Global,
+        kind: Kind,
+        zone: Place,
+        first: usize,
+        cause: &Cause,
+    ) -> Result<String, AllocError> {
+        let mut lines = String::new(alloc);
+        for place in &cause.places {
+            if *place != zone {
+                let text = first.saturating_add(place.text.saturating_sub(1) as usize);
+                let shown = line_place(alloc, kind, self.word(text), self.text(text), place.line)?;
+                lines.push_str(shown.as_str())?;
+            }
+        }
+        lines.push_str(detail(alloc, cause)?.as_str())?;
+        Ok(lines)
     }
 
     /// Returns a line that says where a name is given first.
@@ -351,6 +394,15 @@ impl Explainer {
             Some(text) => text,
             None => &[],
         }
+    }
+}
+
+/// Returns the line that says in which year rules are out of order, or what is no abbreviation.
+fn detail(alloc: Global, cause: &Cause) -> Result<String, AllocError> {
+    match (cause.year, &cause.abbreviation) {
+        (Some(year), _) => year_place(alloc, year),
+        (None, Some(abbreviation)) => bad_abbreviation(alloc, abbreviation),
+        (None, None) => Ok(String::new(alloc)),
     }
 }
 

@@ -67,7 +67,7 @@ fn faulty_number(alloc: Global, kind: Kind, awaited: bool, fields: &Fields) -> O
     }
 }
 
-/// Returns the field of this number as a part of its line, or else the part that stands there.
+/// Returns the field of this number as a part of its line, or else the part at its place.
 fn part_of(fields: &Fields, number: Option<usize>, otherwise: Span) -> Part
     ensures { IsUnderlined number fields.now.ranges result.span }
 {

@@ -16,13 +16,13 @@ use std::time::Clock;
 use zic_bulk::files_of;
 use zic_command_line::Differences;
 use zic_compare::{
-    Compared, Comparison, DiffStop, Grouping, Listed, Refused, Sides, Style, Survey, write_diff,
+    Comparison, DiffStop, Grouping, Listed, Refused, Sides, Style, Survey, write_diff,
 };
 use zic_counted::Counted;
 use zic_files::Files as ZoneFiles;
 use zic_host::{OldAndNew, fault_in, old_and_new, read_texts, show_of_folders, show_of_sources};
 use zic_io::Failure;
-use zic_layouts::Plan;
+use zic_layouts::{Compared, Plan};
 use zic_row_text::FIRST_INSTANT;
 use zic_tzif::Instants;
 

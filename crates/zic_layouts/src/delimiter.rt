@@ -43,6 +43,13 @@ impl Delimiter {
         Delimiter { byte: b',' }
     }
 
+    /// Returns the same delimiter.
+    pub(crate) fn copy(&self) -> Delimiter
+        ensures { result ≡ self.now }
+    {
+        Delimiter { byte: self.byte }
+    }
+
     /// Returns the byte.
     pub fn byte(&self) -> u8
         ensures byte { result ≡ self.now }

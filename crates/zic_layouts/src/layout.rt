@@ -1,11 +1,14 @@
 //! How a column is read, and what its rows are.
 
-ghost use Rattle.std.specs.Prelude.{◌≡◌, []};
-ghost use Rattle.zic_layouts.specs.Layout.{HasPlainRows, has_count};
+ghost use Rattle.std.specs.Prelude.{◌≡◌, [], IfOk};
+ghost use Rattle.zic_layouts.specs.Layout.{AreSameZones, HasPlainRows, IsUnkept, has_count};
 
+use crate::compared::Compared;
 use crate::delimiter::Delimiter;
 use crate::disambiguation::Disambiguation;
 use crate::prefix::Prefix;
+use crate::row_field::RowFields;
+use std::alloc::{AllocError, Global};
 
 /// What an instant counts from 1970-01-01T00:00:00 UT, without leap seconds.
 #[derive(Clone, Copy, Debug, PartialEq, Eq)]
@@ -46,6 +49,18 @@ pub enum ZoneFrom {
     Field(usize),
     /// Every row is in the zone of this name.
     Name(String),
+}
+
+impl ZoneFrom {
+    /// Returns the same.
+    fn copy(&self, alloc: Global) -> Result<ZoneFrom, AllocError>
+        ensures { IfOk result (AreSameZones self.now) }
+    {
+        match self {
+            ZoneFrom::Field(index) => Ok(ZoneFrom::Field(*index)),
+            ZoneFrom::Name(name) => Ok(ZoneFrom::Name(String::from_str(alloc, name)?)),
+        }
+    }
 }
 
 /// How many fields a record has.
@@ -109,7 +124,7 @@ pub enum RowStart {
     Record,
 }
 
-/// How a row has its local time and its UT offset.
+/// How a row has its local time and its UT offset. The command line's `utc` is a list of fields.
 #[derive(Clone, Copy, Debug, PartialEq, Eq)]
 pub enum Style {
     /// In two fields, `2007-03-11T03:00:00` and `-04:00:00`.
@@ -117,6 +132,15 @@ pub enum Style {
     /// In one field, `2007-03-11T03:00:00-04:00`. RFC 3339, 5.6; seconds of the offset are written
     /// where it has some.
     Iso,
+}
+
+/// What a record does whose time is an empty field.
+#[derive(Clone, Copy, Debug, PartialEq, Eq)]
+pub enum EmptyTime {
+    /// It has a fault, as with any other field that is no time.
+    Fault,
+    /// Its row is written, and the fields that rows add are empty.
+    Keep,
 }
 
 /// What a row with a fault does.
@@ -169,8 +193,12 @@ pub struct Layout {
     pub start: RowStart,
     /// What the names of the fields begin with, in a header, that rows add.
     pub prefix: Prefix,
-    /// How a row has its local time and its UT offset.
-    pub style: Style,
+    /// Which fields a row has after its beginning.
+    pub fields: RowFields,
+    /// What is compared, where rows are compared with another release.
+    pub compared: Compared,
+    /// What a record does whose time is an empty field.
+    pub empty: EmptyTime,
     /// What a row with a fault does.
     pub at_fault: AtFault,
     /// What is noted of a row with a fault.
@@ -178,6 +206,21 @@ pub struct Layout {
 }
 
 impl Layout {
+    /// Returns the same layout, but that an empty time is a fault.
+    pub fn without_kept_times(&self, alloc: Global) -> Result<Layout, AllocError>
+        ensures { IfOk result (IsUnkept self.now) }
+    {
+        let zone = self.zone.copy(alloc)?;
+        Ok(Layout {
+            zone,
+            delimiter: self.delimiter.copy(),
+            prefix: self.prefix.copy(),
+            fields: self.fields.copy(),
+            empty: EmptyTime::Fault,
+            ..*self
+        })
+    }
+
     /// Returns the layout of plain columns: two fields, the name of a zone and seconds, with a
     /// comma between them, and records of CSV of any length, with any double quotes. Each row is
     /// written, begins with these fields, and has local time and offset in two more, and the first fault
@@ -200,7 +243,12 @@ impl Layout {
             max_record: None,
             start: RowStart::Fields,
             prefix: Prefix::none(),
-            style: Style::Fields,
+            fields: RowFields::Usual(Style::Fields),
+            compared: Compared {
+                daylight: true,
+                abbreviation: true,
+            },
+            empty: EmptyTime::Fault,
             at_fault: AtFault::End,
             notes: Notes::Faults,
         }

@@ -54,6 +54,15 @@ impl Prefix {
         Some(Prefix { text })
     }
 
+    /// Returns the same prefix.
+    pub(crate) fn copy(&self) -> Prefix
+        ensures { result ≡ self.now }
+    {
+        let mut text = ArrayVec::new();
+        text.try_extend_from_slice(self.text.as_slice()).unwrap();
+        Prefix { text }
+    }
+
     /// Returns the bytes.
     pub fn bytes(&self) -> &[u8]
         ensures bytes { result.now ≡ self.now }

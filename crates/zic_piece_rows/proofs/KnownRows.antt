@@ -1,11 +1,12 @@
 -- Rows of records whose answers the tables have.
-use Rattle.std.proofs.Common.{◌≡◌, ◌≤◌, ◌<◌, ◌∙◌, ℕ, ℤ, pos, negsuc, ◌+ℤ◌, ◌*ℤ◌, Bool, true, Some, None, Ok, ap, arith, length, refl, subst, sym}
+use Rattle.std.proofs.Common.{◌≡◌, ◌≤◌, ◌<◌, ◌∙◌, ℕ, ℤ, pos, negsuc, ◌+ℤ◌, ◌*ℤ◌, Bool, true, List, Option, Some, None, Ok, ap, arith, length, refl, subst, sym}
 use Rattle.std.specs.Prelude.{IfSome, int_le, slice_get, ◌&&◌}
 use Rattle.std.proofs.lemmas.Int.{ints}
 use Rattle.std.proofs.lemmas.Option.{same_Some}
 use Rattle.zic_columns.specs.Record.{IsSplit, field_text}
 use Rattle.zic_columns.specs.declared.fields.Record.{Record}
 use Rattle.zic_base.specs.State.{Shown}
+use Rattle.zic_base.specs.declared.row_fault.RowKind.{RowKind}
 use Rattle.zic_files.specs.File.{File}
 use Rattle.zic_layouts.specs.Layout.{has_count}
 use Rattle.zic_layouts.specs.declared.disambiguation.Disambiguation.{Disambiguation}
@@ -22,9 +23,9 @@ use Rattle.zic_row_text.specs.declared.count.TheConstants.{FIRST_INSTANT, LAST_I
 use Rattle.zic_row_text.specs.declared.row_time.RowTime.{RowTime}
 use Rattle.zic_zones.specs.Resolved.{resolved}
 use Rattle.zic_zones.specs.Zones.{AnswersAt, zone_in}
-use Rattle.zic_piece_rows.specs.LayoutRows.{input_text, instant_by}
+use Rattle.zic_piece_rows.specs.LayoutRows.{IsRowAt, IsRowBy, IsSoundRow, IsTextBy, input_text, instant_by}
 use Rattle.zic_piece_rows.specs.Rows.{is_row_instant}
-use Rattle.zic_piece_rows.specs.code.Answer.{IsAdmitted, IsInstantFrom, IsInstantOf, IsKnown, IsOfPiece, IsOnlyInstant, IsReadTime, IsShownRow, shown_in}
+use Rattle.zic_piece_rows.specs.code.Answer.{IsAdmitted, IsInstantFrom, IsInstantOf, IsKnown, IsMeantBy, IsOfPiece, IsOnlyInstant, IsReadTime, IsShownRow, shown_in}
 use Rattle.zic_piece_rows.specs.code.Batch.{IsCountFor, IsInput, IsPlain, IsTimeOf, count_at, fault_at, input_in, record_of, wanted_by, zone_at}
 use Rattle.zic_piece_rows.specs.code.Row.{input_of, time_count}
 use Rattle.zic_piece_rows.specs.declared.answer.Answer.{Answer}
@@ -33,7 +34,7 @@ use Rattle.zic_piece_rows.specs.declared.piece.Piece.{Piece}
 use Rattle.zic_piece_rows.specs.declared.start.Input.{Input}
 use Rattle.zic_piece_rows.specs.declared.start.Input.TheVariants as given_by
 use Rattle.zic_piece_rows.proofs.Meant.{only_meant, time_meant}
-use Rattle.zic_piece_rows.proofs.RowFaults.{found, no_fault, right_counted}
+use Rattle.zic_piece_rows.proofs.RowFaults.{found, no_fault, right_counted, unkept}
 use Rattle.zic_piece_rows.proofs.ShownRows.{count_back}
 
 -- the check passes an instant that a row may have
@@ -199,7 +200,12 @@ module _ (piece : Piece) (given : Record) where
           begins = rw begins is.read.begins;
           says = rw begins is.read.text;
           answers = rw (same, time, ← state) is.answers;
-        }
+          meant = by_from piece.layout.now.from begins;
+        } where
+          by_from : (f : TimeFrom) → answer.input ≡ input_of f input → IsMeantBy f answer.input is.read.count
+          by_from times.Count e = tt
+          by_from (times.Text form) e = tt
+          by_from (times.Local choice) e = e ∙ ap given_by.Count (count_back piece.layout.now.unit is.read.count input is.read.is)
 
     -- and it has no fault
     pub known_sound : (number : ℕ) → IsSplit piece.layout.now.delimiter piece.bytes.now (wanted_by piece.layout.now) given → number ≤ piece.most → fault_at piece number given ≡ None
@@ -208,4 +214,11 @@ module _ (piece : Piece) (given : Record) where
         let row_record = record_of piece given in
         let right = right_counted layout.quotes layout.delimiter row_record given.stray (λ none. is.admitted.closed (split.count ∙ none)) split.stray is.admitted.quotes in
         let admits = subst (λ (n : ℕ). has_count layout.count n ≡ true) split.count is.admitted.count in
-        no_fault piece number given le is.admitted.short right admits is.file is.query.file is.count is.query.counts.time (may_row (second_of layout.unit is.count) is.query.may)
+        no_fault piece number given le is.admitted.short right admits is.file is.query.file (unkept piece given is.read.count is.read.says) is.count is.query.counts.time (may_row (second_of layout.unit is.count) is.query.may)
+
+    -- what is its row
+    pub known_row : (number : ℕ) → IsSplit piece.layout.now.delimiter piece.bytes.now (wanted_by piece.layout.now) given → number ≤ piece.most → (row : List ℕ)
+        → IsTextBy piece.layout.now piece.zones.now (record_of piece given) row → IsRowBy piece.layout.now piece.zones.now piece.most number (record_of piece given) row
+    known_row number split le row text =
+        subst (λ (o : Option RowKind). IsRowAt piece.layout.now piece.zones.now o (record_of piece given) row) (sym (known_sound number split le))
+        (subst (λ (b : Bool). IsSoundRow b piece.layout.now piece.zones.now (record_of piece given) row) (sym (unkept piece given is.read.count is.read.says)) text)

@@ -13,5 +13,7 @@ pub mod RowFaults
 pub mod KnownRows
 pub mod ShownRows
 pub mod Meant
-pub mod Answered
 pub mod SameAnswers
+pub mod UsualRows
+pub mod MovedRows
+pub mod RowFields

@@ -6,10 +6,11 @@ use Rattle.std.proofs.lemmas.Option.{get_or_from_slice_get, slice_get_within}
 use Rattle.zic_base.specs.State.{Shown}
 use Rattle.zic_columns.specs.declared.fields.Record.{Record}
 use Rattle.zic_files.specs.File.{File}
+use Rattle.zic_layouts.specs.declared.row_field.RowField.{RowField}
 use Rattle.zic_row_text.specs.Count.{second_of}
 use Rattle.zic_zones.specs.Zones.{AnswersAt, zone_in}
-use Rattle.zic_piece_rows.specs.LayoutRows.{HasAnswer, IsAnswerBy, IsTextBy, rest_by, start_text}
-use Rattle.zic_piece_rows.specs.code.Answer.{IsRowQuery}
+use Rattle.zic_piece_rows.specs.LayoutRows.{HasAnswer, IsAnswerBy, IsTextBy, fields_by, start_text}
+use Rattle.zic_piece_rows.specs.code.Answer.{IsRowQuery, fields_in}
 use Rattle.zic_piece_rows.specs.code.Batch.{record_of}
 use Rattle.zic_piece_rows.specs.declared.piece.Piece.{Piece}
 use Rattle.zic_piece_rows.specs.declared.search.RowQuery.{RowQuery}
@@ -21,12 +22,21 @@ among files i file e = subst (λ (f : File). Contains files f) (get_or_from_slic
 
 module _ (piece : Piece) (given : Record) (query : RowQuery) (state : Shown) (is : IsRowQuery piece given query)
     (answers : AnswersAt piece.zones.now query.file (second_of piece.layout.now.unit query.counts.count) state) where
+  -- the file of its zone
+  pub file_made : File
+  file_made = (found piece.zones.now (zone_in piece.layout.now.zone (record_of piece given).fields) query.file is.file).0
+
+  pub file_got : slice_get piece.zones.now query.file ≡ Some file_made
+  unfolding file_made
+  file_got = (found piece.zones.now (zone_in piece.layout.now.zone (record_of piece given).fields) query.file is.file).1
+
   -- the files answer the record
   has_made : HasAnswer piece.layout.now piece.zones.now (record_of piece given)
+  unfolding file_made
   has_made =
       let (file, got, called, known) = found piece.zones.now (zone_in piece.layout.now.zone (record_of piece given).fields) query.file is.file in
       record {
-        file = file;
+        file = file_made;
         among = among piece.zones.now query.file file got;
         named = called;
         input = query.counts.input;
@@ -40,18 +50,18 @@ module _ (piece : Piece) (given : Record) (query : RowQuery) (state : Shown) (is
   -- the text of its row, as it was made
   pub text_made : IsTextBy piece.layout.now piece.zones.now (record_of piece given)
       (start_text piece.layout.now (record_of piece given).own (zone_in piece.layout.now.zone (record_of piece given).fields) query.counts.input
-      ++ rest_by piece.layout.now.delimiter piece.layout.now.style piece.layout.now.from piece.layout.now.unit query.counts.count state)
+      ++ fields_by piece.layout.now (fields_in piece) file_made query.counts.input query.counts.count state)
   unfolding has_made
   text_made =
       let layout = piece.layout.now in
       record {
         has = has_made;
-        is = ap (λ (n : List ℕ). start_text layout (record_of piece given).own n query.counts.input ++ rest_by layout.delimiter layout.style layout.from layout.unit query.counts.count state)
+        is = ap (λ (n : List ℕ). start_text layout (record_of piece given).own n query.counts.input ++ fields_by layout (fields_in piece) file_made query.counts.input query.counts.count state)
             (sym has_made.named);
       }
 
   -- what they answer, as it was made
-  pub answer_made : IsAnswerBy piece.layout.now piece.zones.now (record_of piece given)
-      (rest_by piece.layout.now.delimiter piece.layout.now.style piece.layout.now.from piece.layout.now.unit query.counts.count state)
+  pub answer_made : (fields : List RowField) → IsAnswerBy piece.layout.now fields piece.zones.now (record_of piece given)
+      (fields_by piece.layout.now fields file_made query.counts.input query.counts.count state)
   unfolding has_made
-  answer_made = record { has = has_made; is = refl }
+  answer_made fields = record { has = has_made; is = refl }

@@ -1,6 +1,6 @@
 -- Plain pairs, and their rows.
-use Rattle.std.proofs.Common.{◌≡◌, ◌≤◌, ◌<◌, ◌+◌, ◌-◌, ◌∙◌, ℕ, true, false, List, ◌∷◌, ◌++◌, Option, None, Some, ap, arith, get_or, length, length-take-le, map, refl, subst, sym, take}
-use Rattle.std.specs.Prelude.{All, IfSome, slice_index_or, slice_range}
+use Rattle.std.proofs.Common.{◌≡◌, ◌≤◌, ◌<◌, ◌+◌, ◌-◌, ◌∙◌, ℕ, true, false, List, ◌∷◌, ◌++◌, Option, None, Some, ap, ap₂, arith, get_or, length, length-take-le, map, refl, subst, sym, take}
+use Rattle.std.specs.Prelude.{All, IfSome, slice_range}
 use Rattle.std.proofs.Math.ListN.{get_or-map}
 use Rattle.std.proofs.lemmas.List.{get_or-take, length-map}
 use Rattle.zic_columns.proofs.Spans.{span_both, span_first, span_length}
@@ -11,18 +11,23 @@ use Rattle.zic_columns.specs.declared.fields.Record.{Record}
 use Rattle.zic_columns.specs.declared.fields.Span.{Span}
 use Rattle.zic_columns.specs.declared.splits.TheConstants.{BATCH}
 use Rattle.zic_base.specs.State.{Shown}
+use Rattle.zic_layouts.specs.RowField.{fields_of}
 use Rattle.zic_layouts.specs.declared.layout.Quotes.{Quotes}
 use Rattle.zic_layouts.specs.declared.layout.Quotes.TheVariants as quotes
 use Rattle.zic_layouts.specs.declared.layout.RowStart.{RowStart}
 use Rattle.zic_layouts.specs.declared.layout.RowStart.TheVariants as starts
+use Rattle.zic_layouts.specs.declared.layout.Style.{Style}
+use Rattle.zic_layouts.specs.declared.layout.TimeFrom.{TimeFrom}
+use Rattle.zic_layouts.specs.declared.layout.Unit.{Unit}
+use Rattle.zic_layouts.specs.declared.row_field.RowFields.{RowFields}
 use Rattle.zic_row_text.specs.Count.{timed_rest_text, units_of_second}
 use Rattle.zic_row_text.specs.Instant.{IsRowInstant}
 use Rattle.zic_row_text.specs.declared.row_time.RowTime.{RowTime}
 use Rattle.zic_zones.specs.Zones.{AnswersAt, number_of, zone_in}
 use Rattle.zic_piece_rows.specs.LayoutRows.{IsTextBy, admits_stray, beginning}
-use Rattle.zic_piece_rows.specs.code.Answer.{IsAdmitted, IsKnown, IsOfPiece, IsReadTime}
-use Rattle.zic_piece_rows.specs.code.Batch.{IsGiven, blank_time, zone_at}
-use Rattle.zic_piece_rows.specs.code.Pairs.{ArePairColumns, ArePairs, HaveState, HaveTime, IfStateAt, IsOfPairs, IsPairAt, IsPlainPair, blank_pair, known_pair, pair_in, pair_of, pairs_of}
+use Rattle.zic_piece_rows.specs.code.Answer.{IsAdmitted, IsKnown, IsReadTime, answer_at, fields_in, place_at}
+use Rattle.zic_piece_rows.specs.code.Batch.{IsGiven, zone_at}
+use Rattle.zic_piece_rows.specs.code.Pairs.{ArePairColumns, ArePairs, HaveState, IfStateAt, IsOfPairs, IsPairAt, IsPlainPair, blank_pair, known_pair, pair_in, pair_of, pairs_of, style_of}
 use Rattle.zic_piece_rows.specs.code.Row.{input_of, rest_at}
 use Rattle.zic_piece_rows.specs.declared.answer.Answer.{Answer}
 use Rattle.zic_piece_rows.specs.declared.answer.AnswerState.TheVariants as state
@@ -30,8 +35,9 @@ use Rattle.zic_piece_rows.specs.declared.pairs.PairBatch.{PairBatch}
 use Rattle.zic_piece_rows.specs.declared.piece.Piece.{Piece}
 use Rattle.zic_piece_rows.specs.declared.start.Input.TheVariants as given_by
 use Rattle.zic_piece_rows.proofs.Columns.{one_of}
-use Rattle.zic_piece_rows.proofs.KnownRows.{fraction_below, known_is, known_shown, read_other}
+use Rattle.zic_piece_rows.proofs.KnownRows.{fraction_below, known_is, known_shown}
 use Rattle.zic_piece_rows.proofs.ShownRows.{row_made}
+use Rattle.zic_piece_rows.proofs.UsualRows.{usual_rest}
 
 -- the bytes from an index up to another
 abbrev span : ℕ → ℕ → Span
@@ -117,15 +123,23 @@ module _ (piece : Piece) (pair : Pair) (of : IsOfPairs piece.layout.now) (is : I
     abbrev answer_of : Answer
     answer_of = record { file = file; input = given_by.Field; time = time; state = state.Made shown }
 
+    -- what follows the pair
+    rest : timed_rest_text piece.layout.now.delimiter (style_of piece.layout.now.fields) piece.layout.now.unit time.second time.fraction shown ≡ answer_at piece (fields_in piece) answer_of
+    rest =
+        let d = piece.layout.now.delimiter in
+        let place = place_at piece answer_of in
+        ap₂ (λ (s : Style) (u : Unit). timed_rest_text d s u time.second time.fraction shown) (ap style_of of.fields) (sym known.time.unit)
+        ∙ sym (usual_rest d of.style time shown place)
+        ∙ ap₂ (λ (r : RowFields) (f : TimeFrom). rest_at d (fields_of r f) time shown place) (sym of.fields) (sym of.from)
+
     -- the text of its row
     pub pair_text : IsTextBy piece.layout.now piece.zones.now (pair_of piece pair) (slice_range piece.bytes.now pair.start pair.end
-        ++ timed_rest_text piece.layout.now.delimiter piece.layout.now.style piece.layout.now.unit time.second time.fraction shown)
+        ++ timed_rest_text piece.layout.now.delimiter (style_of piece.layout.now.fields) piece.layout.now.unit time.second time.fraction shown)
     pair_text =
         let layout = piece.layout.now in
         let field : given_by.Field ≡ input_of layout.from time = rw of.from refl in
-        let rest : timed_rest_text layout.delimiter layout.style layout.unit time.second time.fraction shown ≡ rest_at layout.delimiter layout.style layout.from time shown = rw (of.from, known.time.unit) refl in
         let shows = known_shown piece (pair_record pair) time (known_pair file time number) shown known answer_of refl field refl refl in
-        row_made piece (pair_record pair) answer_of shows _ (rw rest (ap (λ (l : List ℕ). l ++ rest_at layout.delimiter layout.style layout.from time shown) (begins layout.start)))
+        row_made piece (pair_record pair) answer_of shows _ (rw rest (ap (λ (l : List ℕ). l ++ answer_at piece (fields_in piece) answer_of) (begins layout.start)))
 
 -- one of the first of some pairs, whose records are all so
 of_record : (P : Record → Type 0) (pairs : List Pair) (count i : ℕ) → count ≤ length pairs → i < count → All P (map pair_record (take count pairs)) → P (pair_record (pair_in pairs i))
@@ -150,18 +164,3 @@ are_split piece pairs count of few long split stand =
 -- each pair is one record
 pub pairs_counted : (piece : Piece) (pairs : List Pair) (count : ℕ) → count ≤ BATCH → length pairs ≡ BATCH → length (pairs_of piece pairs count) ≡ count
 pairs_counted piece pairs count few long = length-map (take count pairs) (pair_of piece) ∙ length-take-le count pairs (omega (arith, few, long))
-
-module _ (piece other : Piece) (of : IsOfPiece piece other) (pairs : List Pair) (count : ℕ) where
-  -- pairs of a piece are those of the piece with the zones of another release
-  pub pairs_other : ArePairs piece count pairs → ArePairs other count pairs
-  pairs_other are = record {
-    layout = rw of.layout are.layout;
-    few = are.few;
-    are = λ i lt.
-        let is = are.are i lt in
-        record { stands = rw (of.layout, of.bytes) is.stands; split = rw (of.layout, of.bytes) is.split };
-  }
-
-  -- and so are the times in their fields
-  pub times_other : (times : List RowTime) → HaveTime piece count pairs times → HaveTime other count pairs times
-  times_other times read = λ i lt has. read_other piece (pair_record (pair_in pairs i)) other of (slice_index_or times i blank_time) (read i lt has)

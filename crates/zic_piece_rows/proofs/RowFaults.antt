@@ -11,16 +11,24 @@ use Rattle.zic_columns.specs.Round.{may_have}
 use Rattle.zic_columns.specs.declared.fields.Record.{Record}
 use Rattle.zic_files.specs.File.{File}
 use Rattle.zic_layouts.specs.Layout.{has_count}
+use Rattle.zic_layouts.specs.declared.layout.EmptyTime.{EmptyTime}
+use Rattle.zic_layouts.specs.declared.layout.EmptyTime.TheVariants as empty
+use Rattle.zic_layouts.specs.declared.layout.InstantText.TheVariants as texts
 use Rattle.zic_layouts.specs.declared.layout.Quotes.{Quotes}
+use Rattle.zic_layouts.specs.declared.layout.TimeFrom.{TimeFrom}
+use Rattle.zic_layouts.specs.declared.layout.TimeFrom.TheVariants as from
+use Rattle.zic_layouts.specs.declared.layout.Unit.{Unit}
 use Rattle.zic_base.specs.declared.row_fault.RowKind.{RowKind}
 use Rattle.zic_base.specs.declared.row_fault.RowKind.TheVariants as kind
-use Rattle.zic_row_text.specs.Count.{second_of}
+use Rattle.zic_row_text.specs.Count.{count_of, second_of, seconds_count_of}
+use Rattle.zic_row_text.specs.DateTime.{civil_in, local_count_of, rfc3339_count_of}
+use Rattle.zic_base.specs.Number.{number}
 use Rattle.zic_row_text.specs.Instant.{IsRowInstant}
 use Rattle.zic_row_text.specs.declared.count.TheConstants.{FIRST_INSTANT, LAST_INSTANT}
-use Rattle.zic_zones.specs.Zones.{is_named, number_of, zone_in}
-use Rattle.zic_piece_rows.specs.LayoutRows.{admits_stray, has_right_quotes}
+use Rattle.zic_zones.specs.Zones.{field_at, is_named, number_of, zone_in}
+use Rattle.zic_piece_rows.specs.LayoutRows.{admits_stray, count_by, has_right_quotes, is_kept}
 use Rattle.zic_piece_rows.specs.Rows.{is_closed, is_row_instant}
-use Rattle.zic_piece_rows.specs.code.Batch.{record_of, fault_at, time_at, zone_at}
+use Rattle.zic_piece_rows.specs.code.Batch.{IsKeptIf, IsUntimed, record_of, count_at, fault_at, kept_at, time_at, zone_at}
 use Rattle.zic_piece_rows.specs.declared.piece.Piece.{Piece}
 
 none_before : (o : Option ℕ) → option_map (λ n. suc n) o ≡ None → o ≡ None
@@ -84,23 +92,50 @@ module _ (piece : Piece) (number : ℕ) (given : Record) (le : number ≤ piece.
       zone_missing none = rw (le-leb number piece.most le, short, closed, admits, unnamed piece.zones.now (zone_in piece.layout.now.zone (record_of piece given).fields) none) refl
 
       module _ (n : ℕ) (zone : zone_at piece given ≡ Some n) where
-        -- it has no instant
-        pub time_missing : (fault : RowKind) → time_at piece given ≡ Err fault → fault_at piece number given ≡ Some fault
-        time_missing fault none =
-            rw (le-leb number piece.most le, short, closed, admits, named piece.zones.now (zone_in piece.layout.now.zone (record_of piece given).fields) n zone, none) refl
+        -- its time is empty and kept
+        pub kept_sound : kept_at piece given ≡ true → fault_at piece number given ≡ None
+        kept_sound kept = rw (le-leb number piece.most le, short, closed, admits, named piece.zones.now (zone_in piece.layout.now.zone (record_of piece given).fields) n zone, kept) refl
 
-        module _ (c : ℤ) (count : time_at piece given ≡ Ok c) where
+        -- it has no instant
+        pub time_missing : kept_at piece given ≡ false → (fault : RowKind) → time_at piece given ≡ Err fault → fault_at piece number given ≡ Some fault
+        time_missing unkept fault none =
+            rw (le-leb number piece.most le, short, closed, admits, named piece.zones.now (zone_in piece.layout.now.zone (record_of piece given).fields) n zone, unkept, none) refl
+
+        -- it has no counts
+        pub untimed : (fault : Option RowKind) → IsUntimed piece given fault → (fault_at piece number given ≡ fault) × IsKeptIf piece given fault
+        untimed None kept = (kept_sound kept, kept)
+        untimed (Some kind) (full, none) = (time_missing full kind none, tt)
+
+        module _ (unkept : kept_at piece given ≡ false) (c : ℤ) (count : time_at piece given ≡ Ok c) where
           -- its instant is out of range
           pub out_of_range : is_row_instant (Some (second_of piece.layout.now.unit c)) ≡ false
               → fault_at piece number given ≡ Some kind.RowRange
           out_of_range out =
-              rw (le-leb number piece.most le, short, closed, admits, named piece.zones.now (zone_in piece.layout.now.zone (record_of piece given).fields) n zone, count, out) refl
+              rw (le-leb number piece.most le, short, closed, admits, named piece.zones.now (zone_in piece.layout.now.zone (record_of piece given).fields) n zone, unkept, count, out) refl
 
           -- or it has no fault
           pub no_fault : is_row_instant (Some (second_of piece.layout.now.unit c)) ≡ true
               → fault_at piece number given ≡ None
           no_fault may =
-              rw (le-leb number piece.most le, short, closed, admits, named piece.zones.now (zone_in piece.layout.now.zone (record_of piece given).fields) n zone, count, may) refl
+              rw (le-leb number piece.most le, short, closed, admits, named piece.zones.now (zone_in piece.layout.now.zone (record_of piece given).fields) n zone, unkept, count, may) refl
+
+-- no empty field has a count
+none_in : (time_from : TimeFrom) (u : Unit) → count_by time_from u [] ≡ None
+unfolding count_of seconds_count_of rfc3339_count_of local_count_of number civil_in
+none_in from.Count u = refl
+none_in (from.Text texts.Seconds) u = refl
+none_in (from.Text texts.Rfc3339) u = refl
+none_in (from.Text texts.Utc) u = refl
+none_in (from.Local choice) u = refl
+
+kept_none : (empty : EmptyTime) (time_from : TimeFrom) (u : Unit) (field : List ℕ) (c : ℤ) → count_by time_from u field ≡ Some c → is_kept empty field ≡ false
+kept_none empty.Fault time_from u field c e = refl
+kept_none empty.Keep time_from u [] c e = absurd (cc (sym (none_in time_from u) ∙ e))
+kept_none empty.Keep time_from u (byte ∷ field) c e = refl
+
+-- a time with a count isn't empty
+pub unkept : (piece : Piece) (given : Record) (c : ℤ) → count_at piece given ≡ Some c → kept_at piece given ≡ false
+unkept piece given c e = kept_none piece.layout.now.empty piece.layout.now.from piece.layout.now.unit (field_at (record_of piece given).fields piece.layout.now.time) c e
 
 -- a row may have an instant that passes the check
 pub row_may : (t : ℤ) → is_row_instant (Some t) ≡ true → IsRowInstant t

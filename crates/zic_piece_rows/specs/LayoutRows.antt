@@ -1,16 +1,16 @@
 -- The rows of a column's records, by a layout: own choice. A record has an instant or a local time, and perhaps a zone's name. Its row has the
 -- text of what the file of that name answers at the instant, or a fault. A row with a fault ends the run, or is written without an answer, or
--- isn't written, and its record is rejected. Where rows are compared with another release, only those are written that it answers
--- differently, with its answer at the end.
-use Rattle.std.specs.Prelude.{◌≡◌, ℕ, ◌+◌, nat_le, ℤ, pos, ◌+ℤ◌, ◌*ℤ◌, List, [], ◌∷◌, ◌++◌, length, replicate, take, Option, Some, None, Result, Ok, Err, option_map, is_some, IsSome, Contains, slice_get, Bool, true, not, ◌&&◌, if◌then◌else◌}
+-- isn't written, and its record is rejected. An empty time is a fault, or gives a row without an answer. Where rows are compared with another
+-- release, only those are written that it answers differently, with its answer at the end.
+use Rattle.std.specs.Prelude.{◌≡◌, ℕ, ◌+◌, nat_le, ℤ, pos, ◌+ℤ◌, ◌*ℤ◌, List, [], ◌∷◌, ◌++◌, length, replicate, take, Option, Some, None, Result, Ok, Err, option_map, is_some, IsSome, Contains, slice_get, codes, Bool, true, false, not, ◌&&◌, ◌||◌, if◌then◌else◌}
 use Rattle.std.specs.Fmt.{signed_decimal}
 use Rattle.csv.specs.Writing.{default_writer, row_text, with_delimiter}
 use Rattle.zic_base.specs.Check.{Check, first_failed}
 use Rattle.zic_base.specs.State.{Shown}
 use Rattle.zic_tzif.specs.Answer.{Answers}
-use Rattle.zic_row_text.specs.Count.{count_of, counted_rest_text, fraction_of, local_count_text, second_of, units_of_second}
+use Rattle.zic_row_text.specs.Count.{count_of, fraction_of, local_count_text, second_of, units_of_second}
 use Rattle.zic_row_text.specs.DateTime.{local_count_of, text_count_of}
-use Rattle.zic_row_text.specs.Row.{state_text}
+use Rattle.zic_row_text.specs.Fields.{fields_text}
 use Rattle.zic_local.specs.declared.local_time.Unresolved.{Unresolved}
 use Rattle.zic_local.specs.declared.local_time.Unresolved.TheVariants as unresolved
 use Rattle.zic_columns.specs.Own.{CsvRecord}
@@ -20,6 +20,9 @@ use Rattle.zic_files.specs.File.{File}
 use Rattle.zic_layouts.specs.Layout.{has_count}
 use Rattle.zic_layouts.specs.declared.layout.AtFault.{AtFault}
 use Rattle.zic_layouts.specs.declared.layout.AtFault.TheVariants as at
+use Rattle.zic_layouts.specs.declared.disambiguation.Disambiguation.TheVariants as disambiguation
+use Rattle.zic_layouts.specs.declared.layout.EmptyTime.{EmptyTime}
+use Rattle.zic_layouts.specs.declared.layout.EmptyTime.TheVariants as empty
 use Rattle.zic_layouts.specs.declared.layout.Layout.{Layout}
 use Rattle.zic_layouts.specs.declared.layout.Quotes.{Quotes}
 use Rattle.zic_layouts.specs.declared.layout.Quotes.TheVariants as quotes
@@ -27,11 +30,11 @@ use Rattle.zic_layouts.specs.declared.layout.Records.{Records}
 use Rattle.zic_layouts.specs.declared.layout.Records.TheVariants as by
 use Rattle.zic_layouts.specs.declared.layout.RowStart.{RowStart}
 use Rattle.zic_layouts.specs.declared.layout.RowStart.TheVariants as start
-use Rattle.zic_layouts.specs.declared.layout.Style.{Style}
-use Rattle.zic_layouts.specs.declared.layout.Style.TheVariants as styles
 use Rattle.zic_layouts.specs.declared.layout.TimeFrom.{TimeFrom}
 use Rattle.zic_layouts.specs.declared.layout.TimeFrom.TheVariants as from
 use Rattle.zic_layouts.specs.declared.layout.Unit.{Unit}
+use Rattle.zic_layouts.specs.RowField.{compared_of, fields_of}
+use Rattle.zic_layouts.specs.declared.row_field.RowField.{RowField}
 use Rattle.zic_layouts.specs.Noted.{RowNote}
 use Rattle.zic_base.specs.declared.row_fault.RowKind.{RowKind}
 use Rattle.zic_base.specs.declared.row_fault.RowKind.TheVariants as kind
@@ -106,11 +109,23 @@ admits_stray quotes.Lenient stray = true
 abbrev pub has_right_quotes : Quotes → ℕ → CsvRecord → Bool
 has_right_quotes by delimiter row_record = is_closed row_record.fields && admits_stray by (has_stray delimiter row_record.own)
 
--- the checks of a record with this delimiter and this time as the row of a number, where there is a greatest number of rows
+-- an empty field that is kept
+abbrev pub is_kept : EmptyTime → List ℕ → Bool
+is_kept empty.Fault field = false
+is_kept empty.Keep [] = true
+is_kept empty.Keep (byte ∷ field) = false
+
+-- the time of a record is an empty field that is kept
+abbrev pub keeps : Layout → CsvRecord → Bool
+keeps layout row_record = is_kept layout.empty (field_at row_record.fields layout.time)
+
+-- The checks of a record with this delimiter and this time as the row of a number, where there is a greatest number of rows. An empty time that
+-- is kept passes those of the time.
 abbrev pub checks_of : Layout → List File → ℕ → ℕ → ℕ → CsvRecord → Result ℤ RowKind → List (Check RowKind)
 checks_of layout files most number delimiter row_record time =
     row_checks (nat_le number most) (may_have layout.max_record (length row_record.own)) (has_right_quotes layout.quotes delimiter row_record) (has_count layout.count (length row_record.fields))
-    (is_named files (zone_in layout.zone row_record.fields)) (is_some (ok_count time)) (err_fault time) (is_row_instant (option_map (second_of layout.unit) (ok_count time)))
+    (is_named files (zone_in layout.zone row_record.fields)) (keeps layout row_record || is_some (ok_count time)) (err_fault time)
+    (keeps layout row_record || is_row_instant (option_map (second_of layout.unit) (ok_count time)))
 
 -- the checks of a record
 abbrev pub checks_by : Layout → List File → ℕ → ℕ → CsvRecord → List (Check RowKind)
@@ -134,17 +149,26 @@ beginning start.Record delimiter own name input = own
 abbrev pub start_text : Layout → List ℕ → List ℕ → ℤ → List ℕ
 start_text layout own name count = beginning layout.start layout.delimiter own name (input_text layout.from layout.unit count)
 
--- What follows the instant of a local time: the state, or, where local time and offset are one field, both as the clocks show them at the
--- instant. In a gap that is another local time than the record's, which with this offset would be another instant.
-abbrev pub state_after : ℕ → Style → Unit → ℤ → Shown → List ℕ
-state_after delimiter styles.Fields u count state = state_text delimiter state
-state_after delimiter styles.Iso u count state = counted_rest_text delimiter styles.Iso u count state
+-- `gap` or `fold`, where a local time is in one by the clocks of a file, or no text
+abbrev pub place_of : Result ℤ Unresolved → List ℕ
+place_of (Ok t) = []
+place_of (Err unresolved.Gap) = codes "gap"
+place_of (Err unresolved.Fold) = codes "fold"
+place_of (Err unresolved.Unspecified) = []
 
--- what follows: the local time of an instant, or the instant of a local time, and the state, each field after a delimiter
-abbrev pub rest_by : ℕ → Style → TimeFrom → Unit → ℤ → Shown → List ℕ
-rest_by delimiter style from.Count u count state = counted_rest_text delimiter style u count state
-rest_by delimiter style (from.Text form) u count state = counted_rest_text delimiter style u count state
-rest_by delimiter style (from.Local choice) u count state = delimiter ∷ (signed_decimal count ++ state_after delimiter style u count state)
+-- the same for the count in a record's field, and no text for an instant
+abbrev pub place_by : TimeFrom → Unit → File → ℤ → List ℕ
+place_by from.Count u file count = []
+place_by (from.Text form) u file count = []
+place_by (from.Local choice) u file local = place_of (resolved file.image.octets (second_of u local) disambiguation.Reject)
+
+-- the text of these fields, by the zone's file, the count in the record's field, the count of its instant, and the state then
+abbrev pub fields_by : Layout → List RowField → File → ℤ → ℤ → Shown → List ℕ
+fields_by layout fields file input count state = fields_text layout.delimiter fields layout.unit count state (place_by layout.from layout.unit file input)
+
+-- the fields of a layout's rows
+abbrev pub row_fields : Layout → List RowField
+row_fields layout = fields_of layout.fields layout.from
 
 -- Files answer a record: the one of its zone's name shows a state at the whole second of the instant's count.
 pub record HasAnswer (layout : Layout) (files : List File) (row_record : CsvRecord) : Type 0 where
@@ -162,29 +186,21 @@ pub record HasAnswer (layout : Layout) (files : List File) (row_record : CsvReco
 -- delimiter.
 pub record IsTextBy (layout : Layout) (files : List File) (row_record : CsvRecord) (text : List ℕ) : Type 0 where
   pub has : HasAnswer layout files row_record
-  pub is : text ≡ start_text layout row_record.own has.file.name has.input ++ rest_by layout.delimiter layout.style layout.from layout.unit has.count has.state
+  pub is : text ≡ start_text layout row_record.own has.file.name has.input ++ fields_by layout (row_fields layout) has.file has.input has.count has.state
 
--- how many fields a file answers: local time or instant, offset, flag and abbreviation; in one field local time and offset, which follow the
--- instant of a local time
-abbrev pub answered : Style → TimeFrom → ℕ
-answered styles.Fields time = 4
-answered styles.Iso from.Count = 3
-answered styles.Iso (from.Text form) = 3
-answered styles.Iso (from.Local choice) = 4
-
--- these fields without text, and the end of a row
-abbrev pub empty_fields : Layout → List ℕ
-empty_fields layout = replicate (answered layout.style layout.from) layout.delimiter ++ 10 ∷ []
+-- an empty field for each of these, and the end of a row
+abbrev pub empty_fields : ℕ → List RowField → List ℕ
+empty_fields d fields = replicate (length fields) d ++ 10 ∷ []
 
 -- The text of a row without what a file answers, whose fields are empty. Where rows begin with names, it is what a CSV writer with the
 -- layout's delimiter writes of the zone's name, the field of the instant or of the local time as it was read, and these. Where they begin with
 -- their records, it is the record's own bytes and these.
 abbrev pub timeless_text : RowStart → Layout → CsvRecord → List ℕ
 timeless_text start.Fields layout row_record =
-    row_text (with_delimiter default_writer layout.delimiter) (zone_in layout.zone row_record.fields ∷ field_at row_record.fields layout.time ∷ replicate (answered layout.style layout.from) [])
-timeless_text start.Record layout row_record = row_record.own ++ empty_fields layout
+    row_text (with_delimiter default_writer layout.delimiter) (zone_in layout.zone row_record.fields ∷ field_at row_record.fields layout.time ∷ replicate (length (row_fields layout)) [])
+timeless_text start.Record layout row_record = row_record.own ++ empty_fields layout.delimiter (row_fields layout)
 
--- The text of a row with a fault that is written: one without local time, or, of a record with too many bytes, an open line, or a record
+-- The text of a row with a fault that is written: one without an answer, or, of a record with too many bytes, an open line, or a record
 -- with another number of fields than the layout's, the record's own bytes alone.
 abbrev pub marked_text : Layout → RowKind → CsvRecord → List ℕ
 marked_text layout kind.RowTooLong row_record = row_record.own ++ 10 ∷ []
@@ -225,45 +241,61 @@ ending at.Reject mode (Some _) = None
 abbrev pub ends_by : Layout → List File → ℕ → ℕ → CsvRecord → Option RowKind
 ends_by layout files most number row_record = ending layout.at_fault layout.records (fault_by layout files most number row_record)
 
+-- the row of a record without a fault: with what files answer it, or without that, where its time is empty and kept
+abbrev pub IsSoundRow : Bool → Layout → List File → CsvRecord → List ℕ → Type 0
+IsSoundRow false layout files row_record text = IsTextBy layout files row_record text
+IsSoundRow true layout files row_record text = text ≡ timeless_text layout.start layout row_record
+
 -- the row of a record, which has this fault or none
 abbrev pub IsRowAt : Layout → List File → Option RowKind → CsvRecord → List ℕ → Type 0
-IsRowAt layout files None row_record text = IsTextBy layout files row_record text
+IsRowAt layout files None row_record text = IsSoundRow (keeps layout row_record) layout files row_record text
 IsRowAt layout files (Some kind) row_record text = text ≡ faulty_text layout kind row_record
 
 -- the row of a record, as the row of a number
 abbrev pub IsRowBy : Layout → List File → ℕ → ℕ → CsvRecord → List ℕ → Type 0
 IsRowBy layout files most number row_record text = IsRowAt layout files (fault_by layout files most number row_record) row_record text
 
--- what files answer a record, as its row has it after its beginning
-pub record IsAnswerBy (layout : Layout) (files : List File) (row_record : CsvRecord) (answer : List ℕ) : Type 0 where
+-- what files answer a record, as these fields
+pub record IsAnswerBy (layout : Layout) (fields : List RowField) (files : List File) (row_record : CsvRecord) (answer : List ℕ) : Type 0 where
   pub has : HasAnswer layout files row_record
-  pub is : answer ≡ rest_by layout.delimiter layout.style layout.from layout.unit has.count has.state
+  pub is : answer ≡ fields_by layout fields has.file has.input has.count has.state
 
--- what files answer a record that has this fault as a row, or none
-abbrev pub IsAnswerAt : Layout → List File → Option RowKind → CsvRecord → List ℕ → Type 0
-IsAnswerAt layout files None row_record answer = IsAnswerBy layout files row_record answer
-IsAnswerAt layout files (Some kind) row_record answer = answer ≡ empty_fields layout
+-- what they answer a record without a fault, or this text, where its time is empty and kept
+abbrev pub IsSoundAnswer : Bool → Layout → List RowField → List ℕ → List File → CsvRecord → List ℕ → Type 0
+IsSoundAnswer false layout fields without files row_record answer = IsAnswerBy layout fields files row_record answer
+IsSoundAnswer true layout fields without files row_record answer = answer ≡ without
 
--- what files answer a record, as the row of a number
-abbrev pub IsAnswer : Layout → List File → ℕ → ℕ → CsvRecord → List ℕ → Type 0
-IsAnswer layout files most number row_record answer = IsAnswerAt layout files (fault_by layout files most number row_record) row_record answer
+-- what they answer a record that has this fault as a row, or none; with a fault this text
+abbrev pub IsAnswerAt : Layout → List RowField → List ℕ → List File → Option RowKind → CsvRecord → List ℕ → Type 0
+IsAnswerAt layout fields without files None row_record answer = IsSoundAnswer (keeps layout row_record) layout fields without files row_record answer
+IsAnswerAt layout fields without files (Some kind) row_record answer = answer ≡ without
+
+-- What they answer a record, as the row of a number: the text of these fields, or another, where they answer nothing.
+abbrev pub IsAnswer : Layout → List RowField → List ℕ → List File → ℕ → ℕ → CsvRecord → List ℕ → Type 0
+IsAnswer layout fields without files most number row_record answer = IsAnswerAt layout fields without files (fault_by layout files most number row_record) row_record answer
+
+-- what of it is compared, where two releases are: no text where they answer nothing, which no fields have
+abbrev pub IsSeen : Layout → List File → ℕ → ℕ → CsvRecord → List ℕ → Type 0
+IsSeen layout files most number row_record seen = IsAnswer layout (compared_of layout.compared (row_fields layout)) [] files most number row_record seen
 
 -- a row without its last byte, the line feed, and then an answer; no row stays no row
 abbrev pub with_answer : List ℕ → List ℕ → List ℕ
 with_answer [] answer = []
 with_answer (byte ∷ row) answer = take (length row) (byte ∷ row) ++ answer
 
--- The row of a record that is written only if other files answer the record differently. It is the row by the first files, and at its end
--- stands what the others answer.
+-- The row of a record that is written only if another release answers the record differently, as far as that is compared. It is the row by
+-- the first release, and at its end stands what the other answers: empty fields, where it answers nothing.
 pub record IsMovedRow (layout : Layout) (files old : List File) (most number : ℕ) (row_record : CsvRecord) (text : List ℕ) : Type 0 where
   pub row : List ℕ
-  pub by : IsRowBy layout files most number row_record row
-  pub answer : List ℕ
-  pub answers : IsAnswer layout files most number row_record answer
-  pub other : List ℕ
-  pub others : IsAnswer layout old most number row_record other
-  pub same : answer ≡ other → text ≡ []
-  pub moved : (answer ≡ other → ⊥) → text ≡ with_answer row other
+  pub is_row : IsRowBy layout files most number row_record row
+  pub seen : List ℕ
+  pub is_seen : IsSeen layout files most number row_record seen
+  pub old_seen : List ℕ
+  pub is_old_seen : IsSeen layout old most number row_record old_seen
+  pub old_answer : List ℕ
+  pub is_old_answer : IsAnswer layout (row_fields layout) (empty_fields layout.delimiter (row_fields layout)) old most number row_record old_answer
+  pub same : seen ≡ old_seen → text ≡ []
+  pub moved : (seen ≡ old_seen → ⊥) → text ≡ with_answer row old_answer
 
 -- what is written of a record, as the row of a number: its row, or, where there is another release, its row only if that answers differently
 abbrev pub IsWrittenWith : Option (List File) → Layout → List File → ℕ → ℕ → CsvRecord → List ℕ → Type 0

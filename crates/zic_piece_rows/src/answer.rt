@@ -1,7 +1,7 @@
 //! What a release answers a record.
 
 ghost use Rattle.std.specs.Prelude.{◌≡◌, ◌<◌, IsSome, IsTrue, Some, length, slice_get};
-ghost use Rattle.zic_piece_rows.specs.code.Answer.{AreSame, AreSameAnswers, shown_in};
+ghost use Rattle.zic_piece_rows.specs.code.Answer.{AreSame, AreSameAnswers, fault_of, shown_in};
 ghost use Rattle.zic_piece_rows.specs.code.Row.{input_of};
 
 use crate::start::{Input, input_of};
@@ -65,8 +65,8 @@ impl Answer<'_> {
 /// Returns `true` only where two releases give a record the same answer.
 #[inline(always)]
 pub(crate) fn are_same(
-    answer: &Result<Answer<'_>, RowKind>,
-    other: &Result<Answer<'_>, RowKind>,
+    answer: &Result<Answer<'_>, Option<RowKind>>,
+    other: &Result<Answer<'_>, Option<RowKind>>,
 ) -> bool
     ensures { IsTrue result → AreSame answer.now other.now }
 {
@@ -76,6 +76,17 @@ pub(crate) fn are_same(
             Err(_) => false,
         },
         Err(_) => other.is_err(),
+    }
+}
+
+/// Returns the fault of a row that has no answer, if it has one.
+#[inline(always)]
+pub(crate) fn fault_of(answer: &Result<Answer<'_>, Option<RowKind>>) -> Option<RowKind>
+    ensures { result ≡ fault_of answer.now }
+{
+    match answer {
+        Ok(_) => None,
+        Err(fault) => *fault,
     }
 }
 

@@ -87,8 +87,12 @@ impl<'s> Answers<'s> {
     }
 }
 
-/// Returns what a piece's zones answer a record as the row of a number, or the fault of its row: what the
-/// tables have of it, or by a search.
+/// Returns what a piece's zones answer a record as the row of a number: what the tables have of it, or by a
+/// search.
+///
+/// # Errors
+///
+/// The fault of its row, or `None` where its time is empty and kept.
 pub(crate) fn answer<'s>(
     alloc: Global,
     piece: &Piece<'_, 's>,
@@ -96,7 +100,7 @@ pub(crate) fn answer<'s>(
     given: &Record,
     known: TableAnswer,
     asked: Asked,
-) -> Result<Result<Answer<'s>, RowKind>, AllocError>
+) -> Result<Result<Answer<'s>, Option<RowKind>>, AllocError>
     requires split { IsGiven piece.now given.now }
     requires found { IsFound piece.now given.now asked.time states.now.states known }
     ensures { IfOk result (IsAnswered piece.now asked.number given.now) }
@@ -114,7 +118,7 @@ pub(crate) fn answer_alone<'s>(
     piece: &Piece<'_, 's>,
     given: &Record,
     asked: Asked,
-) -> Result<Result<Answer<'s>, RowKind>, AllocError>
+) -> Result<Result<Answer<'s>, Option<RowKind>>, AllocError>
     requires split { IsGiven piece.now given.now }
     requires read { IfTime asked.time (IsReadTime piece.now given.now) }
     ensures { IfOk result (IsAnswered piece.now asked.number given.now) }

@@ -5,7 +5,8 @@ ghost use Rattle.csv.specs.Writing.{default_writer, row_text, with_delimiter};
 ghost use Rattle.zic_columns.specs.Record.{IsWithinPiece, field_text};
 ghost use Rattle.zic_layouts.specs.declared.layout.RowStart.TheVariants as start;
 ghost use Rattle.zic_zones.specs.Zones.{field_at, zone_in};
-ghost use Rattle.zic_piece_rows.specs.LayoutRows.{answered, ending, faulty_text, if_rejected, marked_text, timeless_text};
+ghost use Rattle.zic_piece_rows.specs.LayoutRows.{ending, faulty_text, if_rejected, marked_text, timeless_text};
+ghost use Rattle.zic_piece_rows.specs.code.Answer.{unanswered_text};
 ghost use Rattle.zic_piece_rows.specs.code.Batch.{IsGiven, record_of};
 
 use crate::piece::Piece;
@@ -13,7 +14,7 @@ use csv::WriterBuilder;
 use std::alloc::{AllocError, Global};
 use zic_base::RowKind;
 use zic_columns::{Field, Record, push_field};
-use zic_layouts::{AtFault, Layout, Records, RowStart, Style, TimeFrom, ZoneFrom};
+use zic_layouts::{AtFault, Layout, MAX_FIELDS, Records, RowStart, ZoneFrom};
 
 /// Returns whether a fault ends the run.
 pub fn ends_run(at_fault: AtFault, records: Records, kind: RowKind) -> bool
@@ -92,17 +93,7 @@ fn csv_row(alloc: Global, delimiter: u8, fields: &[&[u8]]) -> Result<Vec<u8>, Al
     }
 }
 
-/// Returns how many fields of a row come from the zone's file.
-pub(crate) fn answered(style: Style, from: TimeFrom) -> usize
-    ensures { result ≡ answered style from }
-{
-    match (style, from) {
-        (Style::Iso, TimeFrom::Count | TimeFrom::Text(_)) => 3,
-        (Style::Iso, TimeFrom::Local(_)) | (Style::Fields, _) => 4,
-    }
-}
-
-/// Returns the row of a record by its fields, without local time.
+/// Returns the row of a record by its fields, without an answer.
 fn timeless_row(alloc: Global, piece: &Piece<'_, '_>, given: &Record) -> Result<Vec<u8>, AllocError>
     requires { IsGiven piece.now given.now }
     ensures { IfOk result (λ row. row.items ≡ timeless_text start.Fields piece.now.layout.now
@@ -110,13 +101,11 @@ fn timeless_row(alloc: Global, piece: &Piece<'_, '_>, given: &Record) -> Result<
 {
     let name = copy_zone(alloc, piece, given)?;
     let field = copy_time(alloc, piece, given)?;
-    let (name, field) = (name.as_slice(), field.as_slice());
-    let delimiter = piece.layout.delimiter.byte();
-    if answered(piece.layout.style, piece.layout.from) == 3 {
-        csv_row(alloc, delimiter, &[name, field, b"", b"", b""])
-    } else {
-        csv_row(alloc, delimiter, &[name, field, b"", b"", b"", b""])
-    }
+    let mut fields: [&[u8]; MAX_FIELDS + 2] = [b""; MAX_FIELDS + 2];
+    fields[0] = name.as_slice();
+    fields[1] = field.as_slice();
+    let count = piece.layout.fields.fields(piece.layout.from).len();
+    csv_row(alloc, piece.layout.delimiter.byte(), &fields[..2 + count])
 }
 
 /// Appends a row of the own bytes of a record and some delimiters.
@@ -140,6 +129,30 @@ pub fn rejected_bytes(alloc: Global, layout: &Layout, own: &[u8]) -> Result<Vec<
     }
 }
 
+/// Appends the row of a record without an answer. Where memory runs out, a part of the row may be there.
+fn push_timeless(
+    alloc: Global,
+    text: &mut Vec<u8>,
+    piece: &Piece<'_, '_>,
+    given: &Record,
+) -> Result<(), AllocError>
+    requires { IsGiven piece.now given.now }
+    ensures { OnOk result (text.new.items ≡ text.old.items ++ timeless_text
+        piece.now.layout.now.start piece.now.layout.now (record_of piece.now given.now)) }
+{
+    match piece.layout.start {
+        RowStart::Record => {
+            let empty = [piece.layout.delimiter.byte(); MAX_FIELDS];
+            let count = piece.layout.fields.fields(piece.layout.from).len();
+            push_own(text, given.own.of(piece.bytes), &empty[..count])
+        }
+        RowStart::Fields => {
+            let row = timeless_row(alloc, piece, given)?;
+            text.extend_from_slice(&row)
+        }
+    }
+}
+
 /// Appends the row of a record with a fault that is written, as [`push_faulty`] does.
 fn push_marked(
     alloc: Global,
@@ -152,29 +165,18 @@ fn push_marked(
     ensures { OnOk result (text.new.items ≡ text.old.items ++ marked_text piece.now.layout.now kind
         (record_of piece.now given.now)) }
 {
-    let own = given.own.of(piece.bytes);
     if matches!(
         kind,
         RowKind::RowFields | RowKind::RowQuote | RowKind::RowTooLong
     ) {
-        return push_own(text, own, b"");
+        return push_own(text, given.own.of(piece.bytes), b"");
     }
-    match piece.layout.start {
-        RowStart::Record => {
-            let empty = [piece.layout.delimiter.byte(); 4];
-            let fields = answered(piece.layout.style, piece.layout.from);
-            push_own(text, own, &empty[..fields])
-        }
-        RowStart::Fields => {
-            let row = timeless_row(alloc, piece, given)?;
-            text.extend_from_slice(&row)
-        }
-    }
+    push_timeless(alloc, text, piece, given)
 }
 
 /// Appends the row of a record with a fault, unless the record is rejected. Where memory runs out, a part
 /// of the row may be there.
-pub(crate) fn push_faulty(
+fn push_faulty(
     alloc: Global,
     text: &mut Vec<u8>,
     piece: &Piece<'_, '_>,
@@ -188,5 +190,23 @@ pub(crate) fn push_faulty(
     match piece.layout.at_fault {
         AtFault::Reject => Ok(()),
         AtFault::End | AtFault::GoOn => push_marked(alloc, text, piece, kind, given),
+    }
+}
+
+/// Appends the row of a record without an answer: with this fault, or with none.
+pub(crate) fn push_unanswered(
+    alloc: Global,
+    text: &mut Vec<u8>,
+    piece: &Piece<'_, '_>,
+    fault: Option<RowKind>,
+    given: &Record,
+) -> Result<(), AllocError>
+    requires { IsGiven piece.now given.now }
+    ensures { OnOk result (text.new.items ≡ text.old.items ++ unanswered_text piece.now.layout.now
+        fault (record_of piece.now given.now)) }
+{
+    match fault {
+        Some(kind) => push_faulty(alloc, text, piece, kind, given),
+        None => push_timeless(alloc, text, piece, given),
     }
 }

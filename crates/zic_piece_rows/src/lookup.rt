@@ -1,19 +1,16 @@
 //! Reads the counts of a record.
 
-ghost use Rattle.std.specs.Prelude.{◌≡◌, ◌<◌, IfOk, IfSome, Some, length, slice_get};
+ghost use Rattle.std.specs.Prelude.{◌≡◌, ◌<◌, IfSome, Some, length, slice_get};
 ghost use Rattle.zic_row_text.specs.Count.{second_of};
 ghost use Rattle.zic_row_text.specs.Local.{IsLocalSecond};
 ghost use Rattle.zic_zones.specs.Resolved.{resolved};
-ghost use Rattle.zic_piece_rows.specs.LayoutRows.{file_at, missing, moved};
+ghost use Rattle.zic_piece_rows.specs.LayoutRows.{count_by, file_at, is_kept, missing, moved};
 ghost use Rattle.zic_piece_rows.specs.Rows.{is_row_instant};
-ghost use Rattle.zic_piece_rows.specs.code.Batch.{AreTimesOf, IsCountFor, IsFile, IsGiven, count_at};
+ghost use Rattle.zic_piece_rows.specs.code.Batch.{AreTimesOf, IsCountFor, IsFile};
 
-use crate::faulty::copy_time;
 use crate::piece::Piece;
-use std::alloc::{AllocError, Global};
 use zic_base::RowKind;
-use zic_columns::Record;
-use zic_layouts::{Disambiguation, TimeFrom, Unit};
+use zic_layouts::{Disambiguation, EmptyTime, Layout, TimeFrom, Unit};
 use zic_local::Unresolved;
 use zic_row_text::{
     FIRST_INSTANT, LAST_INSTANT, count_from, moment_of, parse_count, parse_instant_text,
@@ -37,24 +34,27 @@ pub(crate) fn is_in_range(count: i128, unit: Unit) -> bool
     i128::from(FIRST_INSTANT) <= second && second <= i128::from(LAST_INSTANT)
 }
 
-/// Returns the count that the field of a record's time has, if it has one.
-pub(crate) fn read_input(
-    alloc: Global,
-    piece: &Piece<'_, '_>,
-    given: &Record,
-) -> Result<Option<i128>, AllocError>
-    requires { IsGiven piece.now given.now }
-    ensures count { IfOk result (λ count. count ≡ count_at piece.now given.now) }
-    ensures sound { IfOk result (λ count. IfSome count
-        (IsCountFor piece.now.layout.now.from piece.now.layout.now.unit)) }
+/// Returns whether an empty field is kept, and this is one.
+pub(crate) fn is_kept(empty: EmptyTime, field: &[u8]) -> bool
+    ensures { result ≡ is_kept empty field.now }
 {
-    let text = copy_time(alloc, piece, given)?;
-    let unit = piece.layout.unit;
-    Ok(match piece.layout.from {
-        TimeFrom::Count => parse_count(&text, unit),
-        TimeFrom::Text(form) => parse_instant_text(&text, form, unit),
-        TimeFrom::Local(_) => parse_local_time(&text, unit),
-    })
+    match empty {
+        EmptyTime::Fault => false,
+        EmptyTime::Keep => matches!(field, []),
+    }
+}
+
+/// Returns the count that a field has by a layout, if it has one.
+pub(crate) fn read_input(layout: &Layout, field: &[u8]) -> Option<i128>
+    ensures count { result ≡ count_by layout.now.from layout.now.unit field.now }
+    ensures sound { IfSome result (IsCountFor layout.now.from layout.now.unit) }
+{
+    let unit = layout.unit;
+    match layout.from {
+        TimeFrom::Count => parse_count(field, unit),
+        TimeFrom::Text(form) => parse_instant_text(field, form, unit),
+        TimeFrom::Local(_) => parse_local_time(field, unit),
+    }
 }
 
 /// Returns the counts of a record, by the file of its zone and the count that its field has.

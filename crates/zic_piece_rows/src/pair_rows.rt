@@ -6,14 +6,14 @@ ghost use Rattle.zic_zones.specs.declared.slot.TheConstants.{UNKNOWN};
 ghost use Rattle.zic_piece_rows.specs.PieceRows.{AreRowsOf};
 ghost use Rattle.zic_piece_rows.specs.code.Answer.{IsOfPiece};
 ghost use Rattle.zic_piece_rows.specs.code.Pairs.{ArePairColumns, ArePairs, IsPairAt};
-ghost use Rattle.zic_piece_rows.specs.code.Pairs.{form_of, pair_in, pair_of, pairs_of};
+ghost use Rattle.zic_piece_rows.specs.code.Pairs.{form_of, pair_in, pair_of, pairs_of, style_of};
 ghost use Rattle.zic_piece_rows.specs.code.Row.{AreNextBy, by_both, files_of};
 
 use crate::pairs::PairBatch;
 use crate::piece::Piece;
 use crate::row::{RowPen, Rows};
 use std::alloc::AllocError;
-use zic_layouts::{Style, Unit};
+use zic_layouts::{RowFields, Style, Unit};
 use zic_row_text::{RowRest, RowTime};
 use zic_zones::UNKNOWN;
 
@@ -23,6 +23,16 @@ use zic_zones::UNKNOWN;
 pub(crate) struct Form {
     style: Style,
     unit: Unit,
+}
+
+/// Returns the style of the usual fields.
+fn style_of(fields: &RowFields) -> Style
+    ensures { result ≡ style_of fields.now }
+{
+    match fields {
+        RowFields::Usual(style) => *style,
+        RowFields::Only(_) => Style::Fields,
+    }
 }
 
 impl Rows {
@@ -52,7 +62,7 @@ impl Rows {
         let None = other else {
             return self.add_compared_pairs(piece, other, batch, count, pen);
         };
-        match (piece.layout.style, piece.layout.unit) {
+        match (style_of(&piece.layout.fields), piece.layout.unit) {
             (Style::Fields, Unit::Second) => {
                 let form = Form {
                     style: Style::Fields,

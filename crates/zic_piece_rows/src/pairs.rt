@@ -14,7 +14,7 @@ use crate::answers::{Found, unknown};
 use crate::piece::Piece;
 use crate::time::{NO_TIME, ZERO_TIME, no_time, read_plain};
 use zic_columns::{BATCH, Pair, Record, Span, may_have};
-use zic_layouts::{Layout, TimeFrom, Unit, ZoneFrom};
+use zic_layouts::{Layout, RowFields, TimeFrom, Unit, ZoneFrom};
 use zic_row_text::RowTime;
 use zic_zones::{RowStates, UNKNOWN};
 
@@ -292,7 +292,11 @@ fn is_same(shown: &PairStates<'_>, others: &PairStates<'_>, place: usize) -> boo
 pub(crate) fn is_of_pairs(layout: &Layout) -> bool
     ensures { IsTrue result → IsOfPairs layout.now }
 {
-    let (ZoneFrom::Field(index), TimeFrom::Count) = (&layout.zone, layout.from) else {
+    let (ZoneFrom::Field(index), TimeFrom::Count, RowFields::Usual(_)) = (
+        &layout.zone,
+        layout.from,
+        &layout.fields,
+    ) else {
         return false;
     };
     *index == 0 && layout.time == 1 && layout.count.admits(2)

@@ -9,11 +9,11 @@ ghost use Rattle.zic_piece_rows.specs.code.Answer.{AreColumns, IfTime, IsAnswere
 ghost use Rattle.zic_piece_rows.specs.code.Batch.{IsGiven, blank, record_of, records_of};
 ghost use Rattle.zic_piece_rows.specs.code.Row.{AreNextBy, by_both, files_of};
 
-use crate::answer::{Answer, are_same};
+use crate::answer::{Answer, are_same, fault_of};
 use crate::answers::{Asked, Found, answer, answer_alone};
 use crate::batch::Batch;
 use crate::faulty::ends_run;
-use crate::moved::{ComparedTexts, write_answer};
+use crate::moved::{ComparedTexts, are_unplaced};
 use crate::note::{LinesPassed, note_of};
 use crate::piece::Piece;
 use crate::text::{push_any, push_row};
@@ -63,7 +63,7 @@ impl RowPen {
         }
     }
 
-    /// Appends what is written of a record with this answer or fault: its row, or, where there is another
+    /// Appends what is written of a record with this answer or without one: its row, or, where there is another
     /// release, its row only if that answers differently. `other` is the piece with the zones of that
     /// release.
     fn push(
@@ -73,7 +73,7 @@ impl RowPen {
         other: &Option<Piece<'_, '_>>,
         given: &Record,
         asked: Asked,
-        answer: &Result<Answer<'_>, RowKind>,
+        answer: &Result<Answer<'_>, Option<RowKind>>,
     ) -> Result<(), AllocError>
         requires split { IsGiven piece.now given.now }
         requires read { IfTime asked.time (IsReadTime piece.now given.now) }
@@ -89,8 +89,8 @@ impl RowPen {
         }
     }
 
-    /// Appends the row of a record with this answer or fault, and what another release answers, unless
-    /// that is the same.
+    /// Appends the row of a record with this answer or without one, and what another release answers, unless
+    /// that is the same as far as it is compared.
     fn push_compared(
         &mut self,
         text: &mut RowText,
@@ -98,7 +98,7 @@ impl RowPen {
         other: &Piece<'_, '_>,
         given: &Record,
         asked: Asked,
-        answer: &Result<Answer<'_>, RowKind>,
+        answer: &Result<Answer<'_>, Option<RowKind>>,
     ) -> Result<(), AllocError>
         requires split { IsGiven piece.now given.now }
         requires read { IfTime asked.time (IsReadTime piece.now given.now) }
@@ -109,10 +109,15 @@ impl RowPen {
             piece.now.most asked.number (record_of piece.now given.now) row) }
     {
         let theirs = answer_alone(self.alloc, other, given, asked)?;
-        if are_same(answer, &theirs) {
+        if are_unplaced(piece.layout.fields.fields(piece.layout.from))
+            && are_same(answer, &theirs)
+        {
             return Ok(());
         }
-        write_answer(&mut self.compared.other, other, given, &theirs)?;
+        if !self.compared.is_moved(piece, other, answer, &theirs)? {
+            return Ok(());
+        }
+        self.compared.keep_old(other, &theirs)?;
         self.compared
             .push_moved(self.alloc, text, piece, given, answer)
     }
@@ -197,12 +202,12 @@ impl Rows {
             number: piece.first + self.count,
         };
         let answer = answer(pen.alloc, piece, states, given, known, asked)?;
-        if let Err(kind) = &answer {
-            if ends_run(piece.layout.at_fault, piece.layout.records, *kind) {
-                self.fault = Some(*kind);
+        if let Some(kind) = fault_of(&answer) {
+            if ends_run(piece.layout.at_fault, piece.layout.records, kind) {
+                self.fault = Some(kind);
                 return Ok(());
             }
-            self.note(piece, given, asked.number, *kind, pen)?;
+            self.note(piece, given, asked.number, kind, pen)?;
         }
         pen.push(&mut self.text, piece, other, given, asked, &answer)?;
         self.count += 1;

@@ -1,15 +1,15 @@
 //! Searches what a release answers a record, check by check.
 
-ghost use Rattle.std.specs.Prelude.{◌≡◌, ◌<◌, IfOk, MatchResult, Some, length};
+ghost use Rattle.std.specs.Prelude.{◌≡◌, ◌<◌, IfOk, MatchResult, length};
 ghost use Rattle.zic_row_text.specs.Count.{second_of};
 ghost use Rattle.zic_row_text.specs.Instant.{IsRowInstant};
-ghost use Rattle.zic_piece_rows.specs.LayoutRows.{file_at};
 ghost use Rattle.zic_piece_rows.specs.code.Answer.{IsAnswered, IsRowQuery, IsShownRow, IsSoundQuery};
-ghost use Rattle.zic_piece_rows.specs.code.Batch.{AreTimesOf, IsGiven, count_at, fault_at, zone_at};
+ghost use Rattle.zic_piece_rows.specs.code.Batch.{AreTimesAt, IsGiven, IsKeptIf, fault_at, zone_at};
 
 use crate::answer::{Answer, AnswerState};
 use crate::answers::admits_stray;
-use crate::lookup::{Counts, is_in_range, read_input, times_of};
+use crate::faulty::copy_time;
+use crate::lookup::{Counts, is_in_range, is_kept, read_input, times_of};
 use crate::piece::Piece;
 use crate::start::Input;
 use std::alloc::{AllocError, Global};
@@ -28,7 +28,7 @@ pub(crate) struct RowQuery {
 ///
 /// # Errors
 ///
-/// The first fault of the row: a number above the greatest, more bytes than a record may have, no
+/// `None` where the time is empty and kept, or the first fault of the row: a number above the greatest, more bytes than a record may have, no
 /// field or a stray double quote that it may not have, another number of fields, a name that no file
 /// has, no instant, or an instant that no row may have.
 fn query(
@@ -36,36 +36,36 @@ fn query(
     number: u64,
     given: &Record,
     file: Option<usize>,
-    times: Result<Counts, RowKind>,
-) -> Result<RowQuery, RowKind>
+    times: Result<Counts, Option<RowKind>>,
+) -> Result<RowQuery, Option<RowKind>>
     requires split { IsGiven piece.now given.now }
     requires file { file ≡ zone_at piece.now given.now }
-    requires times { AreTimesOf piece.now.layout.now (file_at piece.now.zones.now file)
-        (count_at piece.now given.now) times }
+    requires times { AreTimesAt piece.now given.now times }
     ensures { MatchResult result (IsSoundQuery piece.now number given.now)
-        (λ kind. fault_at piece.now number given.now ≡ Some kind) }
+        (λ fault. (fault_at piece.now number given.now ≡ fault)
+        × IsKeptIf piece.now given.now fault) }
 {
     if piece.most < number {
-        return Err(RowKind::TooManyRows);
+        return Err(Some(RowKind::TooManyRows));
     }
     if !may_have(piece.layout.max_record, given.own.of(piece.bytes).len()) {
-        return Err(RowKind::RowTooLong);
+        return Err(Some(RowKind::RowTooLong));
     }
     if given.count == 0 || !admits_stray(piece.layout.quotes, given.stray) {
-        return Err(RowKind::RowQuote);
+        return Err(Some(RowKind::RowQuote));
     }
     if !piece.layout.count.admits(given.count) {
-        return Err(RowKind::RowFields);
+        return Err(Some(RowKind::RowFields));
     }
     let Some(file) = file else {
-        return Err(RowKind::RowZone);
+        return Err(Some(RowKind::RowZone));
     };
     let counts = match times {
         Ok(counts) => counts,
-        Err(kind) => return Err(kind),
+        Err(fault) => return Err(fault),
     };
     if !is_in_range(counts.count, piece.layout.unit) {
-        return Err(RowKind::RowRange);
+        return Err(Some(RowKind::RowRange));
     }
     Ok(RowQuery { file, counts })
 }
@@ -92,8 +92,37 @@ fn answer_to<'s>(piece: &Piece<'_, 's>, query: RowQuery) -> Answer<'s>
     }
 }
 
-/// Searches what a piece's zones answer a record, whose zone has this file, as the row of this number,
-/// or the fault of its row.
+/// Returns the counts of a record, whose zone has this file.
+///
+/// # Errors
+///
+/// The fault of a record that has no instant, or `None` where its time is empty and kept.
+fn read_times(
+    alloc: Global,
+    piece: &Piece<'_, '_>,
+    given: &Record,
+    file: Option<usize>,
+) -> Result<Result<Counts, Option<RowKind>>, AllocError>
+    requires split { IsGiven piece.now given.now }
+    requires file { file ≡ zone_at piece.now given.now }
+    ensures { IfOk result (AreTimesAt piece.now given.now) }
+{
+    let text = copy_time(alloc, piece, given)?;
+    if is_kept(piece.layout.empty, &text) {
+        return Ok(Err(None));
+    }
+    let input = read_input(piece.layout, &text);
+    match times_of(piece, file, input) {
+        Ok(counts) => Ok(Ok(counts)),
+        Err(kind) => Ok(Err(Some(kind))),
+    }
+}
+
+/// Searches what a piece's zones answer a record, whose zone has this file, as the row of this number.
+///
+/// # Errors
+///
+/// The fault of its row, or `None` where its time is empty and kept.
 #[inline(never)]
 pub(crate) fn search<'s>(
     alloc: Global,
@@ -101,15 +130,14 @@ pub(crate) fn search<'s>(
     number: u64,
     given: &Record,
     file: Option<usize>,
-) -> Result<Result<Answer<'s>, RowKind>, AllocError>
+) -> Result<Result<Answer<'s>, Option<RowKind>>, AllocError>
     requires split { IsGiven piece.now given.now }
     requires file { file ≡ zone_at piece.now given.now }
     ensures { IfOk result (IsAnswered piece.now number given.now) }
 {
-    let input = read_input(alloc, piece, given)?;
-    let times = times_of(piece, file, input);
+    let times = read_times(alloc, piece, given, file)?;
     match query(piece, number, given, file, times) {
         Ok(query) => Ok(Ok(answer_to(piece, query))),
-        Err(kind) => Ok(Err(kind)),
+        Err(fault) => Ok(Err(fault)),
     }
 }

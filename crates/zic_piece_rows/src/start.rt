@@ -9,6 +9,7 @@ ghost use Rattle.zic_piece_rows.specs.code.Batch.{IsCountFor, IsGiven, IsInput, 
 ghost use Rattle.zic_piece_rows.specs.code.Row.{input_of};
 
 use crate::piece::Piece;
+use crate::time::local_time_of;
 use itoa::Buffer;
 use std::alloc::AllocError;
 use zic_columns::{Field, Record, Span};
@@ -96,7 +97,11 @@ pub(crate) fn push_decimals(
     ensures { OnOk result (text.new ≡ text.old ++ delimiter ∷ signed_decimal count) }
 {
     text.push(&[delimiter])?;
-    text.push(Buffer::new().format(count).as_bytes())
+    // Fewer bits are written sooner.
+    match i64::try_from(count) {
+        Ok(short) => text.push(Buffer::new().format(short).as_bytes()),
+        Err(_) => text.push(Buffer::new().format(count).as_bytes()),
+    }
 }
 
 /// Appends the delimiter and the text of the count that a record's field has: a local time, or decimals.
@@ -108,7 +113,8 @@ fn push_input(text: &mut RowText, layout: &Layout, count: i128) -> Result<(), Al
 {
     let delimiter = layout.delimiter.byte();
     if let TimeFrom::Local(_) = layout.from {
-        return text.push_local_time(count, layout.unit, delimiter);
+        let local = local_time_of(count, layout.unit);
+        return text.push_local_time(local, delimiter);
     }
     push_decimals(text, count, delimiter)
 }

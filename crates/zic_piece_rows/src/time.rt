@@ -1,10 +1,13 @@
 //! Reads the times of the fields of records.
 
-ghost use Rattle.std.specs.Prelude.{◌≡◌, ◌≢◌, ◌≤◌, All, IfSome, Some, take};
+ghost use Rattle.std.specs.Prelude.{◌≡◌, ◌≢◌, ◌<◌, ◌≤◌, ◌+ℤ◌, All, IfSome, Some, take};
 ghost use Rattle.zic_columns.specs.Record.{IsWithin, bytes_at};
 ghost use Rattle.zic_columns.specs.declared.fields.Field.TheVariants.{Plain};
 ghost use Rattle.zic_columns.specs.declared.splits.TheConstants.{BATCH};
 ghost use Rattle.zic_layouts.specs.declared.layout.TimeFrom.TheVariants as from;
+ghost use Rattle.zic_row_text.specs.Count.{fraction_of, second_of, units_of_second};
+ghost use Rattle.zic_row_text.specs.Instant.{IsRowInstant, IsRowOffset};
+ghost use Rattle.zic_row_text.specs.Local.{IsLocalSecond};
 ghost use Rattle.zic_row_text.specs.PlainTime.{IsPlainTime};
 ghost use Rattle.zic_piece_rows.specs.code.Answer.{AreTimes, IfTime, IsReadTime};
 ghost use Rattle.zic_piece_rows.specs.code.Batch.{IsCountFor, IsGiven, count_at};
@@ -13,7 +16,7 @@ use crate::lookup::is_in_range;
 use crate::piece::Piece;
 use zic_columns::{BATCH, Field, Record, Span};
 use zic_layouts::{TimeFrom, Unit};
-use zic_row_text::{RowTime, parse_instant_text, parse_local_time, quick_time};
+use zic_row_text::{RowTime, moment_of, parse_instant_text, parse_local_time, quick_time};
 
 /// The second of a time that isn't known. No row may have it.
 pub(crate) const NO_TIME: i64 = i64::MIN;
@@ -34,6 +37,38 @@ pub(crate) fn no_time(unit: Unit) -> RowTime
         second: NO_TIME,
         fraction: 0,
         unit,
+    }
+}
+
+/// Returns a local time by its count.
+pub(crate) fn local_time_of(count: i128, unit: Unit) -> RowTime
+    requires { IsLocalSecond (second_of unit count) }
+    ensures second { result.second ≡ second_of unit count }
+    ensures fraction { result.fraction ≡ fraction_of unit count }
+    ensures below { result.fraction < units_of_second unit }
+    ensures unit { result.unit ≡ unit }
+{
+    let moment = moment_of(count, unit);
+    RowTime {
+        second: moment.second as i64,
+        fraction: moment.fraction,
+        unit,
+    }
+}
+
+/// Returns the local time of an instant at a UT offset.
+pub(crate) fn local_time_at(time: RowTime, offset: i32) -> RowTime
+    requires second { IsRowInstant time.second }
+    requires offset { IsRowOffset offset }
+    ensures second { result.second ≡ time.second +ℤ offset }
+    ensures local { IsLocalSecond result.second }
+    ensures fraction { result.fraction ≡ time.fraction }
+    ensures unit { result.unit ≡ time.unit }
+{
+    RowTime {
+        second: time.second + i64::from(offset),
+        fraction: time.fraction,
+        unit: time.unit,
     }
 }
 

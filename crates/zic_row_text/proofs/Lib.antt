@@ -20,4 +20,5 @@ pub mod ReadDates
 pub mod ReadOffsets
 pub mod OffsetPlaces
 pub mod ReadBack
+pub mod UsualFields
 pub mod UsualOffsets

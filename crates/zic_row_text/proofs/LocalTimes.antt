@@ -8,7 +8,7 @@ use Rattle.zic_calendar.specs.Calendar.{day_number, IsSupportedDay}
 use Rattle.zic_calendar.proofs.DateLemmas.{supported_day}
 use Rattle.zic_layouts.specs.declared.layout.Unit.{Unit}
 use Rattle.zic_layouts.specs.declared.layout.Unit.TheVariants as unit
-use Rattle.zic_row_text.specs.Count.{fraction_of, fraction_text, local_count_text, second_of, units_of_second}
+use Rattle.zic_row_text.specs.Count.{second_of, units_of_second}
 use Rattle.zic_row_text.specs.DateTime.{civil_second}
 use Rattle.zic_row_text.specs.Local.{IsLocalSecond, civil_of, local_time, second_at}
 use Rattle.zic_row_text.specs.Row.{civil_text, date_text}
@@ -34,13 +34,11 @@ second_counted unit.Microsecond (negsuc a) second n e lt = omega (arith, ints)
 second_counted unit.Nanosecond (pos a) second n e lt = omega (arith, ints)
 second_counted unit.Nanosecond (negsuc a) second n e lt = omega (arith, ints)
 
--- a local time, in the parts in which it is appended
-pub local_parts : (u : Unit) (count : ℤ) (seconds : ℕ) → pos seconds ≡ second_of u count +ℤ pos (719_162 * 86_400)
-    → cached_date (seconds / 86_400) ++ (clock_text (seconds % 86_400) ++ fraction_text u (fraction_of u count)) ≡ local_count_text u count
-unfolding local_count_text local_time cached_date
-local_parts u count seconds counted =
-    let t = second_of u count in
-    let more = fraction_text u (fraction_of u count) in
+-- a second of local time, in the parts in which it is appended, and what follows it
+pub local_parts : (t : ℤ) (more : List ℕ) (seconds : ℕ) → pos seconds ≡ t +ℤ pos (719_162 * 86_400)
+    → cached_date (seconds / 86_400) ++ (clock_text (seconds % 86_400) ++ more) ≡ civil_text (local_time t) ++ more
+unfolding local_time cached_date
+local_parts t more seconds counted =
     let second = seconds % 86_400 in
     let at = pos (seconds / 86_400) -ℤ pos 719_162 in
     let P : ℤ → ℕ → List ℕ = λ d s. civil_text (civil_of d s) ++ more in

@@ -1,5 +1,5 @@
 -- Where the UT offset of a field begins.
-use Rattle.std.proofs.Common.{◌≡◌, ◌∙◌, ◌≤◌, ◌<◌, ℕ, suc, ◌+◌, ◌-◌, ◌/◌, ◌%◌, Bool, true, false, not, ℤ, pos, List, ◌∷◌, ◌++◌, length, length-append, get_or, take, ap, arith, refl}
+use Rattle.std.proofs.Common.{◌≡◌, ◌∙◌, ◌≤◌, ◌<◌, ℕ, suc, ◌+◌, ◌-◌, ◌/◌, ◌%◌, Bool, true, false, not, ℤ, pos, List, ◌∷◌, ◌++◌, length, length-append, get_or, take, ap, arith, refl, []}
 use Rattle.std.proofs.Math.Seq.{get_or-append_right, get_or-append_seam, take-append_seam}
 use Rattle.std.proofs.lemmas.Bool.Decides.{nat_tests}
 use Rattle.std.proofs.lemmas.List.Sums.{AllPass-from_list_all, suffix_len_is}
@@ -64,3 +64,13 @@ place_of_offset xs offset = by (unsigned_abs offset % 60 == 0) where
       at_sign xs sign (clock_text n) (sign_is (int_lt offset (pos 0)))
       (rw (no_sign (n / 3600 / 10), no_sign (n / 3600 % 10), no_sign (n / 60 % 60 / 10), no_sign (n / 60 % 60 % 10), no_sign (n % 60 / 10), no_sign (n % 60 % 10)) refl)
       (no_letter (n % 60 % 10) (omega arith))
+
+-- and that of a field that ends in a letter for UT
+pub place_of_ut : (xs : List ℕ) → offset_place (xs ++ 90 ∷ []) ≡ length xs
+place_of_ut xs =
+    let field = xs ++ 90 ∷ [] in
+    let long = length-append xs (90 ∷ []) in
+    let last : length field - 1 ≡ length xs = omega (arith, long) in
+    let first : length field - 1 - length xs ≡ 0 = omega (arith, long) in
+    let byte : get_or field (length field - 1) 0 ≡ 90 = get_or-append_right xs (90 ∷ []) (length field - 1) 0 (omega (arith, long)) ∙ ap (λ (n : ℕ). get_or (90 ∷ []) n 0) first in
+    ap (λ (b : Bool). if b then length field - 1 else length (before_last is_sign field)) (ap is_zulu byte) ∙ last

@@ -1,5 +1,5 @@
 -- Times that rows have are read as the same counts.
-use Rattle.std.proofs.Common.{◌≡◌, ◌∙◌, ◌<◌, ℕ, ℤ, pos, negsuc, ◌+ℤ◌, ◌-ℤ◌, ◌*ℤ◌, List, ◌++◌, take, drop, append_assoc, ap, ap₂, arith, refl, sym, Some}
+use Rattle.std.proofs.Common.{◌≡◌, ◌∙◌, ◌<◌, ℕ, ℤ, pos, negsuc, ◌+ℤ◌, ◌-ℤ◌, ◌*ℤ◌, List, [], ◌∷◌, ◌++◌, take, drop, append_assoc, ap, ap₂, arith, refl, sym, Some}
 use Rattle.std.proofs.Math.Seq.{drop-append_seam, take-append_seam}
 use Rattle.std.proofs.lemmas.Int.{ints}
 use Rattle.std.specs.Prelude.{Option, option_map, unsigned_abs}
@@ -10,12 +10,12 @@ use Rattle.zic_row_text.specs.Count.{fraction_in, fraction_of, fraction_text, lo
 use Rattle.zic_row_text.specs.DateTime.{civil_second, counted, less_offset, local_count_of, offset_in, rfc3339_count_of, second_in}
 use Rattle.zic_row_text.specs.Instant.{IsRowInstant}
 use Rattle.zic_row_text.specs.Local.{IsLocalSecond, local_time}
-use Rattle.zic_row_text.specs.ReadBack.{IsoIsReadBack, LocalIsReadBack}
+use Rattle.zic_row_text.specs.ReadBack.{IsoIsReadBack, LocalIsReadBack, UtcIsReadBack}
 use Rattle.zic_row_text.specs.Row.{civil_text, iso_offset_text, local_text}
-use Rattle.zic_row_text.proofs.OffsetPlaces.{place_of_offset}
+use Rattle.zic_row_text.proofs.OffsetPlaces.{place_of_offset, place_of_ut}
 use Rattle.zic_row_text.proofs.ReadDates.{civil_read, local_civil, local_time_second}
 use Rattle.zic_row_text.proofs.ReadFractions.{fraction_read}
-use Rattle.zic_row_text.proofs.ReadOffsets.{offset_read}
+use Rattle.zic_row_text.proofs.ReadOffsets.{offset_read, ut_read}
 
 -- a count is its whole second and its units after that
 count_parts : (u : Unit) (count : ℤ) → (fraction_of u count < units_of_second u) × ((second_of u count *ℤ pos (units_of_second u)) +ℤ pos (fraction_of u count) ≡ count)
@@ -73,6 +73,23 @@ iso_is u count offset is near =
     let (below, same) = count_parts u count in
     let xs = civil_text (local_time (t +ℤ offset)) ++ fraction_text u n in
     let read = local_read u (t +ℤ offset) n (local_second_at t offset is near) below in
-    ap (rfc3339_count_of u) (sym (append_assoc (civil_text (local_time (t +ℤ offset))) (fraction_text u n) (iso_offset_text offset)))
-    ∙ offset_parts u xs offset ∙ ap₂ (λ (a b : Option ℤ). less_offset u a b) read (offset_read offset near)
+    offset_parts u xs offset ∙ ap₂ (λ (a b : Option ℤ). less_offset u a b) read (offset_read offset near)
     ∙ ap Some (offset_off u t offset n ∙ same)
+
+-- a field that ends in a letter for UT
+utc_parts : (u : Unit) (xs : List ℕ) → rfc3339_count_of u (xs ++ 90 ∷ []) ≡ less_offset u (local_count_of u xs) (Some (pos 0))
+unfolding rfc3339_count_of
+utc_parts u xs =
+    let rest = 90 ∷ [] in
+    let R : ℕ → Option ℤ = λ n. less_offset u (local_count_of u (take n (xs ++ rest))) (offset_in (drop n (xs ++ rest))) in
+    ap R (place_of_ut xs) ∙ ap₂ (λ (a b : List ℕ). less_offset u (local_count_of u a) (offset_in b)) (take-append_seam xs rest) (drop-append_seam xs rest) ∙ ap (less_offset u (local_count_of u xs)) ut_read
+
+pub utc_is : UtcIsReadBack
+unfolding local_text
+utc_is u count is =
+    let t = second_of u count in
+    let n = fraction_of u count in
+    let (below, same) = count_parts u count in
+    let xs = civil_text (local_time (t +ℤ pos 0)) ++ fraction_text u n in
+    let read = local_read u (t +ℤ pos 0) n (local_second_at t (pos 0) is (omega arith)) below in
+    utc_parts u xs ∙ ap (λ (a : Option ℤ). less_offset u a (Some (pos 0))) read ∙ ap Some (offset_off u t (pos 0) n ∙ same)

@@ -1,5 +1,5 @@
 -- UT offsets, read again.
-use Rattle.std.proofs.Common.{◌≡◌, ◌≤◌, ◌<◌, ℕ, ◌+◌, ◌*◌, ◌/◌, ◌%◌, Bool, true, false, ℤ, pos, negsuc, List, ◌∷◌, take, ap, arith, refl, Some}
+use Rattle.std.proofs.Common.{◌≡◌, ◌≤◌, ◌<◌, ℕ, ◌+◌, ◌*◌, ◌/◌, ◌%◌, Bool, true, false, ℤ, pos, negsuc, List, ◌∷◌, take, ap, arith, refl, Some, []}
 use Rattle.std.proofs.lemmas.Bool.{le-leb}
 use Rattle.std.proofs.lemmas.Bool.Decides.{nat_tests}
 use Rattle.std.proofs.lemmas.Int.{ints}
@@ -39,3 +39,8 @@ offset_read offset h = by (unsigned_abs offset % 60 == 0) refl where
   by : (even : Bool) → (unsigned_abs offset % 60 == 0) ≡ even → offset_in (if even then take 6 (offset_text offset) else offset_text offset) ≡ Some offset
   by true is = signed_read offset (take 5 (clock_text (unsigned_abs offset))) (short_read (unsigned_abs offset) h (grind (arith, nat_tests, is)))
   by false is = signed_read offset (clock_text (unsigned_abs offset)) (long_read (unsigned_abs offset) h)
+
+-- and so is a letter for UT
+pub ut_read : offset_in (90 ∷ []) ≡ Some (pos 0)
+unfolding offset_in
+ut_read = refl

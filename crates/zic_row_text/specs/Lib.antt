@@ -2,6 +2,7 @@ pub mod Instant
 pub mod Local
 pub mod Row
 pub mod Count
+pub mod Fields
 pub mod DateTime
 pub mod ReadBack
 pub mod PlainTime

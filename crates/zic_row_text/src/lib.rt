@@ -10,8 +10,8 @@
 //! delimiter: `push_row` appends the start of a row and what follows its instant, `push_rest` that
 //! alone (`timed_rest_text`), whatever row was before, and `push_local_time` and `push_state` parts
 //! of a row. What follows has local time and UT offset in two fields or in one (`styled_text`).
-//! `quick_time` (`IsPlainTime`), `RowTime::of_count`, `StateText::is_of`, `is_same` and `offset`
-//! say what their names say.
+//! `quick_time` (`IsPlainTime`), `RowTime::of_count`, `StateText::is_of`, `is_same`, `offset`,
+//! `offset_text`, `iso_offset_text`, `daylight` and `name` say what their names say.
 #![tactic(auto)]
 
 mod count;

@@ -2,19 +2,19 @@
 
 ghost use Rattle.std.specs.Prelude.{◌≡◌, ◌+◌, ◌<◌, ◌≤◌, ◌++◌, ◌∷◌, [], length, slice_range, take, IfOk, OnOk};
 ghost use Rattle.zic_row_text.specs.Instant.{IsRowInstant};
-ghost use Rattle.zic_row_text.specs.Count.{local_count_text, second_of, timed_rest_text, units_of_second};
-ghost use Rattle.zic_row_text.specs.Local.{IsLocalSecond};
-ghost use Rattle.zic_row_text.specs.Row.{state_text};
+ghost use Rattle.zic_row_text.specs.Count.{fraction_text, timed_rest_text, units_of_second};
+ghost use Rattle.zic_row_text.specs.Local.{IsLocalSecond, local_time};
+ghost use Rattle.zic_row_text.specs.Row.{civil_text, state_text};
 
-use crate::count::{DAYS_TO_1970, moment_of};
+use crate::count::DAYS_TO_1970;
 use crate::date::CachedDate;
 use crate::date_time::{day_second, seconds_from_year_1};
+use crate::row_time::RowTime;
 use crate::state_text::{STATE_ROOM, StateText};
 use crate::store::{put_64, put_byte};
 use crate::timed_rest::{LOCAL_ROOM, RowRest, TIMED_ROOM, put_rest, put_time};
 use std::alloc::{AllocError, Global};
 use std::marker::Model;
-use zic_layouts::Unit;
 
 /// The room that the start of a row has, in bytes: where it is no longer, it is written at once.
 const START_ROOM: usize = 64;
@@ -164,31 +164,27 @@ impl RowText {
         Ok(())
     }
 
-    /// Appends a delimiter and the local time of a count of units from 1970-01-01T00:00:00 on the
-    /// clocks of a place. Where memory runs out, the text stays.
+    /// Appends a delimiter and a local time, which counts from 1970-01-01T00:00:00 on the clocks of a
+    /// place. Where memory runs out, the text stays.
     #[inline(always)]
-    pub fn push_local_time(
-        &mut self,
-        count: i128,
-        unit: Unit,
-        delimiter: u8,
-    ) -> Result<(), AllocError>
-        requires { IsLocalSecond (second_of unit count) }
-        ensures { OnOk result (self.new ≡ self.old ++ delimiter ∷ local_count_text unit count) }
+    pub fn push_local_time(&mut self, local: RowTime, delimiter: u8) -> Result<(), AllocError>
+        requires second { IsLocalSecond local.second }
+        requires fraction { local.fraction < units_of_second local.unit }
+        ensures { OnOk result (self.new ≡ self.old ++ delimiter
+            ∷ (civil_text (local_time local.second) ++ fraction_text local.unit local.fraction)) }
     {
         make_room(&mut self.bytes, self.len, 1 + LOCAL_ROOM)?;
-        let moment = moment_of(count, unit);
-        let local = day_second(seconds_from_year_1(moment.second as i64));
-        self.date.turn_to(local.day);
+        let moment = day_second(seconds_from_year_1(local.second));
+        self.date.turn_to(moment.day);
         let text: &mut [u8] = &mut self.bytes;
         put_byte(text, self.len, delimiter);
         self.len = put_time(
             text,
             self.len + 1,
             &self.date,
-            local.second,
-            unit,
-            moment.fraction,
+            moment.second,
+            local.unit,
+            local.fraction,
         );
         Ok(())
     }

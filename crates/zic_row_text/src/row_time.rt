@@ -107,7 +107,7 @@ fn time_before(digits: &[u8], unit: Unit) -> Option<RowTime>
 
 /// Returns the number that a part of some bytes spells with no zero in front, if its digits are few
 /// enough for a count. Up to 16 digits are read at once, where as many bytes end with them: others go
-/// the slower way, as does a zero that stands alone.
+/// the slower way, as does a lone zero.
 #[inline(always)]
 fn plain_number_at(bytes: &[u8], start: usize, end: usize, unit: Unit) -> Option<u64>
     requires order { start ≤ end }

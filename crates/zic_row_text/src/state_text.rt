@@ -4,7 +4,8 @@ ghost use Rattle.std.specs.Prelude.{◌≡◌, ◌+◌, ◌*◌, ◌<◌, ◌≤
 ghost use Rattle.zic_base.specs.State.{shown};
 ghost use Rattle.zic_row_text.specs.declared.count.TheConstants.{DAY, DAYS, DAYS_TO_1970};
 ghost use Rattle.zic_row_text.specs.Instant.{IsRowInstant, IsRowOffset};
-ghost use Rattle.zic_row_text.specs.Row.{iso_state_text, state_text, styled_text, IsRowState};
+ghost use Rattle.zic_base.specs.Digits.{offset_text};
+ghost use Rattle.zic_row_text.specs.Row.{iso_offset_text, iso_state_text, state_text, styled_text, IsRowState};
 ghost use Rattle.zic_row_text.specs.code.Iso.{iso_width};
 ghost use Rattle.zic_row_text.specs.code.Cached.{before_name, state_in, IsTextOf};
 
@@ -78,10 +79,32 @@ impl StateText {
     }
 
     /// Returns the abbreviation.
-    fn name(&self) -> &[u8]
+    pub fn name(&self) -> &[u8]
         ensures { result.now ≡ self.now.name }
     {
         &self.octets[13..self.len - 1]
+    }
+
+    /// Returns the text of the UT offset, as `-04:00:00`.
+    pub fn offset_text(&self) -> &[u8]
+        ensures { result.now ≡ offset_text self.now.offset }
+    {
+        &self.octets[1..10]
+    }
+
+    /// Returns the text of the UT offset after a local time, as `-04:00`, with its seconds where it has
+    /// some.
+    pub fn iso_offset_text(&self) -> &[u8]
+        ensures { result.now ≡ iso_offset_text self.now.offset }
+    {
+        &self.octets[1..1 + iso_width(self.offset)]
+    }
+
+    /// Returns the daylight flag.
+    pub fn daylight(&self) -> bool
+        ensures { result ≡ self.now.daylight }
+    {
+        self.daylight
     }
 
     /// Returns the UT offset in seconds, positive east.

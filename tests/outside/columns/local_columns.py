@@ -114,9 +114,10 @@ def answer_text(zone, instant, fraction, form):
     if isinstance(instant, str):
         return 4 * delimiter
     shown, *rest = row("", zone, instant).split(",")[2:]
+    moment = str(instant * 10 ** digits + int(fraction[1:] or 0))
     if iso:
-        rest[0] = shown + fraction + iso_offset(rest[0])
-    return "".join(delimiter + field for field in [str(instant * 10 ** digits + int(fraction[1:] or 0)), *rest])
+        moment, rest[0] = text_of(instant, fraction) + "Z", shown + fraction + iso_offset(rest[0])
+    return "".join(delimiter + field for field in [moment, *rest])
 
 
 def compare(program, words, choice, records, rows, faults, list_path):

@@ -1,7 +1,8 @@
 -- What a release answers records: in the column of a batch, or by a search.
-use Rattle.std.specs.Prelude.{◌≡◌, ◌≢◌, ◌<◌, ◌≤◌, true, ℕ, ℤ, List, [], length, Some, None, Result, Ok, Err, MatchResult, IfSome, All, slice_get, slice_index_or, take}
+use Rattle.std.specs.Prelude.{◌≡◌, ◌≢◌, ◌<◌, ◌≤◌, Bool, true, false, ℕ, ℤ, List, [], length, Option, Some, None, Result, Ok, Err, MatchResult, IfSome, All, slice_get, slice_index_or, take}
 use Rattle.zic_base.specs.State.{Shown}
 use Rattle.zic_base.specs.declared.row_fault.RowKind.{RowKind}
+use Rattle.zic_columns.specs.Own.{CsvRecord}
 use Rattle.zic_columns.specs.Record.{bytes_at}
 use Rattle.zic_columns.specs.Round.{may_have}
 use Rattle.zic_columns.specs.declared.fields.Record.{Record}
@@ -9,17 +10,21 @@ use Rattle.zic_columns.specs.declared.splits.TheConstants.{BATCH}
 use Rattle.zic_layouts.specs.Layout.{has_count}
 use Rattle.zic_files.specs.File.{File}
 use Rattle.zic_layouts.specs.declared.disambiguation.Disambiguation.{Disambiguation}
+use Rattle.zic_layouts.specs.RowField.{compared_of}
+use Rattle.zic_layouts.specs.declared.layout.Layout.{Layout}
 use Rattle.zic_layouts.specs.declared.layout.TimeFrom.{TimeFrom}
 use Rattle.zic_layouts.specs.declared.layout.TimeFrom.TheVariants as from
+use Rattle.zic_layouts.specs.declared.row_field.RowField.{RowField}
+use Rattle.zic_layouts.specs.declared.row_field.RowField.TheVariants as field
 use Rattle.zic_row_text.specs.Count.{second_of}
 use Rattle.zic_row_text.specs.Instant.{IsRowInstant}
 use Rattle.zic_row_text.specs.declared.row_time.RowTime.{RowTime}
 use Rattle.zic_zones.specs.Resolved.{resolved}
 use Rattle.zic_zones.specs.States.{HasState}
 use Rattle.zic_zones.specs.Zones.{AnswersAt}
-use Rattle.zic_piece_rows.specs.LayoutRows.{IsAnswerBy, IsTextBy, admits_stray, empty_fields, faulty_text, file_at, input_text, with_answer}
-use Rattle.zic_piece_rows.specs.code.Batch.{AreCountsOf, IsCountFor, IsGiven, IsInput, IsTimeOf, blank, blank_time, count_at, fault_at, input_in, record_of, zone_at}
-use Rattle.zic_piece_rows.specs.code.Row.{input_of}
+use Rattle.zic_piece_rows.specs.LayoutRows.{IsTextBy, admits_stray, empty_fields, faulty_text, file_at, input_text, row_fields, timeless_text}
+use Rattle.zic_piece_rows.specs.code.Batch.{AreCountsOf, IsCountFor, IsGiven, IsInput, IsKeptIf, IsTimeOf, blank, blank_time, count_at, fault_at, input_in, kept_at, record_of, zone_at}
+use Rattle.zic_piece_rows.specs.code.Row.{input_of, place_in, rest_at}
 use Rattle.zic_piece_rows.specs.declared.answer.Answer.{Answer}
 use Rattle.zic_piece_rows.specs.declared.answer.AnswerState.{AnswerState}
 use Rattle.zic_piece_rows.specs.declared.answer.AnswerState.TheVariants as state
@@ -29,6 +34,8 @@ use Rattle.zic_piece_rows.specs.declared.batch.Batch.{Batch}
 use Rattle.zic_piece_rows.specs.declared.lookup.Counts.{Counts}
 use Rattle.zic_piece_rows.specs.declared.piece.Piece.{Piece}
 use Rattle.zic_piece_rows.specs.declared.search.RowQuery.{RowQuery}
+use Rattle.zic_piece_rows.specs.declared.start.Input.{Input}
+use Rattle.zic_piece_rows.specs.declared.start.Input.TheVariants as given_by
 use Rattle.zic_piece_rows.specs.declared.time.TheConstants.{NO_TIME}
 
 -- where the time says something
@@ -103,6 +110,12 @@ abbrev pub shown_in : AnswerState → Shown
 shown_in (state.Kept text) = text.now
 shown_in (state.Made text) = text
 
+-- what a row has of a local time is the text of its count
+abbrev pub IsMeantBy : TimeFrom → Input → ℤ → Type 0
+IsMeantBy from.Count input count = Unit {0}
+IsMeantBy (from.Text form) input count = Unit {0}
+IsMeantBy (from.Local choice) input count = input ≡ given_by.Count count
+
 -- What a release answers a record is the file of its zone, the time of the instant, which a row may have, and the state that the file shows
 -- then. The row begins with the text of the count that the record's field has.
 pub record IsShownRow (piece : Piece) (given : Record) (answer : Answer) : Type 0 where
@@ -112,6 +125,19 @@ pub record IsShownRow (piece : Piece) (given : Record) (answer : Answer) : Type 
   pub begins : IsInput piece given answer.input
   pub says : input_in piece given answer.input ≡ input_text piece.layout.now.from piece.layout.now.unit counts.input
   pub answers : AnswersAt piece.zones.now answer.file answer.time.second (shown_in answer.state)
+  pub meant : IsMeantBy piece.layout.now.from answer.input counts.input
+
+-- an answer to some record
+abbrev pub IsShownSome : Piece → Answer → Type 0
+IsShownSome piece answer = (given : Record) × IsShownRow piece given answer
+
+-- where the local time of the record lies, if it has one
+abbrev pub place_at : Piece → Answer → List ℕ
+place_at piece answer = place_in piece.layout.now.from piece.layout.now.unit (slice_get piece.zones.now answer.file) answer.input
+
+-- what its row has after its beginning, as these fields
+abbrev pub answer_at : Piece → List RowField → Answer → List ℕ
+answer_at piece fields answer = rest_at piece.layout.now.delimiter fields answer.time (shown_in answer.state) (place_at piece answer)
 
 -- two answers have the same instant and the same state
 pub record AreSameAnswers (answer other : Answer) : Type 0 where
@@ -120,16 +146,16 @@ pub record AreSameAnswers (answer other : Answer) : Type 0 where
   pub state : shown_in answer.state ≡ shown_in other.state
 
 -- two releases give a record the same answer: its fields are the same, or empty by both
-abbrev pub AreSame : Result Answer RowKind → Result Answer RowKind → Type 0
+abbrev pub AreSame : Result Answer (Option RowKind) → Result Answer (Option RowKind) → Type 0
 AreSame (Ok answer) (Ok other) = AreSameAnswers answer other
-AreSame (Err kind) (Err fault) = Unit {0}
+AreSame (Err fault) (Err other) = Unit {0}
 AreSame _ _ = ⊥
 
--- what a release answers a record as the row of a number, or the fault of its row
-abbrev pub IsAnswered : Piece → ℕ → Record → Result Answer RowKind → Type 0
+-- What a release answers a record as the row of a number. Without an answer its row has a fault, or none where its time is empty and kept.
+abbrev pub IsAnswered : Piece → ℕ → Record → Result Answer (Option RowKind) → Type 0
 IsAnswered piece number given answer = MatchResult answer
-    (λ a. (fault_at piece number given ≡ None) × IsShownRow piece given a)
-    (λ kind. fault_at piece number given ≡ Some kind)
+    (λ a. (fault_at piece number given ≡ None) × (kept_at piece given ≡ false) × IsShownRow piece given a)
+    (λ fault. (fault_at piece number given ≡ fault) × IsKeptIf piece given fault)
 
 -- the file of a record's zone, and what the tables answer by these states, if anything
 pub record IsFound (piece : Piece) (given : Record) (time : RowTime) (states : List Shown) (known : TableAnswer) : Type 0 where
@@ -164,23 +190,43 @@ pub record IsAt (piece : Piece) (batch : Batch) (place : ℕ) : Type 0 where
   pub read : IfTime (slice_index_or batch.times place blank_time) (IsReadTime piece (slice_index_or batch.records place blank))
   pub found : IsFound piece (slice_index_or batch.records place blank) (slice_index_or batch.times place blank_time) batch.answers.states.states (slice_index_or batch.answers.known place unknown)
 
--- the row of a record with this answer or fault
-abbrev pub IsRowOf : Piece → Record → Result Answer RowKind → List ℕ → Type 0
+-- the row of a record without an answer: with this fault, or with none
+abbrev pub unanswered_text : Layout → Option RowKind → CsvRecord → List ℕ
+unanswered_text layout None row_record = timeless_text layout.start layout row_record
+unanswered_text layout (Some kind) row_record = faulty_text layout kind row_record
+
+-- the row of a record with this answer, or without one
+abbrev pub IsRowOf : Piece → Record → Result Answer (Option RowKind) → List ℕ → Type 0
 IsRowOf piece given answer row = MatchResult answer
     (λ a. IsTextBy piece.layout.now piece.zones.now (record_of piece given) row)
-    (λ kind. row ≡ faulty_text piece.layout.now kind (record_of piece given))
+    (λ fault. row ≡ unanswered_text piece.layout.now fault (record_of piece given))
 
--- the text of this answer, or empty fields for a fault
-abbrev pub IsAnswerOf : Piece → Record → Result Answer RowKind → List ℕ → Type 0
-IsAnswerOf piece given answer text = MatchResult answer
-    (λ a. IsAnswerBy piece.layout.now piece.zones.now (record_of piece given) text)
-    (λ kind. text ≡ empty_fields piece.layout.now)
+-- the fields of a piece's rows, and those that are compared
+abbrev pub fields_in : Piece → List RowField
+fields_in piece = row_fields piece.layout.now
 
--- the row of a record that is written only if it is answered differently by another release, with this text
-pub record IsMovedOf (piece : Piece) (given : Record) (answer : Result Answer RowKind) (other row : List ℕ) : Type 0 where
-  pub whole : List ℕ
-  pub is_row : IsRowOf piece given answer whole
-  pub own : List ℕ
-  pub is_own : IsAnswerOf piece given answer own
-  pub same : own ≡ other → row ≡ []
-  pub moved : (own ≡ other → ⊥) → row ≡ with_answer whole other
+abbrev pub compared_in : Piece → List RowField
+compared_in piece = compared_of piece.layout.now.compared (fields_in piece)
+
+-- an answer as these fields, or a text where there is none
+abbrev pub answer_or : Piece → List RowField → List ℕ → Result Answer (Option RowKind) → List ℕ
+answer_or piece fields without (Ok answer) = answer_at piece fields answer
+answer_or piece fields without (Err fault) = without
+
+-- what of it is compared
+abbrev pub seen_by : Piece → Result Answer (Option RowKind) → List ℕ
+seen_by piece answer = answer_or piece (compared_in piece) [] answer
+
+-- what of it stands at the end of a row
+abbrev pub shown_by : Piece → Result Answer (Option RowKind) → List ℕ
+shown_by piece answer = answer_or piece (fields_in piece) (empty_fields piece.layout.now.delimiter (fields_in piece)) answer
+
+-- the fault of a row that has no answer, if it has one
+abbrev pub fault_of : Result Answer (Option RowKind) → Option RowKind
+fault_of (Ok answer) = None
+fault_of (Err fault) = fault
+
+-- a field that doesn't say where a local time lies
+abbrev pub is_unplaced : RowField → Bool
+is_unplaced field.Ambiguous = false
+is_unplaced _ = true

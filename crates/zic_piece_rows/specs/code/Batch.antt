@@ -1,5 +1,5 @@
 -- Some records of a piece, column by column: each column follows from those before it.
-use Rattle.std.specs.Prelude.{◌≡◌, ◌<◌, ℕ, ℤ, pos, List, Option, Some, None, Result, Ok, Err, MatchResult, IfSome, false, length, map, string_bytes, take}
+use Rattle.std.specs.Prelude.{◌≡◌, ◌<◌, ℕ, ℤ, pos, List, Option, Bool, Some, None, Result, Ok, Err, MatchResult, IfSome, false, true, length, map, string_bytes, take}
 use Rattle.zic_base.specs.declared.row_fault.RowKind.{RowKind}
 use Rattle.zic_columns.specs.Own.{CsvRecord}
 use Rattle.zic_columns.specs.Record.{IsSplit, field_text, record_at}
@@ -21,7 +21,7 @@ use Rattle.zic_row_text.specs.Count.{fraction_of, second_of}
 use Rattle.zic_row_text.specs.Local.{IsLocalSecond}
 use Rattle.zic_row_text.specs.declared.row_time.RowTime.{RowTime}
 use Rattle.zic_zones.specs.Zones.{number_of, zone_in}
-use Rattle.zic_piece_rows.specs.LayoutRows.{count_in, fault_by, file_at, input_text, time_by}
+use Rattle.zic_piece_rows.specs.LayoutRows.{count_in, fault_by, file_at, input_text, keeps, time_by}
 use Rattle.zic_piece_rows.specs.declared.piece.Piece.{Piece}
 use Rattle.zic_piece_rows.specs.declared.batch.Batch.{Batch}
 use Rattle.zic_piece_rows.specs.declared.lookup.Counts.{Counts}
@@ -103,6 +103,24 @@ pub record AreCountsOf (layout : Layout) (file : Option File) (input : Option �
   pub input_is : input ≡ Some counts.input
   pub sound : IsCountFor layout.from layout.unit counts.input
   pub time : time_by layout file input ≡ Ok counts.count
+
+-- the time of a record is empty and kept
+abbrev pub kept_at : Piece → Record → Bool
+kept_at piece given = keeps piece.layout.now (record_of piece given)
+
+-- it is, where its row has no fault
+abbrev pub IsKeptIf : Piece → Record → Option RowKind → Type 0
+IsKeptIf piece given None = kept_at piece given ≡ true
+IsKeptIf piece given (Some kind) = Prim.Unit {0}
+
+-- a record without counts: its time is empty and kept, or its row has this fault
+abbrev pub IsUntimed : Piece → Record → Option RowKind → Type 0
+IsUntimed piece given None = kept_at piece given ≡ true
+IsUntimed piece given (Some kind) = (kept_at piece given ≡ false) × (time_at piece given ≡ Err kind)
+
+-- the counts of a record, or that it has none
+abbrev pub AreTimesAt : Piece → Record → Result Counts (Option RowKind) → Type 0
+AreTimesAt piece given times = MatchResult times (AreCountsOf piece.layout.now (file_at piece.zones.now (zone_at piece given)) (count_at piece given)) (IsUntimed piece given)
 
 -- or the fault of its row
 abbrev pub AreTimesOf : Layout → Option File → Option ℤ → Result Counts RowKind → Type 0

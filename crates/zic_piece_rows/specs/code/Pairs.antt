@@ -5,8 +5,12 @@ use Rattle.zic_columns.specs.declared.splits.TheConstants.{BATCH}
 use Rattle.zic_base.specs.State.{Shown}
 use Rattle.zic_layouts.specs.Layout.{has_count}
 use Rattle.zic_layouts.specs.declared.layout.Layout.{Layout}
+use Rattle.zic_layouts.specs.declared.layout.Style.{Style}
+use Rattle.zic_layouts.specs.declared.layout.Style.TheVariants as styles
 use Rattle.zic_layouts.specs.declared.layout.TimeFrom.TheVariants as from
 use Rattle.zic_layouts.specs.declared.layout.ZoneFrom.TheVariants as zone
+use Rattle.zic_layouts.specs.declared.row_field.RowFields.{RowFields}
+use Rattle.zic_layouts.specs.declared.row_field.RowFields.TheVariants as rows
 use Rattle.zic_row_text.specs.declared.row_time.RowTime.{RowTime}
 use Rattle.zic_zones.specs.States.{HasState}
 use Rattle.zic_zones.specs.declared.slot.TheConstants.{UNKNOWN}
@@ -22,12 +26,14 @@ use Rattle.zic_piece_rows.specs.declared.pairs.Pairs.{Pairs}
 use Rattle.zic_piece_rows.specs.declared.pairs.TheConstants.{KEPT, NO_FILE}
 use Rattle.zic_piece_rows.specs.declared.piece.Piece.{Piece}
 
--- a record of this layout has a zone's name and an instant in decimals, and may have no other field
+-- A record of this layout has a zone's name and an instant in decimals, and may have no other field. Its row has the usual fields.
 pub record IsOfPairs (layout : Layout) : Type 0 where
   pub zone : layout.zone ≡ zone.Field 0
   pub time : layout.time ≡ 1
   pub from : layout.from ≡ from.Count
   pub count : has_count layout.count 2 ≡ true
+  pub style : Style
+  pub fields : layout.fields ≡ rows.Usual style
 
 -- a pair of no bytes
 abbrev pub blank_pair : Pair
@@ -131,6 +137,11 @@ pub record IsPairAt (piece : Piece) (other : Option Piece) (number : ℕ) (batch
   pub same : IsSome other → slice_index_or batch.same place false ≡ true → AreSameStates batch.shown batch.others place
   pub may : IfRow piece.most number (slice_index_or batch.shown.numbers place 0)
 
+-- the style of the usual fields
+abbrev pub style_of : RowFields → Style
+style_of (rows.Usual style) = style
+style_of (rows.Only fields) = styles.Fields
+
 -- the form of the rows of a layout
 abbrev pub form_of : Layout → Form
-form_of layout = record { style = layout.style; unit = layout.unit }
+form_of layout = record { style = style_of layout.fields; unit = layout.unit }

@@ -1,20 +1,23 @@
 -- Rows as the code has them.
-use Rattle.std.specs.Prelude.{◌≡◌, ◌+◌, ℕ, ℤ, pos, ◌+ℤ◌, ◌*ℤ◌, List, ◌∷◌, ◌++◌, Option, None, Some, MatchOption}
+use Rattle.std.specs.Prelude.{◌≡◌, ◌+◌, ℕ, ℤ, pos, ◌+ℤ◌, ◌*ℤ◌, if◌then◌else◌, List, [], ◌∷◌, ◌++◌, Option, None, Some, MatchOption}
+use Rattle.std.specs.List.{flat_map}
 use Rattle.std.specs.Fmt.{signed_decimal}
+use Rattle.zic_base.specs.Digits.{offset_text}
 use Rattle.zic_base.specs.State.{Shown}
 use Rattle.zic_columns.specs.Own.{CsvRecord}
 use Rattle.zic_files.specs.File.{File}
 use Rattle.zic_layouts.specs.declared.layout.Layout.{Layout}
-use Rattle.zic_layouts.specs.declared.layout.Style.{Style}
-use Rattle.zic_layouts.specs.declared.layout.Style.TheVariants as styles
 use Rattle.zic_layouts.specs.declared.layout.TimeFrom.{TimeFrom}
 use Rattle.zic_layouts.specs.declared.layout.TimeFrom.TheVariants as from
-use Rattle.zic_row_text.specs.Count.{timed_rest_text, units_of_second}
-use Rattle.zic_row_text.specs.Row.{state_text}
+use Rattle.zic_layouts.specs.declared.layout.Unit.{Unit}
+use Rattle.zic_layouts.specs.declared.row_field.RowField.{RowField}
+use Rattle.zic_layouts.specs.declared.row_field.RowField.TheVariants as field
+use Rattle.zic_row_text.specs.Count.{fraction_text, units_of_second}
+use Rattle.zic_row_text.specs.Row.{iso_offset_text, local_text}
 use Rattle.zic_row_text.specs.declared.row_time.RowTime.{RowTime}
 use Rattle.zic_base.specs.declared.row_fault.RowKind.{RowKind}
 use Rattle.zic_zones.specs.declared.zones.Releases.{Releases}
-use Rattle.zic_piece_rows.specs.LayoutRows.{IsWrittenBy, ends_by, fault_by, noted}
+use Rattle.zic_piece_rows.specs.LayoutRows.{IsWrittenBy, ends_by, fault_by, noted, place_by}
 use Rattle.zic_piece_rows.specs.PieceRows.{RowsOf}
 use Rattle.zic_piece_rows.specs.declared.piece.Piece.{Piece}
 use Rattle.zic_piece_rows.specs.declared.start.Input.{Input}
@@ -24,19 +27,36 @@ use Rattle.zic_piece_rows.specs.declared.start.Input.TheVariants as given_by
 abbrev pub time_count : RowTime → ℤ
 time_count time = (time.second *ℤ pos (units_of_second time.unit)) +ℤ pos time.fraction
 
--- what follows a local time, by the time of its instant: that instant and the state
-abbrev pub state_at : ℕ → Style → RowTime → Shown → List ℕ
-state_at delimiter styles.Fields time state = state_text delimiter state
-state_at delimiter styles.Iso time state = timed_rest_text delimiter styles.Iso time.unit time.second time.fraction state
+-- the local time of a time at an offset
+abbrev pub clock_at : RowTime → ℤ → List ℕ
+clock_at time offset = local_text time.second offset ++ fraction_text time.unit time.fraction
 
-abbrev pub local_rest : ℕ → Style → RowTime → Shown → List ℕ
-local_rest delimiter style time state = delimiter ∷ (signed_decimal (time_count time) ++ state_at delimiter style time state)
+-- the text of a field of a row, by the time of its instant
+abbrev pub field_at_time : RowField → RowTime → Shown → List ℕ → List ℕ
+field_at_time field.Local time state place = clock_at time state.offset
+field_at_time field.Time time state place = clock_at time state.offset ++ iso_offset_text state.offset
+field_at_time field.Instant time state place = signed_decimal (time_count time)
+field_at_time field.Utc time state place = clock_at time (pos 0) ++ 90 ∷ []
+field_at_time field.Offset time state place = offset_text state.offset
+field_at_time field.Daylight time state place = (if state.daylight then 49 else 48) ∷ []
+field_at_time field.Abbreviation time state place = state.name
+field_at_time field.Ambiguous time state place = place
 
--- what follows in a row, by the time of its instant
-abbrev pub rest_at : ℕ → Style → TimeFrom → RowTime → Shown → List ℕ
-rest_at delimiter style from.Count time state = timed_rest_text delimiter style time.unit time.second time.fraction state
-rest_at delimiter style (from.Text form) time state = timed_rest_text delimiter style time.unit time.second time.fraction state
-rest_at delimiter style (from.Local choice) time state = local_rest delimiter style time state
+-- what follows in a row: these fields
+abbrev pub rest_at : ℕ → List RowField → RowTime → Shown → List ℕ → List ℕ
+rest_at delimiter fields time state place = flat_map (λ f. delimiter ∷ field_at_time f time state place) fields ++ 10 ∷ []
+
+-- those that follow a local time in the usual style
+abbrev pub local_fields : List RowField
+local_fields = field.Instant ∷ field.Offset ∷ field.Daylight ∷ field.Abbreviation ∷ []
+
+-- where the local time of a row lies by a file, by what the row has of it
+abbrev pub place_in : TimeFrom → Unit → Option File → Input → List ℕ
+place_in from.Count u file input = []
+place_in (from.Text form) u file input = []
+place_in (from.Local choice) u None input = []
+place_in (from.Local choice) u (Some file) given_by.Field = []
+place_in (from.Local choice) u (Some file) (given_by.Count local) = place_by (from.Local choice) u file local
 
 -- what a row has of the time in the field of its record: the field as it is, where that has decimals, or else the time's count
 abbrev pub input_of : TimeFrom → RowTime → Input

@@ -1,7 +1,11 @@
 use Rattle.std.proofs.Common.{inl, inr}
 use Rattle.std.proofs.lemmas.Result.{err_from_is_err_and}
 use Rattle.std.specs.Prelude.{IsUtf8}
-use Rattle.pzic_files.specs.Layout.{HasNoLayout}
+use Rattle.std.proofs.Common.{◌≡◌, ℕ}
+use Rattle.zic_layouts.specs.declared.layout.Style.{Style}
+use Rattle.zic_layouts.specs.declared.row_field.RowFields.{RowFields}
+use Rattle.zic_layouts.specs.declared.row_field.RowFields.TheVariants as rows
+use Rattle.pzic_files.specs.Layout.{HasNoLayout, IsStyle, style_number}
 use Rattle.pzic_files.proofs.Layouts.{refused, refused_for}
 use Rattle.pzic_files.proofs.layout.layout_of.Goals as goal
 
@@ -59,11 +63,16 @@ returns-in_err-at_fault-clause-err c =
     rw (p.1, p.2) (refused c.at_fault_of.result c.in_err-at_fault.field-0.0 _ _ (HasNoLayout c.args.given.now c.args.name.now) c.in_err-at_fault.ensures.value c.at_fault_of.ensures
     (λ none. inl (λ layout h. none layout.at_fault h.at_fault)))
 
+-- a number of no style is that of no fields
+no_style : (n : ℕ) (fields : RowFields) → ((style : Style) → n ≡ style_number style → ⊥) → IsStyle n fields → ⊥
+no_style n (rows.Usual style) none is = none style is
+no_style n (rows.Only fields) none is = is
+
 pub returns-in_err-style-clause-err : goal.returns-in_err-style-clause-err
 returns-in_err-style-clause-err c =
     let p = err_from_is_err_and c.from_residual-in_err-style.result c.from_residual-in_err-style.ensures.1 in
     rw (p.1, p.2) (refused c.style_of.result c.in_err-style.field-0.0 _ _ (HasNoLayout c.args.given.now c.args.name.now) c.in_err-style.ensures.value c.style_of.ensures
-    (λ none. inl (λ layout h. none layout.style h.style)))
+    (λ none. inl (λ layout h. no_style c.args.given.now.style layout.fields none h.style)))
 
 pub returns-in_err-zone_from-clause-err : goal.returns-in_err-zone_from-clause-err
 returns-in_err-zone_from-clause-err c =

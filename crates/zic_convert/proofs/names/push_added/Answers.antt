@@ -11,15 +11,15 @@ returns-in-Some-clause-items c =
     let layout = c.args.layout.now in
     let d = layout.delimiter in
     let text = c.args.text.now.items in
-    let names = added_names layout.style layout.from in
+    let names = added_names layout.fields layout.from in
     let begin : List ℕ → List ℕ = λ name. layout.prefix ++ name in
     let of_old : List ℕ → List ℕ = λ name. codes "old_" ++ name in
     let own = map begin names in
     let old = map (λ (name : List ℕ). begin (of_old name)) names in
     let first : c.push_names.new.text.items ≡ text ++ delimited d own =
-    rw (c.added_names-names.ensures.value, c.name_start.ensures.delimiter, c.name_start.ensures.prefix, c.name_start.ensures.release) at c.push_names.ensures.items in
+    rw (c.name_start.ensures.delimiter, c.name_start.ensures.prefix, c.name_start.ensures.release) at c.push_names.ensures.items in
     let then : c.push_names-in-Some.new.text.items ≡ c.push_names.new.text.items ++ delimited d old =
-    rw (c.added_names-names.ensures.value, c.name_start-in-Some.ensures.delimiter, c.name_start-in-Some.ensures.prefix, c.name_start-in-Some.ensures.release) at c.push_names-in-Some.ensures.items in
+    rw (c.name_start-in-Some.ensures.delimiter, c.name_start-in-Some.ensures.prefix, c.name_start-in-Some.ensures.release) at c.push_names-in-Some.ensures.items in
     let both : map begin (names ++ map of_old names) ≡ own ++ old = map-append begin names (map of_old names) ∙ ap (λ (l : List (List ℕ)). own ++ l) (map-map begin of_old names) in
     let all : delimited d (map begin (names ++ map of_old names)) ≡ delimited d own ++ delimited d old =
     ap (λ (l : List (List ℕ)). delimited d l) both ∙ flat_map-append (λ (name : List ℕ). d ∷ name) own old in

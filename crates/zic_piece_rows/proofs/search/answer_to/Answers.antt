@@ -1,8 +1,17 @@
-use Rattle.std.proofs.Common.{FitsSigned, refl, rules, to_z-of_z}
+use Rattle.std.proofs.Common.{ℤ, FitsSigned, refl, rules, to_z-of_z}
 use Rattle.std.specs.Int.{w128, w64}
+use Rattle.zic_layouts.specs.declared.layout.TimeFrom.{TimeFrom}
+use Rattle.zic_layouts.specs.declared.layout.TimeFrom.TheVariants as times
+use Rattle.zic_piece_rows.specs.code.Answer.{IsMeantBy}
+use Rattle.zic_piece_rows.specs.declared.start.Input.TheVariants as given_by
 use Rattle.zic_piece_rows.proofs.Columns.{state_is}
 use Rattle.zic_piece_rows.proofs.search.answer_to.Goals.{in-Some, in-None}
 use Rattle.zic_piece_rows.proofs.search.answer_to.Goals as goal
+
+meant_of : (from : TimeFrom) (count : ℤ) → IsMeantBy from (given_by.Count count) count
+meant_of times.Count count = tt
+meant_of (times.Text form) count = tt
+meant_of (times.Local choice) count = refl
 
 pub make_text-requires-clause-shown : goal.make_text-requires-clause-shown
 make_text-requires-clause-shown c =
@@ -32,4 +41,5 @@ returns c = λ given is.
         | in-Some w ↦ rw w.state-is (w.in-Some.ensures second shown)
         | in-None w ↦ rw w.state-is (w.make_text.ensures second shown)
       ];
+      meant = meant_of c.args.piece.now.layout.now.from query.counts.input;
     })

@@ -1,12 +1,8 @@
 use Rattle.zic_zones.specs.Zones.{zone_in}
 use Rattle.zic_piece_rows.specs.code.Batch.{record_of}
 use Rattle.zic_piece_rows.proofs.Columns.{number_within}
+use Rattle.zic_piece_rows.proofs.RowFaults.{unkept}
 use Rattle.zic_piece_rows.proofs.search.search.Goals as goal
-
-pub times_of-times-requires-clause-file : goal.times_of-times-requires-clause-file
-times_of-times-requires-clause-file c =
-    let piece = c.args.piece.now in
-    rw c.requires.file (number_within piece.zones.now (zone_in piece.layout.now.zone (record_of piece c.args.given.now).fields))
 
 pub answer_to-requires-clause-within : goal.answer_to-requires-clause-within
 answer_to-requires-clause-within c =
@@ -14,4 +10,4 @@ answer_to-requires-clause-within c =
     rw c.in-Ok.ensures.is.file at (number_within piece.zones.now (zone_in piece.layout.now.zone (record_of piece c.args.given.now).fields))
 
 pub returns-in-Ok : goal.returns-in-Ok
-returns-in-Ok c = (c.in-Ok.ensures.sound, c.answer_to.ensures c.args.given.now c.in-Ok.ensures.is)
+returns-in-Ok c = (c.in-Ok.ensures.sound, unkept c.args.piece.now c.args.given.now _ c.in-Ok.ensures.is.counts.input_is, c.answer_to.ensures c.args.given.now c.in-Ok.ensures.is)

@@ -1,13 +1,13 @@
-use Rattle.std.proofs.Common.{◌≡◌, ◌+◌, List, Option, None, Some, false, ap, refl, subst, sym, ℕ}
+use Rattle.std.proofs.Common.{◌≡◌, ◌+◌, List, Option, None, Some, ◌∙◌, false, ap, refl, subst, sym, ℕ}
 use Rattle.std.specs.Prelude.{IsSome, is_some, slice_index_or}
-use Rattle.zic_base.specs.declared.row_fault.RowKind.{RowKind}
-use Rattle.zic_piece_rows.specs.LayoutRows.{IsRowAt, IsWrittenBy}
+use Rattle.std.proofs.lemmas.Option.{same_Some}
+use Rattle.zic_piece_rows.specs.LayoutRows.{IsWrittenBy}
 use Rattle.zic_piece_rows.specs.PieceRows.{RowsOf}
-use Rattle.zic_piece_rows.specs.code.Answer.{unknown}
+use Rattle.zic_piece_rows.specs.code.Answer.{shown_in, unknown}
 use Rattle.zic_piece_rows.specs.code.Batch.{blank, blank_time, record_of}
 use Rattle.zic_piece_rows.specs.code.Row.{by_both, files_of}
 use Rattle.zic_piece_rows.specs.declared.piece.Piece.{Piece}
-use Rattle.zic_piece_rows.proofs.KnownRows.{known_sound}
+use Rattle.zic_piece_rows.proofs.KnownRows.{known_row, known_shown, known_sound}
 use Rattle.zic_piece_rows.proofs.NextRows.{next_sound}
 use Rattle.zic_piece_rows.proofs.row.Rows.add.Goals as goal
 
@@ -18,6 +18,16 @@ no_other (Some piece) is = absurd (cc is)
 
 pub answer-answer-requires-clause-file : goal.answer-answer-requires-clause-file
 answer-answer-requires-clause-file c = let (state, got, is) = c.requires.at.found.answer c.if-known.false in subst IsSome (sym is.named) refl
+
+pub push_row-requires-clause-shown : goal.push_row-requires-clause-shown
+push_row-requires-clause-shown c =
+    let piece = c.args.piece.now in
+    let batch = c.args.batch.now in
+    let place = c.args.place in
+    let answer = c.answer-answer.ensures in
+    let (state, got, is) = c.requires.at.found.answer c.if-known.false in
+    known_shown piece (slice_index_or batch.records place blank) (slice_index_or batch.times place blank_time) (slice_index_or batch.answers.known place unknown) state is c.answer-answer.result answer.file answer.input answer.time
+    (same_Some state (shown_in c.answer-answer.result.state) (sym got ∙ answer.state))
 
 pub returns : goal.returns
 returns c =
@@ -34,6 +44,6 @@ returns c =
     let (state, got, is) = c.requires.at.found.answer c.if-known.false in
     let none = known_sound piece given time (slice_index_or batch.answers.known place unknown) state is number c.requires.at.split c.if-piece-number.false in
     let (row, text, of) = c.in_ok-push_row.ensures in
-    let by_fault = subst (λ (o : Option RowKind). IsRowAt layout piece.zones.now o (record_of piece given) row) (sym none) of in
+    let by_fault = known_row piece given time (slice_index_or batch.answers.known place unknown) state is number c.requires.at.split c.if-piece-number.false row of in
     let by = subst (λ (o : Option Piece). IsWrittenBy layout (by_both piece (files_of o)) piece.most number (record_of piece given) row) (sym (no_other c.args.other.now c.if-is_some.ensures)) by_fault in
     rw (← c.self.view_is) (next_sound layout releases piece.most number (record_of piece given) old _ none row by (ap (λ (l : List ℕ). record { text = l; count = q.count + 1; fault = q.fault; faults = q.faults.items }) text))
