@@ -11,7 +11,7 @@ _pzic_zones() {
             find -L "$word/" -type f -printf '%P\n' 2>/dev/null
             return
             ;;
-        --zone | --faults | --rejects | --against | --against-tree) ;;
+        --zone | --faults | --rejects | --against | --against-tree | --against-summary) ;;
         *) [ ! -f "$word" ] || source=$word ;;
         esac
     done
@@ -36,7 +36,7 @@ _pzic() {
     build) options='--links --sync --release --tables --workers --zone-piece --explain --help' ;;
     verify) options='--strict --release --tables --workers --zone-piece --explain --help' ;;
     diff) options='--old --new --trees --from --to --ignore --summary --now --style --group-links --status --show-release --workers --zone-piece --explain --help' ;;
-    convert) options='--source --ignore --tree --against --against-tree --workers --zone-piece --row-piece --max-rows --max-bytes --max-record --header --skip-header --prefix --zone --zone-field --time-field --delimiter --unit --from --ambiguous --show-ambiguous --empty --style --only --records --quotes --append --keep-going --faults --faults-with --rejects --max-faults --progress --show-release --explain --help' ;;
+    convert) options='--source --ignore --tree --against --against-tree --against-summary --workers --zone-piece --row-piece --max-rows --max-bytes --max-record --header --skip-header --prefix --zone --zone-field --time-field --delimiter --unit --from --ambiguous --show-ambiguous --empty --style --only --records --quotes --append --replace --keep-going --faults --faults-with --rejects --max-faults --progress --show-release --explain --help' ;;
     show) options='--local --next --weekdays --disambiguation --explain --help' ;;
     dump) options='--from --to --explain --help' ;;
     export) options='--ics --name --since --until --explain --help' ;;
@@ -50,7 +50,7 @@ _pzic() {
     *:--links) takes='copy hard symlink' ;;
     *:--release) takes='from-source' ;;
     *:--tables | *:--tree | *:--against-tree) takes='folders' ;;
-    *:--old | *:--new | *:--source | *:--against | *:--faults | *:--rejects) takes='files' ;;
+    *:--old | *:--new | *:--source | *:--against | *:--against-summary | *:--faults | *:--rejects) takes='files' ;;
     diff:--from | dump:--from | *:--to | *:--now | *:--zone-piece | *:--row-piece | *:--max-rows | *:--max-bytes | *:--max-record | *:--prefix | *:--zone-field | *:--time-field | *:--only | *:--max-faults | *:--next | *:--name | *:--since | *:--until) takes='none' ;;
     *:--ignore) takes='daylight abbreviation daylight,abbreviation' ;;
     diff:--style) takes='count iso' ;;

@@ -578,8 +578,11 @@ enum { PZIC_QUOTES_STRICT = 0, PZIC_QUOTES_LENIENT = 1 };
 /* No header; the first record is one, and one is written; or it is one, and none is written. */
 enum { PZIC_HEADER_ABSENT = 0, PZIC_HEADER_FIRST = 1, PZIC_HEADER_SKIPPED = 2 };
 
-/* What a row begins with: a zone's name and a time, or its record. */
-enum { PZIC_START_FIELDS = 0, PZIC_START_RECORD = 1 };
+/*
+ * What a row begins with: a zone's name and a time; its record; or its record with the first of the row's
+ * fields in the place of the time's, and a header that keeps the name of that.
+ */
+enum { PZIC_START_FIELDS = 0, PZIC_START_RECORD = 1, PZIC_START_REPLACED = 2 };
 
 /* A row with a fault ends the run, is written without local time, or is left out. */
 enum { PZIC_FAULT_ENDS = 0, PZIC_FAULT_GOES_ON = 1, PZIC_FAULT_REJECTS = 2 };
@@ -595,10 +598,10 @@ enum { PZIC_STYLE_FIELDS = 0, PZIC_STYLE_ISO = 1 };
  * --time-field, by numbers, --from with --ambiguous, --unit, --delimiter, --records, --header and
  * --skip-header, --append, --keep-going, --rejects, --style, --quotes and --max-record.
  *
- * These options have no counterpart here. --against: convert by the files of both releases and compare
- * the rows. --only, --style utc, --show-ambiguous and --empty. Fields by their names in a header. --faults-with: a fault has its row and its kind, and not
- * the line or the value. --max-rows, --max-bytes and --max-faults. --explain and --show-release. A call
- * works on the calling thread, without --workers and --progress.
+ * A pzic_row_layout has others too. These options have no counterpart here. --against: convert by the files
+ * of both releases and compare the rows. Fields by their names in a header. --faults-with: a fault has its
+ * row and its kind, and not the line or the value. --max-rows, --max-bytes and --max-faults. --explain and
+ * --show-release. A call works on the calling thread, without --workers and --progress.
  */
 typedef struct pzic_layout {
     /* The numbers, from 0, of the fields of the zone's name and of the time. */
@@ -649,14 +652,71 @@ static inline int32_t pzic_rows_by(const pzic_handle *files, const pzic_layout *
                                    size_t length, pzic_handle *rows);
 
 /*
+ * The fields that rows may have: local time; local time with its UT offset, as 2007-03-11T03:00:00-04:00; the
+ * instant as a count; the instant in UT, as 2007-03-11T07:00:00Z; the UT offset; the daylight flag; the
+ * abbreviation; `gap` or `fold` where the local time of the record is in one, and else an empty field.
+ */
+enum {
+    PZIC_FIELD_LOCAL = 1,
+    PZIC_FIELD_TIME = 2,
+    PZIC_FIELD_INSTANT = 3,
+    PZIC_FIELD_UTC = 4,
+    PZIC_FIELD_OFFSET = 5,
+    PZIC_FIELD_DAYLIGHT = 6,
+    PZIC_FIELD_ABBREVIATION = 7,
+    PZIC_FIELD_AMBIGUOUS = 8
+};
+
+/* A record whose time is an empty field has a fault, or a row in which the added fields are empty. */
+enum { PZIC_EMPTY_FAULT = 0, PZIC_EMPTY_KEEP = 1 };
+
+/* Rows and the header end with a line feed, or with a carriage return and a line feed. */
+enum { PZIC_LINE_END_LF = 0, PZIC_LINE_END_CRLF = 1 };
+
+/*
+ * A layout with more of the options of `pzic convert`: --empty, --only and --prefix. All zeros after `column`
+ * change nothing. --style utc and --show-ambiguous are lists of fields. This structure stays as it is: what
+ * comes later has numbers that are 0 now, or a call of its own.
+ */
+typedef struct pzic_row_layout {
+    /* How the column is read, and the rest of what its rows are. */
+    pzic_layout column;
+    uint32_t empty;
+    uint32_t line_end;
+    /* Each is 0. */
+    uint32_t reserved[6];
+    /*
+     * Which fields a row has after its beginning, in this order, up to the first 0: PZIC_FIELD_LOCAL and so on.
+     * With none those of the style; with any the style is PZIC_STYLE_FIELDS.
+     */
+    uint8_t only[8];
+    /*
+     * What the names of added fields begin with in a header that is written: up to 64 letters, digits and
+     * + - . / : _ and a NUL.
+     */
+    char prefix[65];
+} pzic_row_layout;
+
+/* PZIC_LAYOUT_INIT, and nothing more. */
+#define PZIC_ROW_LAYOUT_INIT {PZIC_LAYOUT_INIT, 0, 0, {0}, {0}, {0}}
+
+/*
+ * Converts a column as pzic_rows_by, by a layout with more options, and answers the same. It is PZIC_NO_SUCH
+ * too where names can't begin with the prefix, a reserved number isn't 0, or `only` has fields beside a style.
+ */
+static inline int32_t pzic_rows_with(const pzic_handle *files, const pzic_row_layout *layout,
+                                     const uint8_t *name, size_t name_length, const uint8_t *column,
+                                     size_t length, pzic_handle *rows);
+
+/*
  * Gives how many rows there are, without the header, and with those that are left out: PZIC_OK; or
  * PZIC_NO_HANDLE if `rows` holds none, and *count isn't written.
  */
 static inline int32_t pzic_rows_len(const pzic_handle *rows, uint64_t *count);
 
 /*
- * Copies the faults of rows that pzic_rows_by made, as many as there is room for, and gives their
- * number. They rise by the row, and each other row has local time; the one that ended the run is the last. Rows
+ * Copies the faults of rows that pzic_rows_by or pzic_rows_with made, as many as there is room for, and gives
+ * their number. They rise by the row, and each other row has local time; the one that ended the run is the last. Rows
  * of pzic_rows and lines of pzic_files_diff have none here.
  *
  * PZIC_OK         *count is the number of faults, and the first are copied
@@ -779,6 +839,9 @@ int32_t pzic_raw_rows(pzic_handle *files, const uint8_t *column, size_t length, 
 int32_t pzic_raw_rows_by(pzic_handle *files, const pzic_layout *layout, const uint8_t *name,
                          size_t name_length, const uint8_t *column, size_t length,
                          pzic_handle *rows);
+int32_t pzic_raw_rows_with(pzic_handle *files, const pzic_row_layout *layout, const uint8_t *name,
+                           size_t name_length, const uint8_t *column, size_t length,
+                           pzic_handle *rows);
 int32_t pzic_raw_rows_len(pzic_handle *rows, uint64_t *count);
 int32_t pzic_raw_rows_faults(pzic_handle *rows, pzic_row_fault *room, size_t room_length,
                              size_t *count);
@@ -1059,6 +1122,18 @@ static inline int32_t pzic_rows_by(const pzic_handle *files, const pzic_layout *
     if (length == 0) column = (const uint8_t *)pzic_nowhere_();
     pzic_enter_();
     int32_t status = pzic_raw_rows_by(&own, layout, name, name_length, column, length, rows);
+    pzic_leave_();
+    return status;
+}
+
+static inline int32_t pzic_rows_with(const pzic_handle *files, const pzic_row_layout *layout,
+                                     const uint8_t *name, size_t name_length, const uint8_t *column,
+                                     size_t length, pzic_handle *rows) {
+    pzic_handle own = *files;
+    if (name_length == 0) name = (const uint8_t *)pzic_nowhere_();
+    if (length == 0) column = (const uint8_t *)pzic_nowhere_();
+    pzic_enter_();
+    int32_t status = pzic_raw_rows_with(&own, layout, name, name_length, column, length, rows);
     pzic_leave_();
     return status;
 }

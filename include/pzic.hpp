@@ -580,9 +580,16 @@ public:
         pzic::rows made;
         const std::int32_t answer = pzic_rows_by(handle_.get(), &layout, detail::bytes_of(name), name.size(),
                                                  detail::bytes_of(column), column.size(), made.handle_.get());
-        if (answer != PZIC_OK && answer != PZIC_BAD_ROW) return static_cast<pzic::status>(answer);
-        if (answer == PZIC_BAD_ROW) made.ended_ = made.faults().back();
-        return made;
+        return made_by(answer, std::move(made));
+    }
+
+    // Returns the same by a layout with more options, of which a prefix that can't be one, a reserved number
+    // that isn't 0, and fields beside a style are status::no_such too.
+    result<pzic::rows> rows(std::string_view column, const pzic_row_layout &layout, std::string_view name = {}) const {
+        pzic::rows made;
+        const std::int32_t answer = pzic_rows_with(handle_.get(), &layout, detail::bytes_of(name), name.size(),
+                                                   detail::bytes_of(column), column.size(), made.handle_.get());
+        return made_by(answer, std::move(made));
     }
 
     // Returns the lines that tell when the zones of newer files differ from these, and no text where none
@@ -599,6 +606,13 @@ public:
     const pzic_handle *get() const noexcept { return handle_.get(); }
 
 private:
+    // Returns the rows that a call made, and what ended them.
+    static result<pzic::rows> made_by(std::int32_t answer, pzic::rows made) {
+        if (answer != PZIC_OK && answer != PZIC_BAD_ROW) return static_cast<pzic::status>(answer);
+        if (answer == PZIC_BAD_ROW) made.ended_ = made.faults().back();
+        return made;
+    }
+
     files() noexcept = default;
 
     static result<files> compile(std::string_view texts, const std::size_t *lengths, std::size_t count) noexcept {

@@ -96,6 +96,19 @@ class CLayout(ctypes.Structure):
     )
 
 
+class CRowLayout(ctypes.Structure):
+    """``pzic_row_layout``: the same with more that rows may have."""
+
+    _fields_ = (
+        ("column", CLayout),
+        ("empty", ctypes.c_uint32),
+        ("line_end", ctypes.c_uint32),
+        ("reserved", ctypes.c_uint32 * 6),
+        ("only", ctypes.c_uint8 * 8),
+        ("prefix", ctypes.c_char * 65),
+    )
+
+
 class CDiffOptions(ctypes.Structure):
     """``pzic_diff_options``: what is listed of two lists of files."""
 
@@ -189,8 +202,8 @@ files_abbreviations = declare(
 )
 rows = declare(long, "pzic_raw_rows", _HANDLE, *_TEXT, _HANDLE, ctypes.POINTER(CRowFault))
 rows_text = declare(long, "pzic_raw_rows_text", _HANDLE, *_ROOM)
-rows_by = declare(
-    long, "pzic_raw_rows_by", _HANDLE, ctypes.POINTER(CLayout), *_TEXT, *_TEXT, _HANDLE
+rows_with = declare(
+    long, "pzic_raw_rows_with", _HANDLE, ctypes.POINTER(CRowLayout), *_TEXT, *_TEXT, _HANDLE
 )
 rows_len = declare(short, "pzic_raw_rows_len", _HANDLE, ctypes.POINTER(ctypes.c_uint64))
 rows_faults = declare(

@@ -4,13 +4,32 @@ from __future__ import annotations
 
 import ctypes
 import re
-from typing import TYPE_CHECKING, Any, Callable, Iterator, List, NamedTuple, Optional, Tuple, TypeVar
+from typing import TYPE_CHECKING, Any, Callable, Iterator, List, NamedTuple, Optional, Sequence, Tuple, TypeVar
 
 from pzic import _library as c
 from pzic._errors import BadRow
 from pzic._handle import Owned, bytes_of
 from pzic._progress import Progress, teller
-from pzic._words import AMBIGUOUS, QUOTES, RECORDS, STYLES, UNITS, Ambiguous, Quotes, Records, Source, Style, Unit, number_of
+from pzic._words import (
+    AMBIGUOUS,
+    EMPTIES,
+    FIELDS,
+    LINE_ENDS,
+    QUOTES,
+    RECORDS,
+    STYLES,
+    UNITS,
+    Ambiguous,
+    Empty,
+    Field,
+    LineEnd,
+    Quotes,
+    Records,
+    Source,
+    Style,
+    Unit,
+    number_of,
+)
 
 if TYPE_CHECKING:
     from typing_extensions import Concatenate, ParamSpec
@@ -24,6 +43,8 @@ _SOURCES = {"count": 0, "seconds": 7, "rfc3339": 1, "utc": 6}
 MOST_BYTES = 1 << 32
 #: The least bytes of a piece of a longer column.
 PIECE = 1 << 20
+#: What names of added fields may begin with.
+_PREFIX = re.compile(r"[A-Za-z0-9+\-./:_]{0,64}")
 #: A byte order mark, and what may be before the first record.
 _MARK = b"\xef\xbb\xbf"
 _BEFORE_RECORDS = re.compile(b"(?:" + _MARK + rb")?[\r\n]*")
@@ -45,12 +66,17 @@ class Layout(NamedTuple):
     fraction, ``"rfc3339"``, ``"utc"``, or ``"local"``, and ``ambiguous`` says what to take in a gap or a
     fold. A record has ``fields`` fields, or by ``None`` at least those that are named; ``records`` are
     those of ``"csv"`` or ``"lines"``. With ``header`` the first record is one and one is written, with
-    ``skip_header`` none is. Rows begin
-    with their records by ``append``, and rows with faults are written by ``keep_going``. By the
-    ``style`` ``"iso"`` local time and the UT offset are one field, and else two; by it the instant of a
-    local time stands before it as ``2007-03-11T07:00:00Z``. A record has at most
-    ``max_record`` bytes, without its line end; a longer one has the fault ``RowTooLong``, which ends the run
-    unless records are lines and ``keep_going`` is set, and a longer header is row 0. By the
+    ``skip_header`` none is; ``prefix``, of up to 64 letters, digits and ``+ - . / : _``, begins the names that are
+    added. Rows begin with their records by ``append``, and by ``replace`` with these, in which the first of the
+    row's fields stands in the place of the time's, alone or, by ``only``, with the others after the record; rows with
+    faults are written by ``keep_going``. Each row ends with ``line_end``. By the ``style`` ``"iso"`` local time and
+    the UT offset are one field, and else two; by it the instant of a local time stands before it as
+    ``2007-03-11T07:00:00Z``. ``only`` has the fields of rows, in their order, in the place of those of a style:
+    ``"local"``, ``"time"`` (local time and offset in one), ``"instant"`` (a count), ``"utc"``, ``"offset"``,
+    ``"daylight"``, ``"abbreviation"`` and, with ``source="local"``, ``"ambiguous"``, which is ``gap``, ``fold`` or
+    empty. By the ``empty`` ``"keep"`` an empty time is no fault, and gives empty fields. A record has at most
+    ``max_record`` bytes, without its line end; a longer one has the fault ``RowTooLong``, which ends the run unless
+    records are lines and ``keep_going`` is set, and a longer header is row 0. By the
     ``quotes`` ``"strict"`` a record has the fault ``RowQuote`` whose double quotes are open at its end, or in which a
     byte follows those of a field, and by ``"lenient"`` the field goes on; ``None`` is lenient for the layout of no
     words, and else strict.
@@ -72,6 +98,11 @@ class Layout(NamedTuple):
     style: Style = "fields"
     max_record: Optional[int] = None
     quotes: Optional[Quotes] = None
+    only: Sequence[Field] = ()
+    prefix: str = ""
+    empty: Empty = "fault"
+    replace: bool = False
+    line_end: LineEnd = "\n"
 
     @property
     def time(self) -> int:
@@ -92,14 +123,44 @@ class Layout(NamedTuple):
             return self.quotes
         return "lenient" if self == Layout() else "strict"
 
-    def numbers(self) -> c.CLayout:
+    def numbers(self) -> c.CRowLayout:
         """Return the layout as the library has it, or raise :class:`ValueError`."""
+        only = [number_of(field, FIELDS, "field") for field in self._fields_of_rows()]
+        if len(set(only)) < len(only) or ("ambiguous" in self.only and self.source != "local"):
+            raise ValueError("a field stands once in only, and ambiguous with the source local alone")
+        if self.only and self.style != "fields":
+            raise ValueError("a style has no meaning with only")
+        if self.append and self.replace:
+            raise ValueError("rows begin with their records or with these replaced")
+        if self.line_end not in LINE_ENDS:
+            raise ValueError(r"rows end with \n or \r\n")
+        if not _PREFIX.fullmatch(self.prefix):
+            raise ValueError("a prefix is at most 64 letters, digits and + - . / : _")
+        return c.CRowLayout(
+            self._column(),
+            number_of(self.empty, EMPTIES, "empty"),
+            LINE_ENDS[self.line_end],
+            (),
+            (ctypes.c_uint8 * 8)(*only),
+            self.prefix.encode(),
+        )
+
+    def _fields_of_rows(self) -> Sequence[Field]:
+        """Return the list of the fields of rows, if they have one: by ``replace`` at least the first of the usual."""
+        if self.only or not self.replace:
+            return self.only
+        if self.style == "iso":
+            return ("utc",) if self.source == "local" else ("time",)
+        return ("instant",) if self.source == "local" else ("local",)
+
+    def _column(self) -> c.CLayout:
+        """Return how the column is read, and the rest of what its rows are."""
         if self.header and self.skip_header:
             raise ValueError("a header can't be both written and skipped")
         named = [self.time] if self.zone is not None else [self.time, self.place]
         if self.zone == "" or min(named) < 0 or len(set(named)) < len(named):
             raise ValueError("zone and time need a field each, from 1")
-        by_field = self.zone_field is not None or self.time_field is not None or self.append
+        by_field = self.zone_field is not None or self.time_field is not None or self.append or self.replace
         fields = self.fields
         more = fields is None and by_field
         if fields is None:
@@ -108,6 +169,7 @@ class Layout(NamedTuple):
             raise ValueError("a record needs the fields that are named, and the delimiter one byte")
         if self.max_record is not None and not 1 <= self.max_record <= MOST_BYTES:
             raise ValueError("the most bytes of a record are 1 to 4,294,967,296")
+        style = number_of(self.style, STYLES, "style")
         source = _SOURCES.get(self.source)
         if self.source == "local":
             source = 2 + number_of(self.ambiguous, AMBIGUOUS, "ambiguous")
@@ -123,9 +185,9 @@ class Layout(NamedTuple):
             ord(self.delimiter),
             number_of(self.records, RECORDS, "records"),
             1 if self.header else 2 if self.skip_header else 0,
-            int(self.append),
+            2 if self.replace else int(self.append),
             int(self.keep_going),
-            number_of(self.style, STYLES, "style"),
+            0 if self.replace else style,
             number_of(self.own_quotes, QUOTES, "quotes"),
             self.max_record or 0,
         )
@@ -148,6 +210,11 @@ def words_of_rows(
     style: Style = "fields",
     max_record: Optional[int] = None,
     quotes: Optional[Quotes] = None,
+    only: Sequence[Field] = (),
+    prefix: str = "",
+    empty: Empty = "fault",
+    replace: bool = False,
+    line_end: LineEnd = "\n",
     *,
     progress: Progress = None,
 ) -> None:
@@ -236,7 +303,7 @@ def rows_by(files: Owned, column: bytes, layout: Layout, progress: Progress = No
 def _rows_of(files: Owned, column: bytes, layout: Layout) -> Rows:
     name = (layout.zone or "").encode("utf-8", "surrogateescape")
     handle = c.Handle()
-    status = c.rows_by(files.lend(), layout.numbers(), name, len(name), column, len(column), handle)
+    status = c.rows_with(files.lend(), layout.numbers(), name, len(name), column, len(column), handle)
     if status == c.NO_SUCH:
         raise ValueError(f"no layout: {layout}")
     rows = Owned(handle)

@@ -16,6 +16,12 @@ Records = Literal["csv", "lines"]
 Style = Literal["fields", "iso"]
 #: What stray double quotes are.
 Quotes = Literal["strict", "lenient"]
+#: A field of rows.
+Field = Literal["local", "time", "instant", "utc", "offset", "daylight", "abbreviation", "ambiguous"]
+#: What an empty time is.
+Empty = Literal["fault", "keep"]
+#: How rows end, and the header.
+LineEnd = Literal["\n", "\r\n"]
 #: A part of local time that isn't compared.
 Part = Literal["daylight", "abbreviation"]
 #: What becomes of a row that has no answer.
@@ -33,6 +39,11 @@ UNITS: Dict[str, int] = {"s": 0, "ms": 1, "us": 2, "ns": 3}
 RECORDS: Dict[str, int] = {"csv": 0, "lines": 1}
 STYLES: Dict[str, int] = {"fields": 0, "iso": 1}
 QUOTES: Dict[str, int] = {"strict": 0, "lenient": 1}
+FIELDS: Dict[str, int] = {
+    "local": 1, "time": 2, "instant": 3, "utc": 4, "offset": 5, "daylight": 6, "abbreviation": 7, "ambiguous": 8
+}
+EMPTIES: Dict[str, int] = {"fault": 0, "keep": 1}
+LINE_ENDS: Dict[str, int] = {"\n": 0, "\r\n": 1}
 
 #: The days of the week, in the order of their bits.
 WEEKDAYS: Tuple[Weekday, ...] = ("mon", "tue", "wed", "thu", "fri", "sat", "sun")

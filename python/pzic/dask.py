@@ -350,7 +350,7 @@ def _words() -> argparse.ArgumentParser:
     command.add_argument("--into", required=True, help="the folder of the parts")
     command.add_argument("--scheduler", help="the address of Dask's scheduler")
     command.add_argument("--blocksize", default=BLOCK)
-    for name, kind in (("zone", str), ("zone-field", int), ("time-field", int), ("delimiter", str), ("fields", int), ("max-record", int)):
+    for name, kind in (("zone", str), ("zone-field", int), ("time-field", int), ("delimiter", str), ("fields", int), ("max-record", int), ("prefix", str)):
         command.add_argument(f"--{name}", type=kind)
     command.add_argument("--from", dest="source_form", choices=("count", "seconds", "rfc3339", "utc", "local"))
     command.add_argument("--ambiguous", choices=("reject", "earlier", "later", "compatible"))
@@ -358,7 +358,9 @@ def _words() -> argparse.ArgumentParser:
     command.add_argument("--records", choices=("csv", "lines"))
     command.add_argument("--quotes", choices=("strict", "lenient"))
     command.add_argument("--style", choices=("fields", "iso"))
-    for name in ("header", "skip-header", "append", "keep-going"):
+    command.add_argument("--only", type=lambda words: tuple(words.split(",")))
+    command.add_argument("--empty", choices=("fault", "keep"))
+    for name in ("header", "skip-header", "append", "replace", "keep-going"):
         command.add_argument(f"--{name}", action="store_true")
     command.add_argument("paths", nargs="+", metavar="FILE")
     return parser

@@ -234,5 +234,6 @@ for input in rows stopped; do
     every convert --workers 2 --row-piece 1 --keep-going --faults listed --faults-with line,value chain
     every convert --workers 2 --row-piece 1 --against-tree kept chain
     every convert --workers 2 --row-piece 1 --against other --tree zones.tree
+    every convert --workers 2 --row-piece 1 --against other --against-summary counted --replace chain
 done
 tell 'convert with details, and against another release'

@@ -28,7 +28,7 @@ convert() {
 # hint at the help of `convert`.
 refused() {
     calls=$((calls + 1))
-    [ "$status" = 2 ] && grep -q '^error: the FILE of --[a-z]* is ' ../err &&
+    [ "$status" = 2 ] && grep -q '^error: the FILE of --[a-z-]* is ' ../err &&
         grep -qx "For more information, try 'pzic convert --help'\." ../err ||
         differ "$*: status $status, '$(head -c 200 ../err)', and not 2 with a word on FILE"
 }
@@ -108,9 +108,17 @@ convert --keep-going --faults utc.zi --against utc.zi --tree tree
 refused 'pzic convert --faults utc.zi --against utc.zi'
 convert --keep-going --rejects tree/+VERSION --against-tree tree utc.zi
 refused 'pzic convert --rejects tree/+VERSION --against-tree tree'
+for path in /dev/stdin ../out ../err utc.zi tree/Etc/UTC tree/+VERSION; do
+    convert --against-summary "$path" --against-tree tree utc.zi
+    refused "pzic convert --against-summary $path"
+done
 echo old >list
 ln -f list name
 for path in list name ./list; do
+    for option in --faults --rejects; do
+        convert --keep-going $option list --against-summary "$path" --against-tree tree utc.zi
+        refused "pzic convert $option list --against-summary $path"
+    done
     convert --keep-going --faults list --rejects "$path" utc.zi
     refused "pzic convert --faults list --rejects $path"
 done

@@ -40,12 +40,13 @@ OPTIONS = {
     "unit": ["--unit", "ms"],
     "iso": ["--style", "iso"],
     "append": ["--append"],
+    "replace": ["--replace"],
     "going": ["--keep-going"],
     "rejects": ["--keep-going", "--rejects", "rejects"],
     "tree": [],                                                            # in place of a source
 }
 FORMS = ["local", "seconds", "rfc3339", "utc"]                             # of a time
-APART = [{"header", "skip"}, {"going", "rejects"}, *map(set, itertools.combinations(FORMS, 2))]  # which exclude each other
+APART = [{"header", "skip"}, {"append", "replace"}, {"going", "rejects"}, *map(set, itertools.combinations(FORMS, 2))]  # which exclude each other
 INSTANTS = {"local": b"1970-01-01T00:00", "rfc3339": b"1970-01-01T00:00Z", "utc": b"1970-01-01T00:00"}
 
 
@@ -86,7 +87,7 @@ def line_of(chosen, length, is_first):
         return b"x" * (length - 1) + b"\n"
     if instant(chosen) == b"0" and least <= length < least + 18:
         return shortest(chosen)[:-1] + b"0" * (length - least) + b"\n"
-    if length > least and "append" in chosen:
+    if length > least and {"append", "replace"} & {*chosen}:
         start = shortest(chosen)[:-1] + (b";" if "delimiter" in chosen else b",")
         return start + b"x" * (length - len(start) - 1) + b"\n"
     if {"going", "rejects"} & {*chosen}:

@@ -25,6 +25,8 @@ _Static_assert(offsetof(pzic_local_time, count) == 32, "count");
 _Static_assert(sizeof(pzic_layout) == 72 && offsetof(pzic_layout, more_fields) == 24, "layout");
 _Static_assert(offsetof(pzic_layout, at_fault) == 52 && offsetof(pzic_layout, style) == 56, "style");
 _Static_assert(offsetof(pzic_layout, quotes) == 60 && offsetof(pzic_layout, max_record) == 64 && sizeof(pzic_abbreviation) == 16, "limit");
+_Static_assert(sizeof(pzic_row_layout) == 184 && offsetof(pzic_row_layout, empty) == 72 && offsetof(pzic_row_layout, reserved) == 80, "rows");
+_Static_assert(offsetof(pzic_row_layout, only) == 104 && offsetof(pzic_row_layout, prefix) == 112, "prefix");
 _Static_assert(sizeof(pzic_civil) == 72 && offsetof(pzic_civil, month) == 8, "civil");
 _Static_assert(offsetof(pzic_civil, second) == 24 && offsetof(pzic_civil, state) == 32, "time of day");
 _Static_assert(sizeof(pzic_schedule) == 32 && offsetof(pzic_schedule, until) == 8, "schedule");
@@ -887,6 +889,98 @@ static void convert_by_layouts(void) {
     pzic_free(&files);
 }
 
+static int32_t convert_with(const pzic_handle *files, const pzic_row_layout *layout, const char *name, const char *text, pzic_handle *rows) {
+    return pzic_rows_with(files, layout, (const uint8_t *)name, strlen(name), (const uint8_t *)text, strlen(text), rows);
+}
+
+// What layouts refuse that have more options.
+static void refuse_row_layouts(const pzic_handle *files) {
+    pzic_handle rows = {0};
+    pzic_row_layout layout = PZIC_ROW_LAYOUT_INIT;
+    // Numbers of nothing, and those without a meaning.
+    for (int i = 0; i < 9; i++) {
+        pzic_row_layout other = PZIC_ROW_LAYOUT_INIT;
+        uint32_t *const numbers[] = {&other.empty, &other.line_end, &other.column.start, &other.reserved[0], &other.reserved[1],
+            &other.reserved[2], &other.reserved[3], &other.reserved[4], &other.reserved[5]};
+        *numbers[i] = i == 2 ? 3 : i < 3 ? 2 : 1;
+        CHECK(convert_with(files, &other, "", column, &rows) == PZIC_NO_SUCH && rows.kind == 0);
+    }
+    // No field has the number 9, and a list of fields has no style.
+    layout.only[0] = PZIC_FIELD_LOCAL, layout.only[1] = PZIC_FIELD_AMBIGUOUS + 1;
+    CHECK(convert_with(files, &layout, "", column, &rows) == PZIC_NO_SUCH);
+    layout.only[1] = 0, layout.only[2] = PZIC_FIELD_AMBIGUOUS + 1;
+    CHECK(convert_with(files, &layout, "", column, &rows) == PZIC_OK);
+    layout.column.style = PZIC_STYLE_ISO;
+    CHECK(convert_with(files, &layout, "", column, &rows) == PZIC_NO_SUCH);
+    layout.only[0] = 0;
+    CHECK(convert_with(files, &layout, "", column, &rows) == PZIC_OK);
+    // A prefix of 64 bytes, of 65, and with a byte that no field of a row has. What follows a NUL counts for nothing.
+    layout = (pzic_row_layout)PZIC_ROW_LAYOUT_INIT;
+    memset(layout.prefix, 'a', 64);
+    CHECK(convert_with(files, &layout, "", column, &rows) == PZIC_OK);
+    layout.prefix[64] = 'a';
+    CHECK(convert_with(files, &layout, "", column, &rows) == PZIC_NO_SUCH);
+    layout.prefix[64] = 0, layout.prefix[9] = ',';
+    CHECK(convert_with(files, &layout, "", column, &rows) == PZIC_NO_SUCH);
+    layout.prefix[8] = 0;
+    CHECK(convert_with(files, &layout, "", column, &rows) == PZIC_OK);
+    CHECK(convert_with(files, &layout, "\xFF", column, &rows) == PZIC_NO_SUCH && rows.kind == 0);
+    pzic_free(&rows);
+}
+
+// Rows by layouts with more options: the instant 1173596400 is 2007-03-11T07:00:00Z, where clocks of Test/York go from 02:00 to 03:00.
+static void convert_by_row_layouts(void) {
+    pzic_handle files = {0}, rows = {0};
+    pzic_row_layout layout = PZIC_ROW_LAYOUT_INIT;
+    pzic_fault none;
+    pzic_row_fault faults[2] = {{7, 8}, {7, 8}};
+    size_t count = 9;
+    CHECK(convert_with(&files, &layout, "", column, &rows) == PZIC_NO_HANDLE && rows.kind == 0);
+    CHECK(compile(source, &files, &none) == PZIC_OK);
+    CHECK(convert_with(&files, &layout, "", column, &rows) == PZIC_OK);
+    expect_rows(&rows, converted);
+    // Fields, a prefix, and an empty time that is kept: its zone must be one.
+    layout = (pzic_row_layout){.column = {.time = 1, .fields = 2, .more_fields = 1, .delimiter = ',', .header = PZIC_HEADER_FIRST,
+        .start = PZIC_START_RECORD, .at_fault = PZIC_FAULT_GOES_ON}, .only = {PZIC_FIELD_UTC, PZIC_FIELD_OFFSET}, .prefix = "sent_",
+        .empty = PZIC_EMPTY_KEEP};
+    static const char *const sent = "zone,sent,who\nTest/York,1173596400,a\nTest/York,,b\nNowhere,,c\nTest/York,x,d\n";
+    CHECK(convert_with(&files, &layout, "", sent, &rows) == PZIC_OK);
+    expect_rows(&rows, "zone,sent,who,sent_utc,sent_offset\nTest/York,1173596400,a,2007-03-11T07:00:00Z,-04:00:00\nTest/York,,b,,\n"
+        "Nowhere,,c,,\nTest/York,x,d,,\n");
+    CHECK(pzic_rows_faults(&rows, faults, 2, &count) == PZIC_OK && count == 2 && faults[0].row == 3 && faults[1].row == 4);
+    layout.empty = PZIC_EMPTY_FAULT;
+    CHECK(convert_with(&files, &layout, "", sent, &rows) == PZIC_OK);
+    CHECK(pzic_rows_faults(&rows, faults, 2, &count) == PZIC_OK && count == 3 && faults[0].row == 2);
+    // The first field in the place of the time, of a quoted one too, whose name stays; and carriage returns.
+    layout.column.start = PZIC_START_REPLACED, layout.line_end = PZIC_LINE_END_CRLF;
+    layout.only[0] = PZIC_FIELD_TIME, layout.only[1] = PZIC_FIELD_ABBREVIATION, layout.only[2] = PZIC_FIELD_DAYLIGHT;
+    CHECK(convert_with(&files, &layout, "", "zone,sent,who\nTest/York,\"1173596400\",\"a,\"\"b\"\n\"Test/York\",x,c\n", &rows) == PZIC_OK);
+    expect_rows(&rows, "zone,sent,who,sent_abbreviation,sent_daylight\r\nTest/York,2007-03-11T03:00:00-04:00,\"a,\"\"b\",EDT,1\r\n"
+        "\"Test/York\",,c,,\r\n");
+    // All eight fields of a local time in a gap, one of them for each of the eight places.
+    layout = (pzic_row_layout)PZIC_ROW_LAYOUT_INIT;
+    layout.column.from = PZIC_FROM_LOCAL + PZIC_EARLIER;
+    for (uint8_t i = 0; i < 8; i++) layout.only[i] = (uint8_t)(8 - i);
+    CHECK(convert_with(&files, &layout, "", "Test/York,2007-03-11T02:30\n", &rows) == PZIC_OK);
+    expect_rows(&rows, "Test/York,2007-03-11T02:30:00,gap,EST,0,-05:00:00,2007-03-11T06:30:00Z,1173594600,2007-03-11T01:30:00-05:00,"
+        "2007-03-11T01:30:00\n");
+    refuse_row_layouts(&files);
+    layout.column.time = 0, layout.column.fields = 1;
+    for (long n = 0;; n++) {
+        growths_left = n;
+        int32_t status = convert_with(&files, &layout, "Test/Fixed", "1970-01-01T01:00:00\n", &rows);
+        bool all = growths_left >= 0;
+        growths_left = -1;
+        if (all) {
+            CHECK(status == PZIC_OK && n > 3);
+            break;
+        }
+        CHECK(status == PZIC_NO_MEMORY && rows.kind == 0);
+    }
+    pzic_free(&rows);
+    pzic_free(&files);
+}
+
 // Rows that each have a zone of their own, with values of the source, and with an abbreviation of 16 bytes.
 static void tell_rows(void) {
     static const char text[] = "Zone Test/Long -0:30 - ABCDEFGHIJKLMNOP\n";
@@ -1407,6 +1501,7 @@ static void *work(void *argument) {
     compile_source();
     convert_columns();
     convert_by_layouts();
+    convert_by_row_layouts();
     tell_rows();
     tell_local_rows();
     tell_schedules();
@@ -1488,6 +1583,7 @@ int main(int count, char **words) {
     find_names();
     convert_columns();
     convert_by_layouts();
+    convert_by_row_layouts();
     tell_rows();
     tell_local_rows();
     tell_schedules();

@@ -151,6 +151,14 @@ void try_rows(const pzic::files &files) {
     CHECK(made && made->ended_by()->row == 2 && made->text() == "Asia/Tokyo,0,1970-01-01T09:00:00,+09:00:00,0,JST\n");
     layout.unit = 99;
     CHECK(files.rows("0\n", layout).status() == status::no_such);
+    pzic_row_layout more = PZIC_ROW_LAYOUT_INIT;
+    more.column.start = PZIC_START_REPLACED;
+    more.only[0] = PZIC_FIELD_UTC;
+    more.line_end = PZIC_LINE_END_CRLF;
+    made = files.rows("Asia/Tokyo,0\nAsia/Tokyo,x\n", more);
+    CHECK(made && made->text() == "Asia/Tokyo,1970-01-01T00:00:00Z\r\n" && made->ended_by()->row == 2);
+    more.prefix[0] = ' ';
+    CHECK(files.rows("Asia/Tokyo,0\n", more).status() == status::no_such);
 }
 
 void try_sources() {

@@ -187,6 +187,34 @@ def compile_texts(folder):
     check(list(pzic.Tree.compile(path)) == ["A"], "a path")
 
 
+def choose_rows():
+    """Which fields rows have, their ends, the names of added fields, and empty times."""
+    made = pzic.Compiled(b"Rule R 1971 only - Jan 1 0:00 1:00 -\nRule R 1972 only - Jan 1 0:00 0 -\nZone A 1:00 R AAA\nZone B -5:30 - BBB\n")
+    sent = b"zone,sent,who\nA,0,x\nB,,y\n"
+    rows = made.convert(sent, only=["utc", "offset"], prefix="s_", empty="keep", append=True, header=True)
+    check(rows == b"zone,sent,who,s_utc,s_offset\nA,0,x,1970-01-01T00:00:00Z,+01:00:00\nB,,y,,\n", rows)
+    rows = made.convert(sent, only=("time", "abbreviation"), empty="keep", replace=True, header=True, line_end="\r\n")
+    check(rows == b"zone,sent,who,abbreviation\r\nA,1970-01-01T01:00:00+01:00,x,AAA\r\nB,,y,\r\n", rows)
+    rows = made.convert(b'0,"B"\n"86400","A"\n', zone_field=2, time_field=1, replace=True)
+    check(rows == b'1969-12-31T18:30:00,"B"\n1970-01-02T01:00:00,"A"\n', rows)
+    rows = made.convert(b"A,0,x\n", replace=True, style="iso")
+    check(rows == b"A,1970-01-01T01:00:00+01:00,x\n", rows)
+    rows = made.convert(b"A,1970-01-01T01:00,x\n", replace=True, source="local", style="iso")
+    check(rows == b"A,1970-01-01T00:00:00Z,x\n", rows)
+    rows = made.convert(b"A,1970-01-01T01:00,x\n", replace=True, source="local")
+    check(rows == b"A,0,x\n", rows)
+    rows = made.convert(b"A,1971-01-01T00:30\n", source="local", ambiguous="later", only=["ambiguous", "instant", "daylight", "local"])
+    check(rows == b"A,1971-01-01T00:30:00,gap,31534200,1,1971-01-01T01:30:00\n", rows)
+    caught = refuses(pzic.BadRow, lambda: made.convert(sent, append=True, header=True))
+    check((caught.row, caught.kind) == (2, "RowInstant"), caught)
+    told = made.rows(b"A,0\nA,\nA,x\n", empty="keep", keep_going=True, line_end="\r\n")
+    check(told.text == b"A,0,1970-01-01T01:00:00,+01:00:00,0,AAA\r\nA,,,,,\r\nA,x,,,,\r\n" and told.faults == (pzic.RowFault(3, "RowInstant"),), told)
+    check(made.convert(b"A,0\n", prefix="p" * 64) == made.convert(b"A,0\n"), "a prefix without a header")
+    for words in ({"only": "local"}, {"only": ["local", "local"]}, {"only": ["ambiguous"]}, {"only": ["utc"], "style": "iso"}, {"prefix": "p" * 65},
+                  {"prefix": "a,"}, {"prefix": "a\0"}, {"empty": "skip"}, {"append": True, "replace": True}, {"line_end": "\r"}):
+        refuses(ValueError, lambda: made.convert(b"A,0\n", **words))
+
+
 def take_files(tree):
     """Files of names and of bytes that were read, and rows by a folder."""
     dublin, fixed = tree.data("Europe/Dublin"), pzic.Compiled(b"Zone A 1 - AAA").data("A")
@@ -282,6 +310,7 @@ def main():
         compare_column(name, tree[name], theirs, 200)
     refuse(tree)
     compile_texts(folder)
+    choose_rows()
     take_files(tree)
     compare_trees(tree)
     compare_names()

@@ -113,6 +113,10 @@ static void convert(void) {
     layout.records = PZIC_RECORDS_LINES;
     layout.at_fault = PZIC_FAULT_GOES_ON;
     if (status == PZIC_OK) status = pzic_rows_by(&files, &layout, NULL, 0, (const uint8_t *)column, sizeof column - 1, &rows);
+    pzic_row_layout more = PZIC_ROW_LAYOUT_INIT;
+    more.only[0] = PZIC_FIELD_UTC;
+    more.column.start = PZIC_START_REPLACED;
+    if (status == PZIC_OK) status = pzic_rows_with(&files, &more, NULL, 0, (const uint8_t *)column, sizeof column - 1, &rows);
 }
 
 static void compare(void) {

@@ -446,7 +446,8 @@ def compare_words():
     check([name.name for name in names] == [*pzic.Layout._fields, "progress"], "words of rows")
     check([name.default for name in names] == [*pzic.Layout(), None], "words of rows")
     numbers = {_words.Ambiguous: _words.AMBIGUOUS, _words.Unit: _words.UNITS, _words.Records: _words.RECORDS,
-               _words.Style: _words.STYLES, _words.Quotes: _words.QUOTES}
+               _words.Style: _words.STYLES, _words.Quotes: _words.QUOTES, _words.Field: _words.FIELDS, _words.Empty: _words.EMPTIES,
+               _words.LineEnd: _words.LINE_ENDS}
     for kind, numbered in numbers.items():
         check(get_args(kind) == tuple(numbered), "words", kind)
     for word in get_args(_words.Source):
@@ -520,7 +521,7 @@ def make_pieces(tree):
              b'Asia/Tokyo,"9\n10"', b'Asia/"Tokyo,3', b"Europe/Dublin,12345678901234567890"]
     layouts = [{}, {"keep_going": True}, {"records": "lines", "keep_going": True}, {"records": "lines"}, {"header": True, "keep_going": True, "append": True},
                {"skip_header": True, "quotes": "strict"}, {"header": True, "records": "lines", "keep_going": True}, {"max_record": 16, "records": "lines", "keep_going": True},
-               {"time_field": 2, "keep_going": True, "fields": 2}]
+               {"time_field": 2, "keep_going": True, "fields": 2}, {"header": True, "keep_going": True, "replace": True, "line_end": "\r\n", "prefix": "p_"}]
     for turn in range(120):
         some = lines[:7] if turn % 2 else lines[:2]
         words = layouts[turn % len(layouts)]

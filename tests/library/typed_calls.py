@@ -9,6 +9,7 @@ tree = pzic.Tree.open("zones")
 zone: pzic.Zone = tree["Europe/Dublin"]
 instant: int = zone.instant(0, "later")
 rows: bytes = tree.convert(b"", unit="ms", keep_going=True)
+chosen: bytes = tree.convert(b"", only=["utc", "offset"], prefix="p_", empty="keep", replace=True, line_end="\r\n")
 told: pzic.Rows = pzic.Compiled().rows(b"", source="local", ambiguous="compatible")
 lines: bytes = tree.diff(tree, ignore=["daylight"], summary=True)
 names: List[str] = tree.aliases("Europe/Dublin")
@@ -24,6 +25,8 @@ tree.rows("", keep_going=True)  # type: ignore[arg-type]
 pzic.Compiled().rows(b"", ambiguous="rejct")  # type: ignore[arg-type]
 pzic.Layout(style="isso")  # type: ignore[arg-type]
 pzic.Layout(records="rows", quotes="none", source="time")  # type: ignore[arg-type]
+tree.convert(b"", only=["zone"])  # type: ignore[list-item]
+pzic.Layout(empty="skip", line_end="\r")  # type: ignore[arg-type]
 tree.diff(tree, ignore=["offset"])  # type: ignore[list-item]
 tree.diff(tree, year=1900)  # type: ignore[call-arg]
 tree.instant_columns([], [], "rejct")  # type: ignore[arg-type]

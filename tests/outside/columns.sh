@@ -1,7 +1,7 @@
 #!/usr/bin/env bash
 # Converts columns of 100,000 rows over all zones of the release, and compares each row with zoneinfo and reader.py.
 # It converts by the source and by trees of its files, over the program's files and those of the system's zic, by each option for
-# other columns, also compared with another release, and short columns and lines with stray double quotes by Python's csv module. It
+# other columns, also compared with another release, whose rows it counts by zone, and short columns and lines with stray double quotes by Python's csv module. It
 # compares what `show --local` prints near changes with zoneinfo too, and rows of local times by each choice for gaps and folds, with zoneinfo and the kit's jiff.
 # Needs: tzdata, zic
 set -euo pipefail
@@ -16,6 +16,7 @@ zic -b fat -d "$work/fat" "$release"
 zic -b slim -d "$work/slim" "$release"
 python3 tests/outside/columns/columns.py "$program" "$release" "$work" | sed 's/^/columns: /'
 python3 tests/outside/columns/layouts.py "$program" "$release" "$work" | sed 's/^/columns: /'
+python3 tests/outside/columns/tallies.py "$program" "$release" "$work" | sed 's/^/columns: /'
 mkdir "$work/lines" "$work/texts"
 python3 tests/outside/columns/texts.py "$program" "$work/texts" | sed 's/^/columns: /'
 python3 tests/outside/columns/lines.py "$program" "$work/lines" | sed 's/^/columns: /'

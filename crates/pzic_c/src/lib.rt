@@ -49,6 +49,9 @@
 //! - `pzic_raw_rows_by`: the same by the layout, with the header, up to the row that ends the run;
 //!   and the faults of just these rows, and last that of the row that ended the run
 //!   (`IsConvertedBy`); where no file has the given name, each row has the fault RowZone
+//! - `pzic_raw_rows_with`: the same by a layout that also says which fields rows have, what the names
+//!   of added fields begin with, what an empty time does, and how rows end; `pzic_raw_rows_by` is this
+//!   call with the usual rows (`usual_rows`)
 //! - `pzic_raw_files_diff`: the handle holds the bytes that `diff` writes of the files of two
 //!   handles by the options, with the number of lines after the first (`IsDiffGiven`)
 //! - `pzic_raw_rows_len`, `pzic_raw_rows_faults`: the number of rows, with those that are left out;

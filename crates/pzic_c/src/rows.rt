@@ -3,11 +3,12 @@
 ghost use Rattle.std.specs.Prelude.{◌≡◌, MatchOption, None};
 ghost use Rattle.pzic_zones.specs.Handle.{IsHandle, files_in, held_in, rows_in};
 ghost use Rattle.pzic_files.specs.LayoutRows.{AreFaultsCopied, IsConvertedBy};
+ghost use Rattle.pzic_files.specs.RowLayout.{usual_rows};
 ghost use Rattle.pzic_files.specs.Rows.{AreRowsGiven};
 ghost use Rattle.pzic_files.specs.Text.{IsTextCopied};
 ghost use Rattle.pzic_zones.specs.declared.status.TheConstants.{NO_HANDLE, OK};
 
-use pzic_files::ColumnLayout;
+use pzic_files::{ColumnLayout, RowLayout};
 use pzic_zones::{Handle, RowFault};
 use std::alloc::Global;
 
@@ -47,9 +48,31 @@ pub extern "C" fn pzic_raw_rows_by(
     ensures handle { IsHandle rows.new }
     ensures gives { MatchOption (files_in files.old)
         ((result ≡ NO_HANDLE) × (held_in rows.new ≡ None))
-        (λ all. IsConvertedBy all layout.now name.now column.now result (held_in rows.new)) }
+        (λ all. IsConvertedBy all (usual_rows layout.now) name.now column.now result
+        (held_in rows.new)) }
 {
     pzic_files::rows_by(alloc, files, layout, name, column, rows)
+}
+
+/// Converts a column by a layout with all that rows may have.
+#[unsafe(no_mangle)]
+pub extern "C" fn pzic_raw_rows_with(
+    alloc: Global,
+    files: &mut Handle,
+    layout: &RowLayout,
+    name: &[u8],
+    column: &[u8],
+    rows: &mut Handle,
+) -> i32
+    requires files { IsHandle files.old }
+    requires rows { IsHandle rows.old }
+    ensures unchanged { files.new ≡ files.old }
+    ensures handle { IsHandle rows.new }
+    ensures gives { MatchOption (files_in files.old)
+        ((result ≡ NO_HANDLE) × (held_in rows.new ≡ None))
+        (λ all. IsConvertedBy all layout.now name.now column.now result (held_in rows.new)) }
+{
+    pzic_files::rows_with(alloc, files, layout, name, column, rows)
 }
 
 /// Copies the text of rows, as much as there is room for.

@@ -14,7 +14,7 @@ use Rattle.pzic_zones.specs.Handle.{rows_of}
 use Rattle.pzic_files.specs.Layout.{HasNoLayout, IsLayoutOf}
 use Rattle.pzic_files.specs.Text.{overwritten}
 use Rattle.pzic_zones.specs.declared.held.Held.{Held}
-use Rattle.pzic_files.specs.declared.layout.ColumnLayout.{ColumnLayout}
+use Rattle.pzic_files.specs.declared.row_layout.RowLayout.{RowLayout}
 use Rattle.pzic_zones.specs.declared.column.Made.{Made}
 use Rattle.pzic_zones.specs.declared.column.RowFault as made
 use Rattle.pzic_zones.specs.declared.status.TheConstants.{OK, NO_MEMORY, LENGTHS, NO_SUCH, BAD_ROW}
@@ -49,7 +49,7 @@ AreRowsBy files layout column status None = status ≡ NO_MEMORY
 
 -- The column was converted by the layout of these numbers and of this name of a zone; or it is too long, or there is no such layout, or memory
 -- ran out, and the handle holds nothing.
-abbrev pub IsConvertedBy : List File → ColumnLayout → List ℕ → List ℕ → ℤ → Option Held → Type 0
+abbrev pub IsConvertedBy : List File → RowLayout → List ℕ → List ℕ → ℤ → Option Held → Type 0
 IsConvertedBy files given name column status held =
     ((layout : Layout) × (length column ≤ MAX_BYTES) × IsLayoutOf given name layout × AreRowsBy files layout column status held)
     ⊎ ((MAX_BYTES < length column) × (status ≡ LENGTHS) × (held ≡ None))

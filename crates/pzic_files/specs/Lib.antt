@@ -7,6 +7,7 @@ pub mod Layout
 pub mod LayoutRows
 pub mod Names
 pub mod RowColumn
+pub mod RowLayout
 pub mod Rows
 pub mod Source
 pub mod Text

@@ -2,14 +2,17 @@
 
 ghost use Rattle.std.specs.Prelude.{◌≡◌, false, IsUtf8, MatchOption, IfOk, IfErr};
 ghost use Rattle.zic_layouts.specs.Delimiter.{is_delimiter};
-ghost use Rattle.pzic_files.specs.Layout.{HasNoLayout, IsFieldCount, IsLayoutOf, IsLimit, IsRefusal, IsZoneFrom};
+ghost use Rattle.zic_layouts.specs.declared.layout.Layout.{Layout};
+ghost use Rattle.pzic_files.specs.Layout.{HasNoLayout, HaveNumbers, IsFieldCount, IsLayoutOf, IsLimit, IsRefusal, IsZoneFrom};
+ghost use Rattle.pzic_files.specs.code.Layout.{AreForms};
 ghost use Rattle.pzic_files.specs.Layout.{fault_number, from_number, header_number, quotes_number, records_number, start_number, style_number, unit_number};
 
+use crate::row_layout::{RowLayout, are_zeros, empty_of, line_end_of, row_fields, until_zero};
 use std::alloc::{AllocError, Global};
 use std::str::from_utf8;
 use zic_layouts::{
     AtFault, Compared, Delimiter, Disambiguation, EmptyTime, FieldCount, Header, InstantText,
-    Layout, Notes, Prefix, Quotes, Records, RowFields, RowStart, Style, TimeFrom, Unit, ZoneFrom,
+    Layout, LineEnd, Notes, Prefix, Quotes, Records, RowStart, Style, TimeFrom, Unit, ZoneFrom,
 };
 
 /// How a column is read, and what its rows are, by numbers.
@@ -143,6 +146,7 @@ fn start_of(number: u32) -> Option<RowStart>
     match number {
         0 => Some(RowStart::Fields),
         1 => Some(RowStart::Record),
+        2 => Some(RowStart::Replaced),
         _ => None,
     }
 }
@@ -161,7 +165,7 @@ fn at_fault_of(number: u32) -> Option<AtFault>
 }
 
 /// Returns the style of a number, if one has it.
-fn style_of(number: u32) -> Option<Style>
+pub(crate) fn style_of(number: u32) -> Option<Style>
     ensures { MatchOption result ((style : Style) → number ≡ style_number style → ⊥)
         (λ style. number ≡ style_number style) }
 {
@@ -215,51 +219,83 @@ fn zone_from(alloc: Global, field: usize, name: &[u8]) -> Result<ZoneFrom, Layou
     Ok(ZoneFrom::Name(String::from_str(alloc, text)?))
 }
 
+/// The parts of a layout that own nothing.
+#[derive(Clone, Copy)]
+struct Forms {
+    count: FieldCount,
+    from: TimeFrom,
+    unit: Unit,
+    records: Records,
+    quotes: Quotes,
+    header: Header,
+    start: RowStart,
+    at_fault: AtFault,
+    empty: EmptyTime,
+    line_end: LineEnd,
+}
+
+/// Returns the parts of a layout that own nothing, if the numbers are theirs.
+fn forms_of(given: &RowLayout) -> Option<Forms>
+    ensures { MatchOption result ((layout : Layout) → HaveNumbers given.now layout → ⊥)
+        (AreForms given.now) }
+{
+    if !are_zeros(&given.reserved) {
+        return None;
+    }
+    let column = &given.column;
+    Some(Forms {
+        count: count_of(column.fields, column.more_fields)?,
+        from: from_of(column.from)?,
+        unit: unit_of(column.unit)?,
+        records: records_of(column.records)?,
+        quotes: quotes_of(column.quotes)?,
+        header: header_of(column.header)?,
+        start: start_of(column.start)?,
+        at_fault: at_fault_of(column.at_fault)?,
+        empty: empty_of(given.empty)?,
+        line_end: line_end_of(given.line_end)?,
+    })
+}
+
 /// Returns the layout of these numbers and of a zone's name.
 ///
 /// # Errors
 ///
 /// `None` where there is no such layout, or `Memory`.
-pub(crate) fn layout_of(
-    alloc: Global,
-    given: &ColumnLayout,
-    name: &[u8],
-) -> Result<Layout, LayoutStop>
+pub(crate) fn layout_of(alloc: Global, given: &RowLayout, name: &[u8]) -> Result<Layout, LayoutStop>
     ensures ok { IfOk result (IsLayoutOf given.now name.now) }
     ensures err { IfErr result (IsRefusal (HasNoLayout given.now name.now)) }
 {
-    let count = count_of(given.fields, given.more_fields).ok_or(LayoutStop::None)?;
-    let from = from_of(given.from).ok_or(LayoutStop::None)?;
-    let unit = unit_of(given.unit).ok_or(LayoutStop::None)?;
-    let delimiter = delimiter_of(given.delimiter).ok_or(LayoutStop::None)?;
-    let records = records_of(given.records).ok_or(LayoutStop::None)?;
-    let quotes = quotes_of(given.quotes).ok_or(LayoutStop::None)?;
-    let header = header_of(given.header).ok_or(LayoutStop::None)?;
-    let start = start_of(given.start).ok_or(LayoutStop::None)?;
-    let at_fault = at_fault_of(given.at_fault).ok_or(LayoutStop::None)?;
-    let style = style_of(given.style).ok_or(LayoutStop::None)?;
-    // The byte is a delimiter.
+    let forms = forms_of(given).ok_or(LayoutStop::None)?;
+    let delimiter = delimiter_of(given.column.delimiter).ok_or(LayoutStop::None)?;
+    let prefix = Prefix::new(until_zero(&given.prefix)).ok_or(LayoutStop::None)?;
+    let fields = row_fields(alloc, given.column.style, until_zero(&given.only))?;
+    let zone = zone_from(alloc, given.column.zone, name)?;
+    // The byte is a delimiter, and names can begin with the prefix.
     let _ = delimiter.byte();
+    let _ = prefix.bytes();
     Ok(Layout {
-        zone: zone_from(alloc, given.zone, name)?,
-        time: given.time,
-        from,
-        count,
-        unit,
+        zone,
+        time: given.column.time,
+        from: forms.from,
+        count: forms.count,
+        unit: forms.unit,
         delimiter,
-        records,
-        quotes,
-        header,
-        max_record: limit_of(given.max_record),
-        start,
-        prefix: Prefix::none(),
-        fields: RowFields::Usual(style),
+        records: forms.records,
+        quotes: forms.quotes,
+        header: forms.header,
+        max_record: limit_of(given.column.max_record),
+        start: forms.start,
+        line_end: forms.line_end,
+        prefix,
+        fields,
         compared: Compared {
             daylight: true,
             abbreviation: true,
         },
-        empty: EmptyTime::Fault,
-        at_fault,
+        empty: forms.empty,
+        at_fault: forms.at_fault,
         notes: Notes::Faults,
+        tallies: false,
     })
 }

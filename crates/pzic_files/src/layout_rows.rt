@@ -4,10 +4,12 @@ ghost use Rattle.std.specs.Prelude.{◌≡◌, ◌≤◌, None, MatchOption, IfO
 ghost use Rattle.zic_layouts.specs.declared.plan.TheConstants.{MAX_BYTES};
 ghost use Rattle.pzic_zones.specs.Handle.{IsHandle, files_in, held_in, rows_in};
 ghost use Rattle.pzic_files.specs.LayoutRows.{AreFaultsCopied, AreRowsBy, IsConvertedBy, fault_seen, faults_with_end, note_seen, status_of_end};
+ghost use Rattle.pzic_files.specs.RowLayout.{usual_rows};
 ghost use Rattle.pzic_files.specs.Text.{overwritten};
 ghost use Rattle.pzic_zones.specs.declared.status.TheConstants.{NO_HANDLE};
 
 use crate::layout::{ColumnLayout, LayoutStop, layout_of};
+use crate::row_layout::{RowLayout, with_usual_rows};
 use pzic_zones::status::{BAD_ROW, LENGTHS, NO_HANDLE, NO_MEMORY, NO_SUCH, OK};
 use pzic_zones::{Handle, Held, Made, RowFault, hold_rows};
 use std::alloc::{AllocError, Global};
@@ -96,7 +98,7 @@ fn put_rows(alloc: Global, files: &Files, layout: &Layout, column: &[u8], rows: 
 fn convert(
     alloc: Global,
     files: &Files,
-    given: &ColumnLayout,
+    given: &RowLayout,
     name: &[u8],
     column: &[u8],
     rows: &mut Handle,
@@ -117,11 +119,11 @@ fn convert(
     }
 }
 
-/// Converts a column by a layout.
-pub fn rows_by(
+/// Converts a column by a layout with all that rows may have.
+pub fn rows_with(
     alloc: Global,
     files: &mut Handle,
-    layout: &ColumnLayout,
+    layout: &RowLayout,
     name: &[u8],
     column: &[u8],
     rows: &mut Handle,
@@ -142,6 +144,27 @@ pub fn rows_by(
             None => NO_HANDLE,
         },
     )
+}
+
+/// Converts a column by a layout.
+pub fn rows_by(
+    alloc: Global,
+    files: &mut Handle,
+    layout: &ColumnLayout,
+    name: &[u8],
+    column: &[u8],
+    rows: &mut Handle,
+) -> i32
+    requires files { IsHandle files.old }
+    requires rows { IsHandle rows.old }
+    ensures unchanged { files.new ≡ files.old }
+    ensures handle { IsHandle rows.new }
+    ensures gives { MatchOption (files_in files.old)
+        ((result ≡ NO_HANDLE) × (held_in rows.new ≡ None))
+        (λ all. IsConvertedBy all (usual_rows layout.now) name.now column.now result
+        (held_in rows.new)) }
+{
+    rows_with(alloc, files, &with_usual_rows(layout), name, column, rows)
 }
 
 /// Copies as many faults as there is room for, and returns their number.

@@ -12,6 +12,7 @@ mod layout_rows;
 mod names;
 mod release;
 mod row_column;
+mod row_layout;
 mod taking;
 
 pub use comparing::files_diff;
@@ -20,8 +21,9 @@ pub use converting::{rows, rows_len, rows_text};
 pub use diff_options::DiffOptions;
 pub use files::{files_bytes, files_find, files_len, files_name, zone_of};
 pub use layout::ColumnLayout;
-pub use layout_rows::{rows_by, rows_faults};
+pub use layout_rows::{rows_by, rows_faults, rows_with};
 pub use names::{name_of_fault, name_of_reason};
 pub use release::{VERSION, version};
 pub use row_column::{Abbreviation, files_abbreviations, files_offsets};
+pub use row_layout::RowLayout;
 pub use taking::files_of;

@@ -35,6 +35,8 @@ pub mod PairMarks
 pub mod OwnLaw
 pub mod FirstRecords
 pub mod Spans
+pub mod RawFacts
+pub mod RawPlaces
 pub mod WalkFacts
 pub mod SplitFacts
 pub mod LowestBit

@@ -182,13 +182,14 @@ module _ {d : ℕ} (can : CanDelimit d) where
       ∙ ap (λ (b : List ℕ). b ∷ []) (append_assoc own (byte ∷ []) a))
       (cases_Bool (is_end to.1))
 
-  -- a double quote after the bytes of a record is read with it
-  pub quote_last : (p : Place) (fields : List (List ℕ)) (field : List ℕ) → (all : List (List ℕ)) × (next_record (config_of d) (state_at p) fields field (34 ∷ []) ≡ took all st.StartRecord [])
+  -- a double quote after the bytes of a record is read with it, in its last field
+  pub quote_last : (p : Place) (fields : List (List ℕ)) (field : List ℕ)
+      → (all : List (List ℕ)) × (next_record (config_of d) (state_at p) fields field (34 ∷ []) ≡ took all st.StartRecord []) × (length all ≡ length fields + 1)
   unfolding next_record
-  quote_last place.Start fields field = (fields ++ field ∷ [], refl)
-  quote_last place.Plain fields field = (fields ++ (field ++ 34 ∷ []) ∷ [], rw (quote_other can) refl)
-  quote_last place.Quoted fields field = (fields ++ field ∷ [], refl)
-  quote_last place.QuoteSeen fields field = (fields ++ (field ++ 34 ∷ []) ∷ [], refl)
+  quote_last place.Start fields field = (fields ++ field ∷ [], refl, length-append fields (field ∷ []))
+  quote_last place.Plain fields field = (fields ++ (field ++ 34 ∷ []) ∷ [], rw (quote_other can) refl, length-append fields ((field ++ 34 ∷ []) ∷ []))
+  quote_last place.Quoted fields field = (fields ++ field ∷ [], refl, length-append fields (field ∷ []))
+  quote_last place.QuoteSeen fields field = (fields ++ (field ++ 34 ∷ []) ∷ [], refl, length-append fields ((field ++ 34 ∷ []) ∷ []))
 
   pub quoted_unended : (bytes : List ℕ) (p : Place) → BeginsRecord bytes → ReadsTo d st.StartField bytes (state_at p) → IsOwnLen d bytes (length bytes)
   quoted_unended bytes p begins reads =

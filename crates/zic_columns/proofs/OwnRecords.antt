@@ -11,11 +11,14 @@ use Rattle.csv.specs.declared.parser.State.TheVariants as st
 use Rattle.zic_columns.specs.Column.{CanDelimit, column_records, config_of, ends_line}
 use Rattle.zic_columns.specs.Ends.{BeginsWithin}
 use Rattle.zic_columns.specs.Own.{CsvRecord, paired, first_text, own_from, own_texts, csv_records}
+use Rattle.zic_columns.specs.Raw.{raw_fields}
 use Rattle.zic_columns.specs.Record.{first_fields, own_record}
+use Rattle.zic_columns.specs.code.Machine.{BeginsRecord}
 use Rattle.zic_columns.proofs.CutLaw.{in_record, stays}
 use Rattle.zic_columns.proofs.MachineFacts as Machine
 use Rattle.zic_columns.proofs.OwnFacts.{own_before, took}
 use Rattle.zic_columns.proofs.OwnLens.{in_end, line_ends, next_ends, next_goes, own_end, own_last, own_more, own_nil, own_then, starts}
+use Rattle.zic_columns.proofs.RawFacts.{raw_begins, raw_counted}
 use Rattle.zic_columns.proofs.SomeRecords.{Leaves, are_read, column_records-end, leaves, only}
 use Rattle.zic_columns.proofs.StepFacts.{records-cons, records-nil}
 
@@ -126,6 +129,7 @@ module _ {d : ℕ} (can : CanDelimit d) where
     pub alone : column_records d own ≡ fields ∷ []
     pub single : own_texts d own ≡ own ∷ []
     pub trimmed : IsTrimmed own
+    pub counted : length (raw_fields d own) ≡ length fields
 
   read_first : (byte : ℕ) (bytes : List ℕ) → ends_line byte ≡ false
       → (own : List ℕ) × (rest : List ℕ) × (length rest < length (byte ∷ bytes)) × IsFirstOwn (byte ∷ bytes) own rest
@@ -142,7 +146,10 @@ module _ {d : ℕ} (can : CanDelimit d) where
       let more : next_record (config_of d) st.StartRecord [] [] (own ++ 120 ∷ []) ≡ took later.more.0 st.StartRecord [] =
       Machine.starts can byte (later.front ++ 120 ∷ []) [] [] within ∙ next_goes can s byte [] [] (later.front ++ 120 ∷ []) goes ∙ later.more.1 in
       let left : Leaves (length (byte ∷ bytes)) (took later.all later.after later.rest) = subst (Leaves (length (byte ∷ bytes))) reads (leaves d st.StartRecord [] [] (byte ∷ bytes)) in
-      let others = column_records d later.rest in (
+      let others = column_records d later.rest in
+      let begins : BeginsRecord own = record { some = omega arith; begins = within } in
+      let counted = raw_counted can s own [] later.all later.more.0 [] [] st.StartRecord st.StartRecord [] refl
+      (next_goes can s byte [] [] later.front goes ∙ later.alone) (next_goes can s byte [] [] (later.front ++ 120 ∷ []) goes ∙ later.more.1) in (
         own,
         later.rest,
         omega (arith, left.1),
@@ -154,6 +161,7 @@ module _ {d : ℕ} (can : CanDelimit d) where
           alone = only d own (later.all ∷ []) (records-cons d st.StartRecord st.StartRecord own [] later.all [] alone (records-nil d));
           single = starts can byte later.front within ∙ own_more can s byte [] later.front refl goes ∙ later.single;
           trimmed = (within, ap length (only d (own ++ 120 ∷ []) (later.more.0 ∷ []) (records-cons d st.StartRecord st.StartRecord (own ++ 120 ∷ []) [] later.more.0 [] more (records-nil d))));
+          counted = omega (arith, ap length (raw_begins can own begins), counted);
         },
       )
 
@@ -165,7 +173,11 @@ module _ {d : ℕ} (can : CanDelimit d) where
   abbrev IsAlone : CsvRecord → Type 0
   IsAlone w = column_records d w.own ≡ w.fields ∷ []
 
+  abbrev IsCounted : CsvRecord → Type 0
+  IsCounted w = length (raw_fields d w.own) ≡ length w.fields
+
   record AreAlone (bytes : List ℕ) : Type 0 where
+    pub counted : All IsCounted (csv_records d bytes)
     pub each : All IsAlone (csv_records d bytes)
     pub same : csv_records d bytes ≡ map (own_record d) (own_texts d bytes)
     pub trimmed : All IsTrimmed (own_texts d bytes)
@@ -180,6 +192,7 @@ module _ {d : ℕ} (can : CanDelimit d) where
       let first : CsvRecord = record { own = own; fields = is.fields } in
       let all = wholes_first bytes own rest is in
       record {
+        counted = subst (All IsCounted) (sym all) (All-cons IsCounted first (csv_records d rest) is.counted later.counted);
         each = subst (All IsAlone) (sym all) (All-cons IsAlone first (csv_records d rest) is.alone later.each);
         same = all ∙ ap (λ (w : List CsvRecord). first ∷ w) later.same
             ∙ ap (λ (r : List (List (List ℕ))). record { own = own; fields = first_fields r } ∷ map (own_record d) (own_texts d rest)) (sym is.alone)
@@ -192,13 +205,14 @@ module _ {d : ℕ} (can : CanDelimit d) where
   alone_up_to zero bytes few = absurd (omega (arith, few))
   alone_up_to (suc n) [] few =
       let none : csv_records d [] ≡ [] = ap (λ (t : List (List ℕ)). paired t (column_records d [])) (own_nil can) in
-      record { each = subst (All IsAlone) (sym none) (All-nil IsAlone); same = none ∙ ap (map (own_record d)) (sym (own_nil can)); trimmed = subst (All IsTrimmed) (sym (own_nil can)) (All-nil IsTrimmed); single = subst (All IsSingle) (sym (own_nil can)) (All-nil IsSingle) }
+      record { counted = subst (All IsCounted) (sym none) (All-nil IsCounted); each = subst (All IsAlone) (sym none) (All-nil IsAlone); same = none ∙ ap (map (own_record d)) (sym (own_nil can)); trimmed = subst (All IsTrimmed) (sym (own_nil can)) (All-nil IsTrimmed); single = subst (All IsSingle) (sym (own_nil can)) (All-nil IsSingle) }
   alone_up_to (suc n) (byte ∷ bytes) few = ⊎_elim
       (λ (ends : ends_line byte ≡ true).
       let later = alone_up_to n bytes (omega (arith, few)) in
       let same : csv_records d (byte ∷ bytes) ≡ csv_records d bytes =
       ap (λ (t : List (List ℕ)). paired t (column_records d (byte ∷ bytes))) (own_end can byte bytes ends) ∙ ap (paired (own_texts d bytes)) (column_records-end d byte bytes ends) in
       record {
+        counted = subst (All IsCounted) (sym same) later.counted;
         each = subst (All IsAlone) (sym same) later.each;
         same = same ∙ later.same ∙ ap (map (own_record d)) (sym (own_end can byte bytes ends));
         trimmed = subst (All IsTrimmed) (sym (own_end can byte bytes ends)) later.trimmed;
@@ -214,6 +228,9 @@ module _ {d : ℕ} (can : CanDelimit d) where
 
   pub each_alone : (bytes : List ℕ) → All (λ (w : CsvRecord). column_records d w.own ≡ w.fields ∷ []) (csv_records d bytes)
   each_alone bytes = (are_alone bytes).each
+
+  pub each_counted : (bytes : List ℕ) → All (λ (w : CsvRecord). length (raw_fields d w.own) ≡ length w.fields) (csv_records d bytes)
+  each_counted bytes = (are_alone bytes).counted
 
   pub each_trimmed : (bytes : List ℕ) → All (λ own. BeginsWithin own × (length (column_records d (own ++ 120 ∷ [])) ≡ 1)) (own_texts d bytes)
   each_trimmed bytes = (are_alone bytes).trimmed

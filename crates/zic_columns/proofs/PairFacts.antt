@@ -60,7 +60,7 @@ module _ {d : ℕ} (can : CanDelimit d) (piece : List ℕ) where
           zone = sym (last_text none.fields text 0 no);
           time_within = none.has.time_within;
           time = none.has.time ∙ sym (other_text none.fields text 1 (λ is. omega (arith, no, is)));
-        }) refl
+        }) refl (record { taken = λ is. absurd (omega (arith, is)); same = λ _. refl })
 
     time : IsFieldAt d piece (middle + 1) (field_to (middle + 1) stop)
     time = plain_at can piece (middle + 1) stop last (λ _. bare_too)
@@ -79,7 +79,7 @@ module _ {d : ℕ} (can : CanDelimit d) (piece : List ℕ) where
           zone = walked.has.zone ∙ sym (other_text walked.fields text 0 (λ is. omega (arith, one, is)));
           time_within = (last.low, last.high);
           time = sym (last_text walked.fields text 1 one);
-        }) refl (inr (within, no_delimiter))
+        }) refl (record { taken = λ _. refl; same = λ other. absurd (other refl) }) (inr (within, no_delimiter))
 
     ended : IsLineEndAt piece stop
     ended = record {

@@ -2,7 +2,7 @@
 use Rattle.std.proofs.Common.{◌≡◌, ◌≢◌, ◌⊎◌, ℕ, ◌+◌, ◌-◌, ◌<◌, ◌≤◌, ◌==◌, ◌||◌, Bool, true, false, List, [], ◌∷◌, ◌++◌, length, take, drop, get_or, slice_range, Option, Some, None, inl, inr, refl, sym, ap, ap₂, subst, ◌∙◌, ⊎_elim, arith, append_assoc}
 use Rattle.std.proofs.Math.ListN.{get_or-eq_default}
 use Rattle.std.proofs.lemmas.Bool.{eq-eqb, or_right}
-use Rattle.std.proofs.lemmas.List.{append-nil, drop-drop, get_or-drop, length-drop, take_all, take_more}
+use Rattle.std.proofs.lemmas.List.{append-nil, drop-drop, get_or-drop, length-append, length-drop, take_all, take_more}
 use Rattle.csv.specs.Machine.{next_record}
 use Rattle.csv.specs.declared.parser.State.{State}
 use Rattle.csv.specs.declared.parser.State.TheVariants as st
@@ -15,7 +15,7 @@ use Rattle.zic_columns.specs.code.Block.{ends_field}
 use Rattle.zic_columns.specs.code.Field.{EndsField, HasQuotes, IsField, IsFieldAt, Spells}
 use Rattle.zic_columns.specs.code.Machine.{BeginsRecord, EndsWith, IsEndOfRecord, ReadsTo, state_at}
 use Rattle.zic_columns.specs.code.Own.{IsOwnLen}
-use Rattle.zic_columns.specs.code.Walk.{HasFields, HasWalked, IsFieldEnd, IsQuoteAt, IsRecordFrom}
+use Rattle.zic_columns.specs.code.Walk.{HasFields, HasWalked, IsFieldEnd, IsKept, IsQuoteAt, IsRecordFrom}
 use Rattle.zic_columns.specs.declared.fields.Field.{Field}
 use Rattle.zic_columns.specs.declared.fields.Field.TheVariants.{Plain, Quoted}
 use Rattle.zic_columns.specs.declared.fields.Record.{Record}
@@ -29,6 +29,7 @@ use Rattle.zic_columns.proofs.LineCuts.{not_at_once}
 use Rattle.zic_columns.proofs.MachineFacts.{at_end, ends_both, ends_byte, from_start, reads_both}
 use Rattle.zic_columns.proofs.OwnLens.{quoted_ended, quoted_unended}
 use Rattle.zic_columns.proofs.QuoteFacts.{own_stray, quotes_both, quotes_delimiter, quotes_none}
+use Rattle.zic_columns.proofs.RawPlaces.{near_span, no_raw, place_on, place_out, plain_span, raw_on}
 use Rattle.zic_columns.proofs.SomeRecords.{only}
 use Rattle.zic_columns.proofs.Spans.{span_at, span_both, span_fails, span_first, span_length, span_none, span_push, span_rest}
 use Rattle.zic_columns.proofs.StepFacts.{field-delimiter, records-cons, records-nil}
@@ -98,6 +99,7 @@ module _ {d : ℕ} (can : CanDelimit d) where
           low = is.low;
           high = is.high;
           field = (is.low, is.high);
+          raw = plain_span piece at stop;
           place_now = spelled.0;
           spells = spelled.2;
           quotes = spelled.3;
@@ -125,6 +127,7 @@ module _ {d : ℕ} (can : CanDelimit d) where
             low = omega arith;
             high = omega (arith, within);
             field = (omega arith, omega (arith, within));
+            raw = near_span piece at stop quote.here;
             place_now = place.QuoteSeen;
             spells = subst (λ (l : List ℕ). Spells d l text place.QuoteSeen) (sym raw) (quoted_spells can text (subst HasNoQuote front first.before));
             quotes = subst (λ (l : List ℕ). HasQuotes d l place.QuoteSeen false) (sym raw) (quoted_quotes can text (subst HasNoQuote front first.before));
@@ -154,6 +157,7 @@ module _ {d : ℕ} (can : CanDelimit d) where
             low = omega arith;
             high = within;
             field = (omega arith, within);
+            raw = λ start low other. refl;
             place_now = found.place_now;
             spells = subst (λ (t : List ℕ). Spells d raw t found.place_now) (sym (first_read can raw text (length raw) begins alone)) spells;
             quotes = subst (λ (l : List ℕ). HasQuotes d l found.place_now stray) same quotes;
@@ -190,6 +194,11 @@ module _ {d : ℕ} (can : CanDelimit d) where
           reads = λ more. ap (λ (l : List ℕ). next_record (config_of d) st.StartField [] [] (l ++ more)) (span_none piece start);
           any = λ fields field. (fields, field, λ more. ap (λ (l : List ℕ). next_record (config_of d) st.StartField fields field (l ++ more)) (span_none piece start));
           quotes = subst (λ (b : Bool). HasQuotes d (slice_range piece start start) place.Start b) (sym stray) (subst (λ (l : List ℕ). HasQuotes d l place.Start false) (sym (span_none piece start)) (quotes_none can));
+          after = λ lt. absurd (omega (arith, lt));
+          raw = [];
+          counted = sym none;
+          are_raw = no_raw can piece start;
+          place = λ lt. absurd (omega (arith, lt, none));
         }
       where
         nothing : (index : Option ℕ) → wanted_text [] index ≡ []
@@ -221,8 +230,9 @@ module _ {d : ℕ} (can : CanDelimit d) where
 
       -- a delimiter, and another field
       pub walked_on : (next : Record) → found.stop < length piece → get_or piece found.stop 0 ≡ d → next.own ≡ given.own → next.count ≡ given.count + 1
-          → HasFields d piece wanted (walked.fields ++ field_text d piece found.field ∷ []) next → next.stray ≡ (given.stray || found.stray) → HasWalked d piece start wanted next (found.stop + 1)
-      walked_on next inside delimiter own count has stray =
+          → HasFields d piece wanted (walked.fields ++ field_text d piece found.field ∷ []) next → next.stray ≡ (given.stray || found.stray)
+          → IsKept wanted.time given.count found.field given.time next.time → HasWalked d piece start wanted next (found.stop + 1)
+      walked_on next inside delimiter own count has stray time =
           let byte = get_or piece found.stop 0 in
           let ends : EndsField d is.place_now byte = ⊎_elim (λ all. absurd (omega (arith, all, inside))) (λ ends. ends) is.ends in
           let longer = span_push piece start found.stop (omega (arith, walked.low, is.low)) inside in
@@ -250,6 +260,11 @@ module _ {d : ℕ} (can : CanDelimit d) where
             quotes = subst (λ (b : Bool). HasQuotes d (slice_range piece start (found.stop + 1)) place.Start b) (sym stray)
                 (subst (λ (l : List ℕ). HasQuotes d l place.Start (given.stray || found.stray)) (sym (longer ∙ ap (λ (b : ℕ). slice_range piece start found.stop ++ b ∷ []) delimiter))
                 (quotes_delimiter can (slice_range piece start found.stop) is.place_now (given.stray || found.stray) quotes_front ends.1));
+            after = λ _. let same : found.stop + 1 - 1 ≡ found.stop = omega arith in ap (λ (n : ℕ). get_or piece n 0) same ∙ delimiter;
+            raw = walked.raw ++ slice_range piece at found.stop ∷ [];
+            counted = omega (arith, count, walked.counted, length-append walked.raw (slice_range piece at found.stop ∷ []));
+            are_raw = raw_on can piece start wanted given at walked found is inside delimiter;
+            place = place_on can piece start wanted given at walked found is inside delimiter next count time;
           }
 
       module _ (begins : BeginsRecord (drop start piece)) where
@@ -272,7 +287,7 @@ module _ {d : ℕ} (can : CanDelimit d) where
 
         -- the end, or a line end
         module _ (next : Record) (own_at : next.own ≡ record { start = start; end = found.stop }) (has : HasFields d piece wanted (walked.fields ++ field_text d piece found.field ∷ []) next)
-            (stray : next.stray ≡ (given.stray || found.stray)) where
+            (stray : next.stray ≡ (given.stray || found.stray)) (time : IsKept wanted.time given.count found.field given.time next.time) where
           split_out : 0 < found.stop - start → IsSplit d piece wanted next
           split_out some =
               let own = slice_range piece start found.stop in
@@ -287,6 +302,8 @@ module _ {d : ℕ} (can : CanDelimit d) where
                 time_within = has.time_within;
                 time = has.time ∙ ap (λ (f : List (List ℕ)). wanted_text f (Some wanted.time)) (sym fields);
                 stray = stray ∙ own_stray can own is.place_now (given.stray || found.stray) quotes_front ∙ ap (λ o. has_stray d (bytes_at piece o)) (sym own_at);
+                place = place_out can piece start wanted given at walked found is (starts_so some) next own_at
+                    (omega (arith, has.count, walked.has.count, length-append walked.fields (field_text d piece found.field ∷ []))) time;
               }
 
           owns_out : (len : ℕ) → len ≡ found.stop - start → IsOwnLen d (drop start piece) len

@@ -5,6 +5,7 @@ use Rattle.zic_columns.specs.Ends.{AreBetweenEnds, BeginsWithin}
 use Rattle.zic_columns.specs.Lines.{line_records, open_record, records_by, texts_by}
 use Rattle.zic_columns.specs.Own.{CsvRecord, csv_records, first_text, own_texts}
 use Rattle.zic_columns.specs.Quotes.{IsRfcField, delimited, has_stray, is_open}
+use Rattle.zic_columns.specs.Raw.{raw_fields}
 use Rattle.zic_columns.specs.Record.{own_record}
 use Rattle.zic_columns.specs.Round.{records_of, records_of_pieces}
 use Rattle.zic_columns.specs.Truncated.{truncated}
@@ -97,3 +98,12 @@ pub record FirstRecordIsAlone : Type 0 where
   pub ended : (bytes : List ℕ) → HasNoLineEnd (first_text (lines_of bytes))
   pub closed : (delimiter : ℕ) (line : List ℕ) → CanDelimit delimiter → HasNoLineEnd line → is_open delimiter line ≡ false → line_records delimiter line ≡ csv_records delimiter line
   pub opened : (delimiter : ℕ) (line : List ℕ) → CanDelimit delimiter → HasNoLineEnd line → is_open delimiter line ≡ true → line_records delimiter line ≡ open_record line ∷ []
+
+-- The raw fields of own bytes, with a delimiter between each two, are these bytes.
+abbrev pub RawFieldsAreOwnBytes : Type 0
+RawFieldsAreOwnBytes = (delimiter : ℕ) (own : List ℕ) → delimited delimiter (raw_fields delimiter own) ≡ own
+
+-- Each record has as many raw fields as fields.
+abbrev pub RawFieldsAreOfFields : Type 0
+RawFieldsAreOfFields = (delimiter : ℕ) (bytes : List ℕ) → CanDelimit delimiter
+    → All (λ (w : CsvRecord). length (raw_fields delimiter w.own) ≡ length w.fields) (csv_records delimiter bytes)

@@ -3,6 +3,7 @@ pub mod Record
 pub mod Round
 pub mod Own
 pub mod Quotes
+pub mod Raw
 pub mod Lines
 pub mod Truncated
 pub mod Ends

@@ -1,8 +1,9 @@
 -- The records of a piece: where their bytes stand, and the fields that rows need.
-use Rattle.std.specs.Prelude.{◌≡◌, ◌+◌, ◌<◌, ◌≤◌, ℕ, false, List, [], ◌∷◌, Option, None, Some, length, slice_index, slice_index_or, slice_range}
+use Rattle.std.specs.Prelude.{◌≡◌, ◌==◌, ◌+◌, ◌-◌, ◌<◌, ◌≤◌, ◌&&◌, nat_lt, ℕ, Bool, false, List, [], ◌∷◌, ◌++◌, Option, None, Some, if◌then◌else◌, length, slice_index, slice_index_or, slice_range}
 use Rattle.zic_columns.specs.Column.{column_records}
 use Rattle.zic_columns.specs.Own.{CsvRecord, first_text}
 use Rattle.zic_columns.specs.Quotes.{has_stray}
+use Rattle.zic_columns.specs.Raw.{replaced}
 use Rattle.zic_columns.specs.declared.fields.Field.{Field}
 use Rattle.zic_columns.specs.declared.fields.Field.TheVariants.{Plain, Quoted}
 use Rattle.zic_columns.specs.declared.fields.Pair.{Pair}
@@ -50,6 +51,28 @@ wanted_text fields (Some index) = slice_index_or fields index []
 abbrev pub record_at : ℕ → List ℕ → Record → CsvRecord
 record_at delimiter piece given = own_record delimiter (bytes_at piece given.own)
 
+-- a double quote of the record stands before an index of its piece
+abbrev pub is_after_quote_at : List ℕ → ℕ → ℕ → Bool
+is_after_quote_at piece start at = nat_lt start at && (slice_index_or piece (at - 1) 0 == 34)
+
+-- the span of a field with the double quotes around it, if it has any: a text that stands plainly between two has its own span alone
+abbrev pub raw_span : List ℕ → ℕ → Field → Span
+raw_span piece start (Plain span) = if is_after_quote_at piece start span.start then record { start = span.start - 1; end = span.end + 1 } else span
+raw_span piece start (Quoted span) = span
+
+-- The raw field of an index stands in a record of a piece: with another text in its place, the record is the bytes before it, that text, and
+-- the bytes after it.
+abbrev pub IsPlaceOf : ℕ → List ℕ → Span → ℕ → Span → Type 0
+IsPlaceOf delimiter piece own index place =
+    (text : List ℕ) → replaced delimiter (bytes_at piece own) index text ≡ slice_range piece own.start place.start ++ (text ++ slice_range piece place.end own.end)
+
+-- where the field of the time stands in a record that has it
+pub record HasPlace (delimiter : ℕ) (piece : List ℕ) (index : ℕ) (given : Record) : Type 0 where
+  pub low : given.own.start ≤ (raw_span piece given.own.start given.time).start
+  pub order : (raw_span piece given.own.start given.time).start ≤ (raw_span piece given.own.start given.time).end
+  pub high : (raw_span piece given.own.start given.time).end ≤ given.own.end
+  pub place : IsPlaceOf delimiter piece given.own index (raw_span piece given.own.start given.time)
+
 -- the parts of a record of a piece
 pub record IsSplit (delimiter : ℕ) (piece : List ℕ) (wanted : Wanted) (given : Record) : Type 0 where
   pub own : IsWithin piece given.own
@@ -59,6 +82,7 @@ pub record IsSplit (delimiter : ℕ) (piece : List ℕ) (wanted : Wanted) (given
   pub time_within : IsWithinPiece piece given.time
   pub time : field_text delimiter piece given.time ≡ wanted_text (record_at delimiter piece given).fields (Some wanted.time)
   pub stray : given.stray ≡ has_stray delimiter (bytes_at piece given.own)
+  pub place : wanted.time < given.count → HasPlace delimiter piece wanted.time given
 
 -- the record that a pair is: two fields, with the delimiter between them
 abbrev pub pair_record : Pair → Record

@@ -1,8 +1,8 @@
 //! Records of a piece: what stands between their fields, where their bytes stand, and the fields
 //! that rows need.
 
-ghost use Rattle.std.specs.Prelude.{◌≡◌, ◌<◌, ◌++◌, OnOk};
-ghost use Rattle.zic_columns.specs.Record.{IsWithin, IsWithinPiece, bytes_at, field_text, pair_record, text_alone};
+ghost use Rattle.std.specs.Prelude.{◌≡◌, ◌<◌, ◌≤◌, ◌++◌, OnOk, length};
+ghost use Rattle.zic_columns.specs.Record.{IsWithin, IsWithinPiece, bytes_at, field_text, is_after_quote_at, pair_record, raw_span, text_alone};
 ghost use Rattle.zic_columns.specs.Column.{CanDelimit};
 ghost use Rattle.zic_columns.specs.Round.{may_have};
 
@@ -59,6 +59,30 @@ impl Span {
         ensures { result.now ≡ bytes_at piece.now self }
     {
         &piece[self.start..self.end]
+    }
+}
+
+/// Returns whether a double quote of the record that begins at `start` stands just before an index.
+fn is_after_quote(piece: &[u8], start: usize, at: usize) -> bool
+    requires { at ≤ length piece.now }
+    ensures { result ≡ is_after_quote_at piece.now start at }
+{
+    start < at && piece[at - 1] == b'"'
+}
+
+impl Record {
+    /// Returns where the field of the time stands, with its double quotes, if it has any.
+    pub fn time_place(&self, piece: &[u8]) -> Span
+        requires { IsWithinPiece piece.now self.now.time }
+        ensures { result ≡ raw_span piece.now self.now.own.start self.now.time }
+    {
+        match self.time {
+            Field::Plain(span) if is_after_quote(piece, self.own.start, span.start) => Span {
+                start: span.start - 1,
+                end: span.end + 1,
+            },
+            Field::Plain(span) | Field::Quoted(span) => span,
+        }
     }
 }
 

@@ -4,6 +4,7 @@ ghost use Rattle.zic_columns.specs.Laws.{ColumnRecordsAreRead, PlainRecordsAreRe
 ghost use Rattle.zic_columns.specs.Laws.{OwnTextsAreOfRecords, PiecesHaveRecords, WholeRecordsAreCut};
 ghost use Rattle.zic_columns.specs.Laws.{ColumnIsOwnBytes, FirstRecordIsAlone, OwnBytesAreRecords, OwnBytesAreTrimmed, RecordsAreOfOwnBytes};
 ghost use Rattle.zic_columns.specs.Laws.{LinesAreCut, LinesAreTruncated, LinesWithoutQuotesAreCsv};
+ghost use Rattle.zic_columns.specs.Laws.{RawFieldsAreOfFields, RawFieldsAreOwnBytes};
 ghost use Rattle.zic_columns.specs.Laws.{PlainBytesHaveNoStray, RfcRecordsHaveNoStray, TextsByAreOfRecords};
 
 /// States that a CSV reader gives bytes their records.
@@ -96,4 +97,14 @@ pub fn rfc_records_have_no_stray()
 /// States that the own bytes of the first record, by themselves, are that record alone.
 pub fn first_record_is_alone()
     ensures { FirstRecordIsAlone }
+{}
+
+/// States that the raw fields of a record's own bytes, with delimiters between them, are these bytes.
+pub fn raw_fields_are_own_bytes()
+    ensures { RawFieldsAreOwnBytes }
+{}
+
+/// States that each record has as many raw fields as fields.
+pub fn raw_fields_are_of_fields()
+    ensures { RawFieldsAreOfFields }
 {}

@@ -31,13 +31,19 @@
 //!   stands at an index
 //! - `Splitter::new`, `fill`: the next records of a piece come first of those that were left
 //!   (`split`), each with its number of fields and the two that rows need (`IsSplit`); fewer than
-//!   64 only where no record is left
+//!   64 only where no record is left. Where a record has the field of the time, that field stands in the
+//!   record at its `raw_span` (`HasPlace`): with any text there instead, the record is its own bytes with
+//!   that raw field replaced (`replaced`)
+//! - `Record::time_place`: where the field of the time stands, with its double quotes, if it has any
+//!   (`raw_span`)
 //! - `Splitter::fill_pairs`: the next records, as long as each is a plain pair, with the delimiter between its
 //!   two fields (`IsPairOf`); `Pair::record`: the record that a pair is (`pair_record`)
 //! - `Span::of`, `push_field`: bytes of a piece, the text of a field (`field_text`)
 //! - `has_stray_quote`, and `fill` of each record: whether it has a double quote that RFC 4180
 //!   doesn't have (`has_stray`); `is_open_line`: whether the double quotes of a line are open at
 //!   its end (`is_open`)
+//! - `laws::raw_fields_are_own_bytes`, `raw_fields_are_of_fields`: the raw fields of a record with a
+//!   delimiter between each two are its own bytes, and it has as many of them as fields
 #![tactic(auto)]
 
 mod blocks;

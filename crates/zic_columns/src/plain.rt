@@ -5,7 +5,8 @@ ghost use Rattle.zic_columns.specs.Record.{IsPairOf, IsWithin, bytes_at, pair_re
 ghost use Rattle.zic_columns.specs.code.Ends.{ShowsEnds};
 ghost use Rattle.zic_columns.specs.code.Machine.{BeginsRecord};
 ghost use Rattle.zic_columns.specs.code.Plain.{IsLineEndAt, IsPlainFrom, AreIndicesOf, no_fields, record_of, zone_and_time};
-ghost use Rattle.zic_columns.specs.code.Walk.{HasFields, HasWalked, IsRecordFrom};
+ghost use Rattle.zic_columns.specs.code.Walk.{HasFields, HasWalked, IsKept, IsRecordFrom};
+ghost use Rattle.zic_columns.specs.declared.fields.Field.TheVariants.{Plain};
 
 use crate::ends::FieldEnds;
 use crate::fields::{Field, Pair, Record, Separator, Span, Wanted};
@@ -123,6 +124,7 @@ fn pick(index: usize, number: usize, field: Span, unchanged: Span) -> Span
 fn with_span(fields: PlainFields, span: Span, indices: FieldIndices) -> PlainFields
     requires { fields.count + 1 < 2 ^ 64 }
     ensures count { result.count ≡ fields.count + 1 }
+    ensures time { IsKept indices.time fields.count (Plain span) (Plain fields.time) (Plain result.time) }
     ensures has { (delimiter : ℕ) (piece : List ℕ) (start end : ℕ) (wanted : Wanted) (texts : List (List ℕ))
         → AreIndicesOf wanted indices → HasFields delimiter piece wanted texts (record_of start end fields)
         → IsWithin piece span

@@ -55,14 +55,14 @@ fn truncate(bytes: &mut [u8], most: u64, room: u64) -> Left
 /// A reader that gives the bytes of another, but of each line only the first `most`, where there is such
 /// a number. Line ends stay.
 ///
-/// It fails after some number of bytes of which none stayed, in a row of reads.
+/// It fails once the reads of which no byte stayed gave more than some number of bytes.
 #[derive(Drop)]
 pub struct Truncated<R: Read> {
     inner: R,
     most: Option<u64>,
     /// The number of bytes that may stay of the line that goes on.
     room: u64,
-    /// The number of bytes that may still be read in vain.
+    /// How many more bytes may come in reads of which no byte stays.
     patience: u64,
 }
 

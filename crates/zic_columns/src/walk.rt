@@ -6,7 +6,7 @@ ghost use Rattle.zic_columns.specs.Record.{IsWithinPiece, field_text};
 ghost use Rattle.zic_columns.specs.code.Field.{IsFieldAt};
 ghost use Rattle.zic_columns.specs.code.Machine.{BeginsRecord, IsEndOfRecord, ReadsTo, state_at};
 ghost use Rattle.zic_columns.specs.code.Own.{IsOwnLen};
-ghost use Rattle.zic_columns.specs.code.Walk.{HasFields, HasWalked, IsFieldEnd, IsQuoteAt, IsRecordFrom, quoted_field};
+ghost use Rattle.zic_columns.specs.code.Walk.{HasFields, HasWalked, IsFieldEnd, IsKept, IsQuoteAt, IsRecordFrom, quoted_field};
 ghost use Rattle.zic_columns.specs.declared.machine.Place.TheVariants as place;
 
 use crate::blocks::{near_field_end, near_quote};
@@ -151,6 +151,7 @@ fn with_field(given: Record, found: FoundField, wanted: Wanted) -> Record
     ensures own { result.own ≡ given.own }
     ensures count { result.count ≡ given.count + 1 }
     ensures stray { result.stray ≡ (given.stray || found.stray) }
+    ensures time { IsKept wanted.time given.count found.field given.time result.time }
     ensures has { (delimiter : ℕ) (piece : List ℕ) (fields : List (List ℕ)) → HasFields delimiter piece wanted fields given
         → IsWithinPiece piece found.field
         → HasFields delimiter piece wanted (fields ++ field_text delimiter piece found.field ∷ []) result }

@@ -177,6 +177,9 @@ pub struct ConvertOptions {
     pub zones: Zones,
     /// Where the zones come from that rows are compared with, if they are.
     pub against: Option<Zones>,
+    /// The path of the file for the numbers of rows of each zone, and of those that are different by the
+    /// other release, if there is one.
+    pub summary: Option<String>,
     pub plan: Plan,
     /// How the column is read, and what its rows are.
     pub layout: Layout,

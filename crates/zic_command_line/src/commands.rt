@@ -183,7 +183,7 @@ static DIFF: [Word; 17] = [
     },
     Word {
         name: "ignore",
-        help: "What isn't compared: daylight, abbreviation, or both",
+        help: "Not compared: daylight, abbreviation, or both",
         form: Form::IGNORE,
     },
     Word {
@@ -221,7 +221,7 @@ static DIFF: [Word; 17] = [
     EXPLAIN,
 ];
 
-static CONVERT: [Word; 12] = [
+static CONVERT: [Word; 13] = [
     Word {
         name: "SOURCE",
         help: "A file of Rule, Zone and Link lines",
@@ -234,7 +234,7 @@ static CONVERT: [Word; 12] = [
     },
     Word {
         name: "ignore",
-        help: "What isn't compared: daylight, abbreviation, or both",
+        help: "Not compared: daylight, abbreviation, or both",
         form: Form::IGNORE,
     },
     Word {
@@ -252,6 +252,11 @@ static CONVERT: [Word; 12] = [
         help: "The same by a folder of TZif files",
         form: Form::FOLDER,
     },
+    Word {
+        name: "against-summary",
+        help: "Where --against counts rows as ZONE,ROWS,DIFFER",
+        form: Form::PATH,
+    },
     WORKERS,
     ZONE_PIECE,
     Word {
@@ -266,7 +271,7 @@ static CONVERT: [Word; 12] = [
     },
     Word {
         name: "max-rows",
-        help: "Most rows, up to 100000000",
+        help: "Rows, up to 100000000",
         form: Form::Number {
             label: &["N"],
             default: &["100000000"],
@@ -276,7 +281,7 @@ static CONVERT: [Word; 12] = [
     },
     Word {
         name: "max-bytes",
-        help: "Most bytes, up to 4294967296",
+        help: "Bytes, up to 4294967296",
         form: Form::Number {
             label: &["N"],
             default: &["4294967296"],
@@ -291,7 +296,7 @@ static CONVERT: [Word; 12] = [
     },
 ];
 
-static CONVERT_ROWS: [Word; 25] = [
+static CONVERT_ROWS: [Word; 26] = [
     Word {
         name: "header",
         help: "Takes the first record for a header, writes one",
@@ -329,12 +334,12 @@ static CONVERT_ROWS: [Word; 25] = [
     },
     Word {
         name: "unit",
-        help: "What instants count: s, ms, us or ns",
+        help: "What instants count: s, ms, us, ns",
         form: Form::UNIT,
     },
     Word {
         name: "from",
-        help: "count, seconds, rfc3339, utc, local",
+        help: "count seconds rfc3339 utc local",
         form: Form::TIME,
     },
     Word {
@@ -349,12 +354,12 @@ static CONVERT_ROWS: [Word; 25] = [
     },
     Word {
         name: "empty",
-        help: "An empty time: fault, or keep it",
+        help: "An empty time: fault or keep it",
         form: Form::EMPTY,
     },
     Word {
         name: "style",
-        help: "Local time as fields, iso or utc",
+        help: "Local time: fields, iso or utc",
         form: Form::STYLE,
     },
     Word {
@@ -378,13 +383,18 @@ static CONVERT_ROWS: [Word; 25] = [
         form: Form::Flag,
     },
     Word {
+        name: "replace",
+        help: "Writes local time in the place of each time",
+        form: Form::Flag,
+    },
+    Word {
         name: "keep-going",
         help: "Goes on after rows with faults, and counts them",
         form: Form::Flag,
     },
     Word {
         name: "faults",
-        help: "Where --keep-going writes each fault as ROW,ERROR",
+        help: "Where --keep-going writes a fault as ROW,ERROR",
         form: Form::PATH,
     },
     Word {
@@ -394,22 +404,22 @@ static CONVERT_ROWS: [Word; 25] = [
     },
     Word {
         name: "rejects",
-        help: "Where --keep-going puts the records of these rows",
+        help: "Where --keep-going puts records of these rows",
         form: Form::PATH,
     },
     Word {
         name: "max-faults",
-        help: "The most of these rows after which the run goes on",
+        help: "Most of these rows after which the run goes on",
         form: Form::ROWS,
     },
     Word {
         name: "progress",
-        help: "Tells on standard error how many rows are written",
+        help: "Tells on standard error how many rows it wrote",
         form: Form::Flag,
     },
     Word {
         name: "show-release",
-        help: "Tells on standard error which release zones are of",
+        help: "Tells on standard error the release of zones",
         form: Form::Flag,
     },
     EXPLAIN,

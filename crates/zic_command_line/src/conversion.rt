@@ -2,7 +2,7 @@
 
 use crate::command_line::{ConvertOptions, Request, Zones};
 use crate::fields::{FieldNames, FieldWords};
-use crate::layout::{fault_fields, layout, max_faults};
+use crate::layout::{fault_fields, is_compared, layout, max_faults};
 use crate::no_request::{NoRequest, usage};
 use crate::values::{all_given, column_plan, inputs_of, optional};
 use clap::ArgMatches;
@@ -10,11 +10,13 @@ use std::alloc::Global;
 use zic_io::FaultFields;
 use zic_layouts::{Layout, Plan};
 
-/// Where the zones of a column come from, and those that rows are compared with.
+/// Where the zones of a column come from, and those that rows are compared with, and where the rows of each
+/// zone are counted.
 #[derive(Drop)]
 struct BothZones {
     zones: Zones,
     against: Option<Zones>,
+    summary: Option<String>,
 }
 
 /// How a column is read, and the names of the fields that are read.
@@ -53,7 +55,11 @@ fn conversion(
     reading: Reading,
     lists: FaultLists,
 ) -> Request {
-    let BothZones { zones, against } = zones;
+    let BothZones {
+        zones,
+        against,
+        summary,
+    } = zones;
     let Reading { layout, names } = reading;
     let FaultLists {
         faults,
@@ -64,6 +70,7 @@ fn conversion(
     Request::Convert(ConvertOptions {
         zones,
         against,
+        summary,
         plan,
         layout,
         names,
@@ -76,11 +83,29 @@ fn conversion(
     })
 }
 
-/// Returns where the zones of a column come from, and those that rows are compared with.
+/// Returns where the zones of a column come from, and those that rows are compared with, and where the rows
+/// of each zone are counted.
 fn both_zones(alloc: Global, matches: &ArgMatches<'_>) -> Result<BothZones, NoRequest> {
+    let summary = summary(alloc, matches)?;
     let zones = zones_of(alloc, matches)?;
     let against = against(alloc, matches)?;
-    Ok(BothZones { zones, against })
+    Ok(BothZones {
+        zones,
+        against,
+        summary,
+    })
+}
+
+/// Returns the path of the file in which the rows of each zone are counted, if there is one.
+fn summary(alloc: Global, matches: &ArgMatches<'_>) -> Result<Option<String>, NoRequest> {
+    let path = optional(alloc, matches, "against-summary")?;
+    if path.is_some() && !is_compared(matches) {
+        return Err(usage(
+            alloc,
+            "--against-summary has no meaning without --against or --against-tree",
+        ));
+    }
+    Ok(path)
 }
 
 /// Returns where the zones of a column come from.

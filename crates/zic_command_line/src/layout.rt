@@ -7,8 +7,8 @@ use clap::ArgMatches;
 use std::alloc::{AllocError, Global};
 use zic_io::FaultFields;
 use zic_layouts::{
-    AtFault, Delimiter, Disambiguation, EmptyTime, FieldCount, Header, InstantText, Layout, Notes,
-    Prefix, Quotes, Records, RowFields, RowStart, Style, TimeFrom, Unit, ZoneFrom,
+    AtFault, Delimiter, Disambiguation, EmptyTime, FieldCount, Header, InstantText, Layout,
+    LineEnd, Notes, Prefix, Quotes, Records, RowFields, RowStart, Style, TimeFrom, Unit, ZoneFrom,
 };
 
 /// How the fields of a record are written.
@@ -50,9 +50,9 @@ pub(crate) fn layout(
     let records = record_forms(alloc, matches)?;
     let reads = reads_of(alloc, matches, fields, records.header)?;
     let zone = zone_from(alloc, matches, reads.zone)?;
-    let start = row_start(matches);
+    let start = row_start(alloc, matches)?;
     let prefix = prefix(alloc, matches, records.header)?;
-    let may_have_more = fields.are_given() || start == RowStart::Record;
+    let may_have_more = fields.are_given() || start != RowStart::Fields;
     let FieldForms {
         delimiter,
         unit,
@@ -71,12 +71,14 @@ pub(crate) fn layout(
         header: records.header,
         max_record: matches.get_one::<u64>("max-record"),
         start,
+        line_end: LineEnd::Lf,
         prefix,
         fields: rows.fields,
         compared: rows.compared,
         empty: rows.empty,
         at_fault: reads.at_fault,
         notes: notes(matches),
+        tallies: matches.get_str("against-summary").is_some(),
     };
     Ok(with_quotes(matches, layout, records.quotes))
 }
@@ -234,11 +236,12 @@ fn header(alloc: Global, matches: &ArgMatches<'_>) -> Result<Header, NoRequest> 
 }
 
 /// Returns what a row begins with.
-fn row_start(matches: &ArgMatches<'_>) -> RowStart {
-    if matches.get_flag("append") {
-        RowStart::Record
-    } else {
-        RowStart::Fields
+fn row_start(alloc: Global, matches: &ArgMatches<'_>) -> Result<RowStart, NoRequest> {
+    match (matches.get_flag("append"), matches.get_flag("replace")) {
+        (false, false) => Ok(RowStart::Fields),
+        (true, false) => Ok(RowStart::Record),
+        (false, true) => Ok(RowStart::Replaced),
+        (true, true) => Err(usage(alloc, "--append has no meaning with --replace")),
     }
 }
 
@@ -273,7 +276,7 @@ fn at_fault(alloc: Global, matches: &ArgMatches<'_>) -> Result<AtFault, NoReques
 }
 
 /// Returns whether rows are compared with another release.
-fn is_compared(matches: &ArgMatches<'_>) -> bool {
+pub(crate) fn is_compared(matches: &ArgMatches<'_>) -> bool {
     matches.get_str("against").is_some() || matches.get_str("against-tree").is_some()
 }
 

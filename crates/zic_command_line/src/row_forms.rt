@@ -59,12 +59,41 @@ fn row_fields(
     let fields = match (matches.get_str("only"), matches.get_str("style")) {
         (Some(words), Some("fields")) => listed(alloc, words)?,
         (Some(_), _) => return Err(usage(alloc, "--style has no meaning with --only")),
-        (None, Some("fields")) => RowFields::Usual(Style::Fields),
-        (None, Some("iso")) => RowFields::Usual(Style::Iso),
-        (None, Some("utc")) => only(alloc, utc_fields(from))?,
-        (None, _) => return Err(usage(alloc, "--style is fields, iso or utc")),
+        (None, Some(style)) => styled(alloc, matches, from, style)?,
+        (None, None) => return Err(no_style(alloc)),
     };
     with_ambiguous(alloc, matches, from, fields)
+}
+
+/// Returns the fields of rows in this style: the first alone where it takes the place of the time.
+fn styled(
+    alloc: Global,
+    matches: &ArgMatches<'_>,
+    from: TimeFrom,
+    style: &str,
+) -> Result<RowFields, NoRequest> {
+    let fields = match style {
+        "fields" => RowFields::Usual(Style::Fields),
+        "iso" => RowFields::Usual(Style::Iso),
+        "utc" => only(alloc, utc_fields(from))?,
+        _ => return Err(no_style(alloc)),
+    };
+    if matches.get_flag("replace") {
+        first_only(alloc, from, &fields)
+    } else {
+        Ok(fields)
+    }
+}
+
+/// Returns the refusal of a word that is no style.
+fn no_style(alloc: Global) -> NoRequest {
+    usage(alloc, "--style is fields, iso or utc")
+}
+
+/// Returns the first of some fields alone.
+fn first_only(alloc: Global, from: TimeFrom, fields: &RowFields) -> Result<RowFields, NoRequest> {
+    let all = fields.fields(from);
+    only(alloc, &all[..all.len().min(1)])
 }
 
 /// Returns the fields of rows that have their local time and their instant in UT.

@@ -8,6 +8,7 @@ use Rattle.std.specs.Prelude.{IfSome}
 use Rattle.csv.proofs.WriteFacts.{appends-more}
 use Rattle.zic_columns.specs.Own.{CsvRecord}
 use Rattle.zic_layouts.specs.declared.layout.Header.{Header}
+use Rattle.zic_layouts.specs.declared.layout.LineEnd.{LineEnd}
 use Rattle.zic_layouts.specs.declared.layout.RowStart.{RowStart}
 use Rattle.zic_layouts.specs.declared.layout.RowStart.TheVariants as starts
 use Rattle.zic_layouts.specs.Noted.{RowNote}
@@ -15,11 +16,12 @@ use Rattle.zic_base.specs.declared.stops.RunStop.{RunStop}
 use Rattle.zic_base.specs.declared.stops.RunStop.TheVariants as stop
 use Rattle.zic_convert.specs.By.{By}
 use Rattle.zic_convert.specs.Column.{AreRowRecords, header_of, header_text, names_added, names_line, names_of, own_line}
-use Rattle.zic_piece_rows.specs.LayoutRows.{faults_by}
+use Rattle.zic_piece_rows.specs.LayoutRows.{ended, faults_by}
 use Rattle.zic_convert.specs.Header.{IsHeaderFault}
 use Rattle.zic_convert.specs.Run.{AreFew, EndsAfterLines, EndsAtHeader, EndsIn, HasNames, Notes, PassesHeader, WritesRows}
 use Rattle.zic_convert.specs.code.Progress.{ConvertsColumn, EndsInColumn, output}
 use Rattle.zic_convert.proofs.Bytes.{starts_later}
+use Rattle.zic_convert.proofs.LineEnds.{none_ended}
 use Rattle.zic_convert.proofs.Options.{for_some, if_some}
 
 module _ (by : By) (row_records : List CsvRecord) (head : List ℕ) (old mid new : Option (List ℕ)) (log last : Option (List RowNote)) (begun : Appends old mid head) where
@@ -81,9 +83,10 @@ module _ (by : By) (row_records : List CsvRecord) (head : List ℕ) (old mid new
   ends_below stop.LogFailed w = lines_below stop.LogFailed w
 
 -- one of the two lines of a header has no byte
-one_line : (start : RowStart) (names : List ℕ) (header : Header) (line own : List ℕ) → (names_of start header line ≡ []) ⊎ (header_of start names own ≡ [])
-one_line starts.Fields names header line own = inr refl
-one_line starts.Record names header line own = inl refl
+one_line : (e : LineEnd) (start : RowStart) (names : List ℕ) (header : Header) (line own : List ℕ) → (ended e (names_of start header line) ≡ []) ⊎ (ended e (header_of start names own) ≡ [])
+one_line e starts.Fields names header line own = inr (none_ended e)
+one_line e starts.Record names header line own = inl (none_ended e)
+one_line e starts.Replaced names header line own = inl (none_ended e)
 
 -- ---- below the line of names
 
@@ -124,7 +127,7 @@ module _ (by : By) (column : List ℕ) (row_records : List CsvRecord) (old mid n
 
     lines_after_names : EndsAfterLines by (own_line by column) row_records why (output mid new log last)
         → EndsAfterLines by (header_text by column) row_records why (output old new log last)
-    lines_after_names w = elim (one_line by.layout.start (names_added by.layout by.releases.old) by.layout.header _ _) [
+    lines_after_names w = elim (one_line by.layout.line_end by.layout.start (names_added by.layout by.releases.old) by.layout.header _ _) [
       | inl none ↦ no_names (names_line by.layout by.releases.old) (own_line by column) begun none w
       | inr none ↦ no_own (names_line by.layout by.releases.old) (own_line by column) begun none w
     ]

@@ -23,7 +23,7 @@ use Rattle.zic_base.specs.declared.row_fault.RowKind.TheVariants as kinds
 use Rattle.zic_files.specs.File.{File}
 use Rattle.zic_base.specs.declared.stops.RunStop.{RunStop}
 use Rattle.zic_base.specs.declared.stops.RunStop.TheVariants as stop
-use Rattle.zic_piece_rows.specs.LayoutRows.{if_rejected}
+use Rattle.zic_piece_rows.specs.LayoutRows.{ended, if_rejected}
 use Rattle.zic_convert.specs.Column.{AreRowRecords, header_of, header_read, names_added, own_line, read_by, records_read, rejects_header}
 use Rattle.zic_convert.specs.Run.{EndsAfterLines, EndsAtHeader, EndsIn, LogBegan, PassesHeader, WritesRows}
 use Rattle.zic_convert.specs.code.Halt.{IsCauseOfHalt, stop_of}
@@ -69,11 +69,11 @@ module _ {W : Type 0} (contents : W → Option (List ℕ)) where
   module _ (old new : Counts W) (layout : Layout) (releases : Releases) (most : ℕ) (known : Option (List ℕ)) where
     -- a header was not written whole
     pub halts_before : (own : List ℕ) → IfSome known (λ bytes. own ≡ header_read layout bytes) → IfSome known (λ bytes. fault_read layout releases.zones bytes ≡ None) → (why : RunStop)
-        → EndsAtHead contents old new (header_of layout.start (names_added layout releases.old) own) why → HaltsAtHead contents old new (by_of layout releases most None) known (halt.Stop why)
+        → EndsAtHead contents old new (ended layout.line_end (header_of layout.start (names_added layout releases.old) own)) why → HaltsAtHead contents old new (by_of layout releases most None) known (halt.Stop why)
     halts_before own is none stop.WriteFailed fails = (
       fails.failed,
       if_some known _ (λ column e. (
-        subst (λ (l : List ℕ). FailsWithin contents old new (header_of layout.start (names_added layout releases.old) l)) (for_some known _ column is e) fails,
+        subst (λ (l : List ℕ). FailsWithin contents old new (ended layout.line_end (header_of layout.start (names_added layout releases.old) l))) (for_some known _ column is e) fails,
         for_some known _ column none e,
       )),
     )
@@ -204,7 +204,7 @@ module _ (layout : Layout) (most : ℕ) (limit : Option ℕ) (known inside : Opt
 
   -- the rest of a column was converted, once its header was written
   module _ (releases : Releases) (left : Option (List ℕ)) (old mid new : Option (List ℕ)) (log last : Option (List RowNote))
-      (begins : IfSome inside (λ bytes. BeginsRows layout bytes left)) (head : IfSome inside (λ bytes. Appends old mid (header_of layout.start (names_added layout releases.old) (header_read layout bytes)))) where
+      (begins : IfSome inside (λ bytes. BeginsRows layout bytes left)) (head : IfSome inside (λ bytes. Appends old mid (ended layout.line_end (header_of layout.start (names_added layout releases.old) (header_read layout bytes))))) where
     begun_as : (P : List CsvRecord → Type 0) (Q : List ℕ → List CsvRecord → Type 0)
         → ((column : List ℕ) (row_records : List CsvRecord) → Appends old mid (own_line (by_of layout releases most limit) column) → P row_records → Q column row_records)
         → IfSome left (λ bytes. P (records_left layout bytes)) → IfSome known (λ column. (row_records : List CsvRecord) × AreRowRecords layout column row_records × Q column row_records)

@@ -2,12 +2,14 @@ pub mod Below
 pub mod Bytes
 pub mod Delimited
 pub mod Ends
+pub mod FieldNames
 pub mod Fronts
 pub mod Halts
 pub mod HeaderFaults
 pub mod Heads
 pub mod InMemory
 pub mod Joining
+pub mod LineEnds
 pub mod Logs
 pub mod SameNames
 pub mod Once

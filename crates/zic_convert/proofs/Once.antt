@@ -21,7 +21,7 @@ use Rattle.zic_layouts.specs.declared.row_field.RowField.{RowField}
 use Rattle.zic_zones.specs.declared.zones.Releases.{Releases}
 use Rattle.zic_base.specs.declared.row_fault.RowKind.{RowKind}
 use Rattle.zic_convert.specs.Laws.{AreSoundReleases, ColumnsConvertOnce}
-use Rattle.zic_piece_rows.specs.LayoutRows.{HasAnswer, RecordsConvertBy, IsAnswerAt, IsAnswerBy, IsMovedRow, IsRowAt, IsSoundAnswer, IsSoundRow, IsTextBy, IsWrittenWith, with_answer, empty_fields, ends_by, fault_by, fields_by, instant_by, keeps, row_fields, start_text}
+use Rattle.zic_piece_rows.specs.LayoutRows.{HasAnswer, RecordsConvertBy, IsAnswerAt, IsAnswerBy, IsMovedRow, IsRowAt, IsSoundAnswer, IsSoundRow, IsTextBy, IsWrittenBy, IsWrittenWith, with_answer, empty_fields, ended, ends_by, fault_by, field_by, fields_by, first_field, following_fields, instant_by, keeps, row_fields, start_text}
 use Rattle.zic_piece_rows.specs.Rows.{RecordsConvertTo, IsTextOf, fault_of}
 
 same_count : (a b : ℤ) → ◌≡◌ {A = Result ℤ RowKind} (Ok a) (Ok b) → a ≡ b
@@ -70,8 +70,11 @@ module _ (answers : FilesAnswerOnce) (files : List File) (sound : AreSoundFiles 
   one_text_by : (layout : Layout) (row_record : CsvRecord) (t u : List ℕ) → IsTextBy layout files row_record t → IsTextBy layout files row_record u → t ≡ u
   one_text_by layout row_record t u a b =
       let (file, input, count, state) = one_has layout row_record a.has b.has in
-      let start : start_text layout row_record.own a.has.file.name a.has.input ≡ start_text layout row_record.own b.has.file.name b.has.input = rw (file, input) refl in
-      let rest : fields_by layout (row_fields layout) a.has.file a.has.input a.has.count a.has.state ≡ fields_by layout (row_fields layout) b.has.file b.has.input b.has.count b.has.state = rw (file, input, count, state) refl in
+      let first = first_field layout in
+      let others = following_fields layout in
+      let start : start_text layout row_record.own a.has.file.name a.has.input (field_by layout first a.has.file a.has.input a.has.count a.has.state)
+      ≡ start_text layout row_record.own b.has.file.name b.has.input (field_by layout first b.has.file b.has.input b.has.count b.has.state) = rw (file, input, count, state) refl in
+      let rest : fields_by layout others a.has.file a.has.input a.has.count a.has.state ≡ fields_by layout others b.has.file b.has.input b.has.count b.has.state = rw (file, input, count, state) refl in
       a.is ∙ ap₂ (λ (x y : List ℕ). x ++ y) start rest ∙ sym b.is
 
   -- and the answer
@@ -140,6 +143,12 @@ module _ (answers : FilesAnswerOnce) (releases : Releases) (sound : AreSoundRele
   one_written layout None sound_old number row_record t u a b = one_row answers releases.zones sound.zones layout (fault_by layout releases.zones most number row_record) row_record t u a b
   one_written layout (Some old) sound_old number row_record t u a b = one_moved layout old sound_old number row_record t u a b
 
+  -- with the line end of rows
+  one_ended : (layout : Layout) (number : ℕ) (row_record : CsvRecord) (t u : List ℕ) → IsWrittenBy layout releases most number row_record t → IsWrittenBy layout releases most number row_record u → t ≡ u
+  one_ended layout number row_record t u a b =
+      let row = one_written layout releases.old sound.old number row_record a.row b.row a.is_row b.is_row in
+      a.is ∙ ap (ended layout.line_end) row ∙ sym b.is
+
   pub once_by : (layout : Layout) (number : ℕ) (row_records : List CsvRecord) (a b : List (List ℕ)) (fault other : Option RowKind)
       → RecordsConvertBy layout releases most number row_records a fault → RecordsConvertBy layout releases most number row_records b other → (a ≡ b) × (fault ≡ other)
   once_by layout number [] a b fault other come then = (come.0 ∙ sym then.0, come.1 ∙ sym then.1)
@@ -147,7 +156,7 @@ module _ (answers : FilesAnswerOnce) (releases : Releases) (sound : AreSoundRele
   once_by layout number (x ∷ xs) [] (u ∷ us) fault other come then = absurd (faultless fault (ends_by layout releases.zones most number x) come.0 come.1 then.0)
   once_by layout number (x ∷ xs) (t ∷ ts) [] fault other come then = absurd (faultless other (ends_by layout releases.zones most number x) then.0 then.1 come.0)
   once_by layout number (x ∷ xs) (t ∷ ts) (u ∷ us) fault other come then =
-      let first = one_written layout releases.old sound.old number x t u come.1 then.1 in
+      let first = one_ended layout number x t u come.1 then.1 in
       let rest = once_by layout (number + 1) xs ts us fault other come.2 then.2 in
       (ap (λ (l : List ℕ). l ∷ ts) first ∙ ap (λ (l : List (List ℕ)). u ∷ l) rest.0, rest.1)
 

@@ -16,7 +16,7 @@ use Rattle.zic_base.specs.declared.row_fault.RowKind.{RowKind}
 use Rattle.zic_base.specs.declared.row_fault.RowKind.TheVariants as kinds
 use Rattle.zic_base.specs.declared.stops.RunStop.{RunStop}
 use Rattle.zic_base.specs.declared.stops.RunStop.TheVariants as stop
-use Rattle.zic_piece_rows.specs.LayoutRows.{IsAnswerAt, IsRowAt, IsWrittenWith, empty_fields, ending, ends_by, fault_by, faulty_text, if_rejected, noted, row_fields, unless_rejected}
+use Rattle.zic_piece_rows.specs.LayoutRows.{IsAnswerAt, IsRowAt, IsWrittenWith, empty_fields, ended, ending, ends_by, fault_by, faulty_text, if_rejected, noted, row_fields, unless_rejected}
 use Rattle.zic_convert.specs.By.{By}
 use Rattle.zic_convert.specs.code.Pieces.{joined}
 use Rattle.zic_piece_rows.specs.PieceRows.{AreRowsOf, RowsOf, empty_rows}
@@ -41,9 +41,9 @@ module _ (layout : Layout) (releases : Releases) (most number : ℕ) (given : Cs
   pub one_ends : ending layout.at_fault layout.records (Some kind) ≡ Some kind → AreRowsOf layout releases most number (given ∷ []) (record { text = []; count = 0; fault = Some kind; faults = [] })
   one_ends ends =
       let rows : RowsOf = record { text = []; count = 0; fault = Some kind; faults = [] } in
-      let ended : ends_by layout releases.zones most (number + 0) given ≡ Some kind = ap (ending layout.at_fault layout.records) (here releases.zones) ∙ ends in
+      let ends_here : ends_by layout releases.zones most (number + 0) given ≡ Some kind = ap (ending layout.at_fault layout.records) (here releases.zones) ∙ ends in
       end_added layout releases most number [] given empty_rows rows (no_rows layout releases most number) refl
-      (subst (λ (end : Option RowKind). IsNextBy layout releases most (number + 0) given empty_rows rows end) (sym ended) refl) refl []
+      (subst (λ (end : Option RowKind). IsNextBy layout releases most (number + 0) given empty_rows rows end) (sym ends_here) refl) refl []
 
   -- what is written of a record whose row has a fault by any files
   faulty_written : (old : Option (List File)) → IsWrittenWith old layout releases.zones most (number + 0) given (unless_compared old (faulty_text layout kind given))
@@ -68,7 +68,7 @@ module _ (layout : Layout) (releases : Releases) (most number : ℕ) (given : Cs
 
   -- a record whose row has a fault
   pub one_faulty : ending layout.at_fault layout.records (Some kind) ≡ None
-      → AreRowsOf layout releases most number (given ∷ []) (record { text = unless_compared releases.old (faulty_text layout kind given); count = 1; fault = None; faults = record { fault = record { row = number; kind = kind }; own = if_rejected layout.at_fault given.own } ∷ [] })
+      → AreRowsOf layout releases most number (given ∷ []) (record { text = ended layout.line_end (unless_compared releases.old (faulty_text layout kind given)); count = 1; fault = None; faults = record { fault = record { row = number; kind = kind }; own = if_rejected layout.at_fault given.own } ∷ [] })
   one_faulty goes =
       let goes_on : ends_by layout releases.zones most (number + 0) given ≡ None = ap (ending layout.at_fault layout.records) (here releases.zones) ∙ goes in
       let noted_here : noted layout.at_fault (number + 0) given.own (fault_by layout releases.zones most (number + 0) given) ≡ noted layout.at_fault (number + 0) given.own (Some kind) =
@@ -76,11 +76,14 @@ module _ (layout : Layout) (releases : Releases) (most number : ℕ) (given : Cs
       let made_here : made number ≡ record (made number) { faults = noted layout.at_fault (number + 0) given.own (fault_by layout releases.zones most (number + 0) given) } =
       ap (λ (n : ℕ). made n) (sym at) ∙ ap (λ (l : List RowNote). record (made number) { faults = l }) (sym noted_here) in
       row_added layout releases most number [] given empty_rows (made number) (no_rows layout releases most number) refl
-      (subst (λ (end : Option RowKind). IsNextBy layout releases most (number + 0) given empty_rows (made number) end) (sym goes_on)
-      (unless_compared releases.old (faulty_text layout kind given), faulty_written releases.old, made_here)) refl
+      (subst (λ (end : Option RowKind). IsNextBy layout releases most (number + 0) given empty_rows (made number) end) (sym goes_on) (
+        ended layout.line_end (unless_compared releases.old (faulty_text layout kind given)),
+        record { row = unless_compared releases.old (faulty_text layout kind given); is_row = faulty_written releases.old; is = refl },
+        made_here,
+      )) refl
     where
       made : ℕ → RowsOf
-      made n = record { text = unless_compared releases.old (faulty_text layout kind given); count = 1; fault = None; faults = record { fault = record { row = n; kind = kind }; own = if_rejected layout.at_fault given.own } ∷ [] }
+      made n = record { text = ended layout.line_end (unless_compared releases.old (faulty_text layout kind given)); count = 1; fault = None; faults = record { fault = record { row = n; kind = kind }; own = if_rejected layout.at_fault given.own } ∷ [] }
 
 -- one row
 abbrev pub made_of : List ℕ → Option RowKind → List RowNote → RowsOf
@@ -211,7 +214,7 @@ module _ {W : Type 0} (contents : W → Option (List ℕ)) (old new : Counts W) 
 pub open_text : (layout : Layout) (files : List File) (most number : ℕ) (kind : RowKind) (own : List ℕ) → fault_by layout files most number (open_record own) ≡ Some kind → ending layout.at_fault layout.records (Some kind) ≡ None
     → faulty_text layout kind (open_record own) ≡ unless_rejected layout.at_fault (own ++ 10 ∷ [])
 open_text layout files most number kind own is goes =
-    let ended : (other : RowKind) → ending layout.at_fault layout.records (Some other) ≡ Some other → Some other ≡ Some kind → ⊥ =
+    let ends_it : (other : RowKind) → ending layout.at_fault layout.records (Some other) ≡ Some other → Some other ≡ Some kind → ⊥ =
     λ other ends e. (let same : other ≡ kind = cc e in let none : ending layout.at_fault layout.records (Some other) ≡ None = subst (λ (k : RowKind). ending layout.at_fault layout.records (Some k) ≡ None) (sym same) goes in cc (ends, none)) in
     elim (cases_Bool (nat_le number most)) [
       | inl below ↦ elim (cases_Bool (may_have layout.max_record (length own))) [
@@ -224,7 +227,7 @@ open_text layout files most number kind own is goes =
             let same : kinds.RowTooLong ≡ kind = cc e in
             subst (λ (k : RowKind). faulty_text layout k (open_record own) ≡ unless_rejected layout.at_fault (own ++ 10 ∷ [])) same refl
       ]
-      | inr beyond ↦ absurd (ended kinds.TooManyRows (too_many_ends layout.at_fault layout.records) (rw beyond at is))
+      | inr beyond ↦ absurd (ends_it kinds.TooManyRows (too_many_ends layout.at_fault layout.records) (rw beyond at is))
     ]
 
 pub same_rows : (text other : List ℕ) (fault : Option RowKind) (faults others : List RowNote) → text ≡ other → fault ≡ None → faults ≡ others

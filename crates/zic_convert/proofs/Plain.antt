@@ -32,7 +32,7 @@ use Rattle.zic_convert.specs.By.{By}
 use Rattle.zic_convert.specs.Column.{AreRowRecords, ConvertsBodyTo, ConvertsBy, ConvertsTo, read_by, records_read}
 use Rattle.zic_convert.specs.Laws.{PlainColumnsConvertAlike}
 use Rattle.zic_piece_rows.specs.Rows.{RecordsConvertTo, IsTextOf, fault_of, instant_in, is_closed, is_row_instant, name_in}
-use Rattle.zic_piece_rows.specs.LayoutRows.{RecordsConvertBy, IsRowAt, IsSoundRow, IsTextBy, count_in, ends_by, fault_by, fields_by, file_named, keeps, row_fields, start_text, time_by, ok_count, err_fault}
+use Rattle.zic_piece_rows.specs.LayoutRows.{RecordsConvertBy, IsRowAt, IsSoundRow, IsTextBy, count_in, ended, ends_by, fault_by, field_by, fields_by, file_named, first_field, following_fields, keeps, start_text, time_by, ok_count, err_fault}
 use Rattle.zic_convert.specs.code.Row.{fields_of_all}
 
 same_seconds : (o : Option ℤ) → option_map (second_of unit.Second) o ≡ o
@@ -64,11 +64,15 @@ row_in_parts u name count state = append_assoc name (44 ∷ signed_decimal count
 module _ (layout : Layout) (plain : HasPlainRows layout) (files : List File) where
   -- the text of a row that begins with a name and an instant, with commas
   plain_row_text : (own name : List ℕ) (count : ℤ) (state : Shown)
-      → (file : File) (input : ℤ) → start_text layout own name count ++ fields_by layout (row_fields layout) file input count state ≡ row_text name count state
-  plain_row_text own name count state file input =
+      → (file : File) (input : ℤ) (first : List ℕ) → start_text layout own name count first ++ fields_by layout (following_fields layout) file input count state ≡ row_text name count state
+  plain_row_text own name count state file input first =
       rw (plain.start, plain.fields, plain.delimiter, plain.from, plain.unit)
       (ap (λ (l : List ℕ). (name ++ 44 ∷ signed_decimal count) ++ l) (usual_fields 44 styles.Fields unit.Second count state [])
       ∙ row_in_parts unit.Second name count state ∙ counted_seconds name count state)
+
+  -- rows end with a line feed
+  plain_ended : (row : List ℕ) → ended layout.line_end row ≡ row
+  plain_ended row = rw plain.line_end refl
 
   -- no empty field is kept
   pub none_kept : (row_record : CsvRecord) → keeps layout row_record ≡ false
@@ -125,7 +129,7 @@ module _ (layout : Layout) (plain : HasPlainRows layout) (files : List File) whe
           state = is.state;
           answers = rw (plain.unit, second_one is.instant) is.answers;
         };
-        is = is.is ∙ sym (plain_row_text own is.file.name is.instant is.state is.file is.instant);
+        is = is.is ∙ sym (plain_row_text own is.file.name is.instant is.state is.file is.instant _);
       }
 
   -- and the other way round
@@ -133,6 +137,7 @@ module _ (layout : Layout) (plain : HasPlainRows layout) (files : List File) whe
   text_plainly row_record name field text two is =
       let says = rw (plain.time, plain.from, plain.unit, two, count_seconds field) at is.has.says in
       let same : is.has.input ≡ is.has.count = same_instant is.has.input is.has.count (rw plain.from at is.has.means) in
+      let first = field_by layout (first_field layout) is.has.file is.has.input is.has.count is.has.state in
       record {
         file = is.has.file;
         among = is.has.among;
@@ -142,8 +147,8 @@ module _ (layout : Layout) (plain : HasPlainRows layout) (files : List File) whe
         state = is.has.state;
         answers = subst (λ (t : ℤ). Answers is.has.file.image.content t (Some is.has.state)) (sym same) (rw (plain.unit, second_one is.has.count) at is.has.answers);
         is = is.is
-            ∙ ap (λ (t : ℤ). start_text layout row_record.own is.has.file.name is.has.input ++ fields_by layout (row_fields layout) is.has.file is.has.input t is.has.state) (sym same)
-            ∙ plain_row_text row_record.own is.has.file.name is.has.input is.has.state is.has.file is.has.input;
+            ∙ ap (λ (t : ℤ). start_text layout row_record.own is.has.file.name is.has.input first ++ fields_by layout (following_fields layout) is.has.file is.has.input t is.has.state) (sym same)
+            ∙ plain_row_text row_record.own is.has.file.name is.has.input is.has.state is.has.file is.has.input first;
       }
 
   -- a record without a fault has two fields
@@ -161,8 +166,11 @@ module _ (layout : Layout) (plain : HasPlainRows layout) (files : List File) whe
   come_plainly most number (row_record ∷ row_records) (text ∷ texts) fault come =
       let sound = sym (plain_ends most number row_record) ∙ come.0 in
       let two = two_of most number row_record.fields sound in
-      let row = subst (λ (b : Bool). IsSoundRow b layout files row_record text) (none_kept row_record)
-      (subst (λ (o : Option RowKind). IsRowAt layout files o row_record text) (plain_fault most number row_record ∙ sound) come.1) in
+      let written = come.1 in
+      let same : text ≡ written.row = written.is ∙ plain_ended written.row in
+      let made = subst (λ (b : Bool). IsSoundRow b layout files row_record written.row) (none_kept row_record)
+      (subst (λ (o : Option RowKind). IsRowAt layout files o row_record written.row) (plain_fault most number row_record ∙ sound) written.is_row) in
+      let row = subst (λ (l : List ℕ). IsTextBy layout files row_record l) (sym same) made in
       (sound, text_plainly row_record two.0 two.1 text two.2 row, come_plainly most (number + 1) row_records texts fault come.2)
 
   -- and the other way round
@@ -174,7 +182,12 @@ module _ (layout : Layout) (plain : HasPlainRows layout) (files : List File) whe
       let two = two_of most number row_record.fields come.0 in
       let row = text_by row_record.own row_record.fields two.0 two.1 text two.2 come.1 in (
         plain_ends most number row_record ∙ come.0,
-        subst (λ (o : Option RowKind). IsRowAt layout files o row_record text) (sym (plain_fault most number row_record ∙ come.0)) (subst (λ (b : Bool). IsSoundRow b layout files row_record text) (sym (none_kept row_record)) row),
+        record {
+          row = text;
+          is_row = subst (λ (o : Option RowKind). IsRowAt layout files o row_record text) (sym (plain_fault most number row_record ∙ come.0))
+              (subst (λ (b : Bool). IsSoundRow b layout files row_record text) (sym (none_kept row_record)) row);
+          is = sym (plain_ended text);
+        },
         come_by most (number + 1) row_records texts fault come.2,
       )
 

@@ -5,6 +5,7 @@ use Rattle.zic_files.specs.File.{File}
 use Rattle.zic_layouts.specs.declared.layout.Layout.{Layout}
 use Rattle.zic_zones.specs.Zones.{OldAgree, ReleasesAgree}
 use Rattle.zic_zones.specs.declared.zones.Releases.{Releases}
+use Rattle.zic_piece_rows.specs.LayoutRows.{ended}
 use Rattle.zic_convert.specs.Column.{names_added, names_line, names_of, time_name}
 
 -- They are the same by the files that are known and by those that rows are made by: both have another release, or neither has.
@@ -20,4 +21,4 @@ module _ {settled : List ℕ → Type 0} {known releases : Releases} (are : Rele
 
   -- and so is the line of names
   pub same_line : names_line layout known.old ≡ names_line layout releases.old
-  same_line = ap (λ (l : List ℕ). names_of layout.start layout.header (codes "zone" ++ layout.delimiter ∷ (time_name layout.from ++ (l ++ 10 ∷ [])))) same_names
+  same_line = ap (λ (l : List ℕ). ended layout.line_end (names_of layout.start layout.header (codes "zone" ++ layout.delimiter ∷ (time_name layout.from ++ (l ++ 10 ∷ []))))) same_names

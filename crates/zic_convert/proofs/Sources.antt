@@ -42,10 +42,10 @@ use Rattle.zic_convert.proofs.Totals.{all_come}
 
 module _ (alike : PlainColumnsConvertAlike) (layout : Layout) (plain : HasPlainRows layout) (none : layout.header ≡ header.Absent) (files : List File) (most : ℕ) where
   pub no_header : (column : List ℕ) → header_text (by_of layout (alone files) most None) column ≡ []
-  no_header column = rw (plain.start, none) refl
+  no_header column = rw (plain.start, none, plain.line_end) refl
 
   no_names : names_line layout None ≡ []
-  no_names = rw (plain.start, none) refl
+  no_names = rw (plain.start, none, plain.line_end) refl
 
   -- a column without a header has no fault there
   pub headless : (column : List ℕ) → fault_read layout files (read_by layout column) ≡ None

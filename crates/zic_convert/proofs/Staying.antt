@@ -229,7 +229,7 @@ module _ (known releases : Releases) (keeps : KeepsBoth known releases) (layout 
       let here = All-head (AreKnownZones layout.zone known releases) w row_records only in
       let same = first_same number w here in (
         ap (ending layout.at_fault layout.records) (sym same) ∙ come.0,
-        written_same known.old releases.old keeps.old number w text here.0 here.1 come.1,
+        record { row = come.1.row; is_row = written_same known.old releases.old keeps.old number w come.1.row here.0 here.1 come.1.is_row; is = come.1.is },
         come_same (number + 1) row_records texts fault (All-tail (AreKnownZones layout.zone known releases) w row_records only) come.2,
       )
 

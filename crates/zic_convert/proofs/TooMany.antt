@@ -15,7 +15,7 @@ use Rattle.zic_layouts.specs.Noted.{RowNote}
 use Rattle.zic_base.specs.declared.row_fault.RowFault.{RowFault}
 use Rattle.zic_base.specs.declared.row_fault.RowKind.{RowKind}
 use Rattle.zic_base.specs.declared.row_fault.RowKind.TheVariants as kinds
-use Rattle.zic_piece_rows.specs.LayoutRows.{RecordsConvertBy, IsAnswerAt, IsRowAt, IsWrittenWith, empty_fields, ending, ends_by, fault_by, faults_by, if_rejected, noted, row_fields}
+use Rattle.zic_piece_rows.specs.LayoutRows.{RecordsConvertBy, IsAnswerAt, IsRowAt, IsWrittenBy, IsWrittenWith, empty_fields, ending, ends_by, fault_by, faults_by, if_rejected, noted, row_fields}
 use Rattle.zic_convert.specs.By.{By, by_of}
 use Rattle.zic_convert.specs.Run.{AreFew, IsOneTooMany, Notes}
 use Rattle.zic_piece_rows.specs.PieceRows.{AreRowsOf, RowsOf}
@@ -160,6 +160,10 @@ module _ (layout : Layout) (releases : Releases) where
     moved = is.moved;
   }
 
+  -- with its line end
+  ended_low : (most low number : ℕ) (x : CsvRecord) (t : List ℕ) → number ≤ low → low ≤ most → IsWrittenBy layout releases low number x t → IsWrittenBy layout releases most number x t
+  ended_low most low number x t may less is = record { row = is.row; is_row = written_low most low number x is.row may less releases.old is.is_row; is = is.is }
+
   ends_low : (most low number : ℕ) (x : CsvRecord) → number ≤ low → low ≤ most → ends_by layout releases.zones low number x ≡ ends_by layout releases.zones most number x
   ends_low most low number x may less = ap (ending layout.at_fault layout.records) (fault_low most low number x may less)
 
@@ -176,7 +180,7 @@ module _ (layout : Layout) (releases : Releases) where
   come_low most low number (x ∷ xs) (t ∷ texts) fault less come =
       let may = within layout releases low number x come.0 in (
         sym (ends_low most low number x may less) ∙ come.0,
-        written_low most low number x t may less releases.old come.1,
+        ended_low most low number x t may less come.1,
         come_low most low (number + 1) xs texts fault less come.2,
       )
 
@@ -286,7 +290,7 @@ module _ (layout : Layout) (releases : Releases) where
             ended = cut_rest.ended;
             long = omega (arith, cut_rest.long);
             noted = rw low_come.0 (ap₂ (λ (f : Option RowKind) (l : List RowNote). noted layout.at_fault number x.own f ++ l) same cut_rest.noted ∙ sym then.is);
-            come = (come.0, written_low most low number x c may less releases.old low_come.1, cut_rest.come);
+            come = (come.0, ended_low most low number x c may less low_come.1, cut_rest.come);
           }
 
       -- there are such rows

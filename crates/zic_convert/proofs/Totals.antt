@@ -19,7 +19,7 @@ use Rattle.zic_base.specs.declared.row_fault.RowKind.{RowKind}
 use Rattle.zic_base.specs.declared.row_fault.RowKind.TheVariants as kind
 use Rattle.zic_zones.specs.Zones.{is_named, number_of, zone_in}
 use Rattle.zic_piece_rows.specs.Rows.{is_row_instant}
-use Rattle.zic_piece_rows.specs.LayoutRows.{HasAnswer, RecordsConvertBy, IsAnswer, IsAnswerAt, IsRowAt, IsRowBy, IsSoundAnswer, IsSoundRow, IsWrittenWith, empty_fields, with_answer, count_in, ends_by, fault_by, faulty_text, fields_by, has_right_quotes, instant_by, keeps, row_fields, start_text, time_by, time_in, timeless_text, ok_count, err_fault}
+use Rattle.zic_piece_rows.specs.LayoutRows.{HasAnswer, RecordsConvertBy, IsAnswer, IsAnswerAt, IsRowAt, IsRowBy, IsSoundAnswer, IsSoundRow, IsWrittenWith, empty_fields, with_answer, count_in, ended, ends_by, fault_by, faulty_text, field_by, fields_by, first_field, following_fields, has_right_quotes, instant_by, keeps, row_fields, start_text, time_by, time_in, timeless_text, ok_count, err_fault}
 use Rattle.zic_piece_rows.specs.PieceRows.{AreRowsOf, RowsOf}
 use Rattle.zic_piece_rows.proofs.Coming.{come_after, come_more}
 use Rattle.zic_piece_rows.proofs.MadeTexts.{among}
@@ -92,8 +92,11 @@ module _ (layout : Layout) (files : List File) (most : ℕ) (known : All IsKnown
   have_sound : (number : ℕ) (row_record : CsvRecord) → fault_by layout files most number row_record ≡ None → (kept : Bool) → keeps layout row_record ≡ kept → (text : List ℕ) × IsSoundRow kept layout files row_record text
   have_sound number row_record none true e = (timeless_text layout.start layout row_record, refl)
   have_sound number row_record none false e =
-      let has = have_text number row_record e none in
-      (start_text layout row_record.own has.file.name has.input ++ fields_by layout (row_fields layout) has.file has.input has.count has.state, record { has = has; is = refl })
+      let has = have_text number row_record e none in (
+        start_text layout row_record.own has.file.name has.input (field_by layout (first_field layout) has.file has.input has.count has.state)
+            ++ fields_by layout (following_fields layout) has.file has.input has.count has.state,
+        record { has = has; is = refl },
+      )
 
   have_sound_answer : (fields : List RowField) (without : List ℕ) (number : ℕ) (row_record : CsvRecord) → fault_by layout files most number row_record ≡ None → (kept : Bool) → keeps layout row_record ≡ kept
       → (answer : List ℕ) × IsSoundAnswer kept layout fields without files row_record answer
@@ -142,7 +145,7 @@ module _ (layout : Layout) (releases : Releases) (most : ℕ) (known : All IsKno
   row_first number row_record row_records (Some k) e rest = ([], Some k, (sym e, refl))
   row_first number row_record row_records None e rest =
       let (text, is) = have_written number row_record releases.old known.1 in
-      (text ∷ rest.0, rest.1, (e, is, rest.2))
+      (ended layout.line_end text ∷ rest.0, rest.1, (e, record { row = text; is_row = is; is = refl }, rest.2))
 
   -- what all records come to
   pub all_come : (number : ℕ) (row_records : List CsvRecord) → (texts : List (List ℕ)) × (last : Option RowKind) × RecordsConvertBy layout releases most number row_records texts last

@@ -28,7 +28,7 @@ use Rattle.zic_layouts.specs.declared.layout.TimeFrom.{TimeFrom}
 use Rattle.zic_layouts.specs.declared.layout.TimeFrom.TheVariants as from
 use Rattle.zic_base.specs.declared.row_fault.RowKind.{RowKind}
 use Rattle.zic_piece_rows.specs.Rows.{RecordsConvertTo}
-use Rattle.zic_piece_rows.specs.LayoutRows.{RecordsConvertBy, if_rejected}
+use Rattle.zic_piece_rows.specs.LayoutRows.{RecordsConvertBy, ended, following, if_rejected}
 use Rattle.zic_convert.specs.By.{By}
 
 -- The texts of a column's rows up to the first that has a fault, and that fault, or none. Rows count from 1, and there may be at most
@@ -114,11 +114,12 @@ abbrev pub names_after : Option (List File) → List (List ℕ) → List (List �
 names_after None names = []
 names_after (Some old) names = map (λ name. codes "old_" ++ name) names
 
--- the names of all fields that a row by a layout adds to its record, each with the layout's prefix and after the delimiter
+-- The names of all fields that a row by a layout adds to its record, each with the layout's prefix and after the delimiter. A field in the
+-- place of the time's has that one's name.
 abbrev pub names_added : Layout → Option (List File) → List ℕ
 names_added layout old =
     let names : List (List ℕ) = added_names layout.fields layout.from in
-    delimited layout.delimiter (map (λ name. layout.prefix ++ name) (names ++ names_after old names))
+    delimited layout.delimiter (map (λ name. layout.prefix ++ name) (following layout.start names ++ names_after old names))
 
 -- the line of the names of all fields of rows that begin with a zone's name
 abbrev pub row_names : Layout → Option (List File) → List ℕ
@@ -142,15 +143,16 @@ header_read layout bytes = own_header layout.header (texts_read layout bytes)
 -- a column's header with those names, where rows begin with their records; a record has a byte or more
 abbrev pub header_of : RowStart → List ℕ → List ℕ → List ℕ
 header_of start.Record names (byte ∷ own) = (byte ∷ own) ++ (names ++ 10 ∷ [])
+header_of start.Replaced names (byte ∷ own) = (byte ∷ own) ++ (names ++ 10 ∷ [])
 header_of _ names _ = []
 
 -- what is written before a column is read: the line of names, or nothing
 abbrev pub names_line : Layout → Option (List File) → List ℕ
-names_line layout old = names_of layout.start layout.header (row_names layout old)
+names_line layout old = ended layout.line_end (names_of layout.start layout.header (row_names layout old))
 
 -- and once its header was read
 abbrev pub own_line : By → List ℕ → List ℕ
-own_line by column = header_of by.layout.start (names_added by.layout by.releases.old) (header_read by.layout (read_by by.layout column))
+own_line by column = ended by.layout.line_end (header_of by.layout.start (names_added by.layout by.releases.old) (header_read by.layout (read_by by.layout column)))
 
 -- the own bytes of the column's header, where there is one that is written and records are rejected, for the log of these
 abbrev pub rejects_header : Layout → List ℕ → List ℕ

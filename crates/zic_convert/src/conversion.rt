@@ -11,7 +11,7 @@ ghost use Rattle.zic_counted.specs.Counts.{HasFailedSince};
 ghost use Rattle.zic_layouts.specs.declared.plan.TheConstants.{MAX_ROWS};
 ghost use Rattle.zic_zones.specs.Zones.{zone_in};
 ghost use Rattle.zic_zones.specs.declared.zones.Releases.{Releases};
-ghost use Rattle.zic_piece_rows.specs.LayoutRows.{if_rejected};
+ghost use Rattle.zic_piece_rows.specs.LayoutRows.{ended, if_rejected};
 ghost use Rattle.zic_convert.specs.By.{by_of};
 ghost use Rattle.zic_convert.specs.Column.{header_of, header_read, names_added, names_line, rejects_header};
 ghost use Rattle.zic_convert.specs.Header.{fault_read};
@@ -405,8 +405,8 @@ fn begin_rows<Z: Zones, R: Read + Drop, W: Write, L: RowLog>(
     ensures head { IfOk result (λ _. (releases : Releases) → Z.may_be zones.new releases
         → IfSome (R.remaining reader) (λ bytes.
         Appends (W.contents writer.old.inner) (W.contents writer.new.inner)
-        (header_of by.now.layout.now.start (names_added by.now.layout.now releases.old)
-        (header_read by.now.layout.now bytes)))) }
+        (ended by.now.layout.now.line_end (header_of by.now.layout.now.start
+        (names_added by.now.layout.now releases.old) (header_read by.now.layout.now bytes))))) }
     ensures grown { IfOk result (λ _. Z.grown zones.old zones.new) }
     ensures none { IfOk result (λ _. (releases : Releases) → Z.may_be zones.new releases
         → IfSome (R.remaining reader)

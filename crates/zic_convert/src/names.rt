@@ -3,10 +3,12 @@
 ghost use Rattle.std.specs.Prelude.{◌≡◌, ◌+◌, ◌≤◌, ◌++◌, ◌∷◌, length, map};
 ghost use Rattle.arrayvec.specs.ArrayVec.{array_vec_len};
 ghost use Rattle.zic_convert.specs.Column.{added_names, delimited, field_name, name_among, names_added, row_names, time_name};
+ghost use Rattle.zic_layouts.specs.declared.field_list.TheConstants.{MAX_FIELDS};
 ghost use Rattle.zic_layouts.specs.declared.prefix.TheConstants.{MAX_PREFIX};
+ghost use Rattle.zic_piece_rows.specs.LayoutRows.{ended, following};
 
 use arrayvec::ArrayVec;
-use zic_layouts::{Layout, MAX_PREFIX, RowField, RowFields, Style, TimeFrom};
+use zic_layouts::{Layout, MAX_PREFIX, RowField, RowFields, RowStart, Style, TimeFrom};
 use zic_zones::RowZones;
 
 /// The room for a line of names, in bytes: sixteen names of 81 with their delimiters, and 40 more.
@@ -78,18 +80,32 @@ fn push_name(text: &mut Names, start: NameStart<'_>, name: &[u8])
     text.try_extend_from_slice(name).unwrap();
 }
 
-/// Appends the names of the fields that a row adds to its record, each after the same.
-fn push_names(text: &mut Names, start: NameStart<'_>, layout: &Layout)
+/// Appends the names of some fields of a layout's rows, each after the same.
+fn push_names(text: &mut Names, start: NameStart<'_>, layout: &Layout, fields: &[RowField])
     requires room { array_vec_len text.old + 648 ≤ NAMES_ROOM }
     requires prefix { length start.prefix.now ≤ MAX_PREFIX }
     requires release { length start.release.now ≤ 4 }
+    requires few { length fields.now ≤ MAX_FIELDS }
     ensures items { text.new.items ≡ text.old.items ++ delimited start.entry.delimiter
         (map (λ name. start.entry.prefix.now ++ (start.entry.release.now ++ name))
-        (added_names layout.now.fields layout.now.from)) }
+        (map (name_among layout.now.fields layout.now.from) fields.now)) }
     ensures len { array_vec_len text.new ≤ array_vec_len text.old + 648 }
 {
-    for field in layout.fields.fields(layout.from) {
+    for field in fields {
         push_name(text, start, name_among(layout, *field));
+    }
+}
+
+/// Returns those fields that follow what a layout's rows begin with.
+fn following(start: RowStart, fields: &[RowField]) -> &[RowField]
+    ensures { result.now ≡ following start fields.now }
+{
+    match start {
+        RowStart::Fields | RowStart::Record => fields,
+        RowStart::Replaced => match fields.get(1..) {
+            Some(others) => others,
+            None => &[],
+        },
     }
 }
 
@@ -114,22 +130,29 @@ pub(crate) fn push_added(text: &mut Names, layout: &Layout, old: &Option<RowZone
     ensures items { text.new.items ≡ text.old.items ++ names_added layout.now old.now }
     ensures len { array_vec_len text.new ≤ array_vec_len text.old + 1296 }
 {
-    push_names(text, name_start(layout, b""), layout);
+    let fields = layout.fields.fields(layout.from);
+    push_names(
+        text,
+        name_start(layout, b""),
+        layout,
+        following(layout.start, fields),
+    );
     match old {
         None => {}
-        Some(_) => push_names(text, name_start(layout, b"old_"), layout),
+        Some(_) => push_names(text, name_start(layout, b"old_"), layout, fields),
     }
 }
 
-/// Returns the line of the names of all fields of rows that begin with a zone's name.
+/// Returns the line of the names of all fields of rows that begin with a zone's name, with the line end of
+/// rows.
 pub(crate) fn row_names(layout: &Layout, old: &Option<RowZones<'_>>) -> Names
-    ensures { result.items ≡ row_names layout.now old.now }
+    ensures { result.items ≡ ended layout.now.line_end (row_names layout.now old.now) }
 {
     let mut text = Names::new();
     text.try_extend_from_slice(b"zone").unwrap();
     text.push(layout.delimiter.byte());
     text.try_extend_from_slice(time_name(layout.from)).unwrap();
     push_added(&mut text, layout, old);
-    text.push(b'\n');
+    text.try_extend_from_slice(layout.line_end.bytes()).unwrap();
     text
 }

@@ -4,7 +4,7 @@ ghost use Rattle.std.specs.Prelude.{◌≡◌, ◌++◌, ◌∷◌, [], IfOk, On
 
 use std::alloc::{AllocError, Global};
 use std::marker::Model;
-use zic_layouts::{FaultDetail, FaultyRow, Noted, RowLog};
+use zic_layouts::{FaultDetail, FaultyRow, Noted, RowLog, ZoneTally};
 
 /// A log that keeps rows with a fault. Clauses see what was noted, also where memory to keep it was refused.
 #[derive(Drop)]
@@ -66,6 +66,8 @@ impl RowLog for Notes {
         self.noted = self.noted.and(row);
         self.is_short = self.is_short || add(self.alloc, &mut self.faults, row).is_err();
     }
+
+    fn tally(&mut self, _tally: &ZoneTally) {}
 
     fn flush(&mut self) -> bool {
         true

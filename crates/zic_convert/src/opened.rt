@@ -3,6 +3,7 @@
 ghost use Rattle.std.specs.Prelude.{◌≡◌, ◌+◌, ◌≤◌, ◌∷◌, ◌++◌, [], List, IfOk, IfErr, IsErrOf, Some};
 ghost use Rattle.zic_columns.specs.Lines.{open_record};
 ghost use Rattle.zic_files.specs.File.{File};
+ghost use Rattle.zic_layouts.specs.Layout.{line_end_bytes};
 ghost use Rattle.zic_layouts.specs.declared.plan.TheConstants.{MAX_ROWS};
 ghost use Rattle.zic_convert.specs.By.{by_of};
 ghost use Rattle.zic_convert.specs.code.Row.{unless_compared};
@@ -47,12 +48,12 @@ fn open_text(
     line: &[u8],
 ) -> Result<Vec<u8>, AllocError>
     ensures { IfOk result (λ text. text.items ≡ unless_compared old.now
-        (unless_rejected layout.now.at_fault (line.now ++ 10 ∷ []))) }
+        (unless_rejected layout.now.at_fault (line.now ++ line_end_bytes layout.now.line_end))) }
 {
     let mut text = Vec::new(alloc);
     match (layout.at_fault, old) {
         (AtFault::Reject, _) | (_, Some(_)) => {}
-        (AtFault::End | AtFault::GoOn, None) => push_own(&mut text, line, b"")?,
+        (AtFault::End | AtFault::GoOn, None) => push_own(&mut text, line, b"", layout.line_end)?,
     }
     Ok(text)
 }

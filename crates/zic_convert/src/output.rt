@@ -3,12 +3,13 @@
 ghost use Rattle.std.specs.Prelude.{◌≡◌, ◌+◌, ◌^◌, ◌<◌, [], IfOk, OnOk, IfErr, IsErrOf};
 ghost use Rattle.zic_counted.specs.Written.{FailsWithin};
 ghost use Rattle.zic_layouts.specs.declared.layout.RowStart.TheVariants as start;
+ghost use Rattle.zic_piece_rows.specs.LayoutRows.{ended};
 ghost use Rattle.zic_convert.specs.By.{by_of};
 ghost use Rattle.zic_convert.specs.Column.{header_of, names_added, names_line, names_of};
 ghost use Rattle.zic_convert.specs.code.Pieces.{joined};
 ghost use Rattle.zic_convert.specs.code.Written.{EndsAtHead, EndsInPieces, IsStopAt, Wrote, WroteRows, writing};
 
-use crate::log::note_all;
+use crate::log::{note_all, tally_all};
 use crate::names::{Names, push_added, row_names};
 use std::alloc::AllocError;
 use std::io::Write;
@@ -18,15 +19,16 @@ use zic_layouts::{Header, Layout, RowLog, RowStart};
 use zic_piece_rows::Rows;
 use zic_zones::{RowZones, Zones};
 
-/// Adds the names of the fields that a row adds to its record, and a newline, to the own bytes of a
-/// header. Does nothing where there is no header.
+/// Adds the names of the fields that a row adds to its record, and the line end of rows, to the own bytes
+/// of a header. Does nothing where there is no header.
 fn add_names(
     line: &mut Vec<u8>,
     layout: &Layout,
     old: &Option<RowZones<'_>>,
 ) -> Result<(), AllocError>
     ensures { OnOk result (line.new.items
-        ≡ header_of start.Record (names_added layout.now old.now) line.old.items) }
+        ≡ ended layout.now.line_end
+        (header_of start.Record (names_added layout.now old.now) line.old.items)) }
 {
     if line.is_empty() {
         return Ok(());
@@ -34,8 +36,7 @@ fn add_names(
     let mut names = Names::new();
     push_added(&mut names, layout, old);
     line.extend_from_slice(names.as_slice())?;
-    line.push(b'\n')?;
-    Ok(())
+    line.extend_from_slice(layout.line_end.bytes())
 }
 
 /// Returns the header before rows, by the own bytes of the column's header. Returns no bytes where rows
@@ -50,7 +51,8 @@ fn header_line(
     own: Vec<u8>,
 ) -> Result<Vec<u8>, AllocError>
     ensures { IfOk result (λ line. line.items
-        ≡ header_of layout.now.start (names_added layout.now old.now) own.items) }
+        ≡ ended layout.now.line_end
+        (header_of layout.now.start (names_added layout.now old.now) own.items)) }
 {
     let mut line = own;
     match layout.start {
@@ -58,7 +60,7 @@ fn header_line(
             line.clear();
             Ok(line)
         }
-        RowStart::Record => {
+        RowStart::Record | RowStart::Replaced => {
             add_names(&mut line, layout, old)?;
             Ok(line)
         }
@@ -125,7 +127,7 @@ pub(crate) fn write_names<W: Write, Z: Zones>(
 }
 
 /// Writes the column's own header before rows that begin with their records, by the header's own bytes
-/// as [`header_line`] has them, and has the writer pass it on. Writes nothing where there is none.
+/// as [`header_line`] has them, and flushes the writer. Writes nothing where there is none.
 ///
 /// # Errors
 ///
@@ -136,10 +138,10 @@ pub(crate) fn write_header<W: Write>(
     old: &Option<RowZones<'_>>,
     own: Vec<u8>,
 ) -> Result<(), RunStop>
-    ensures ok { OnOk result (Wrote W.contents writer.old writer.new (header_of layout.now.start
-        (names_added layout.now old.now) own.items)) }
-    ensures err { IfErr result (EndsAtHead W.contents writer.old writer.new (header_of
-        layout.now.start (names_added layout.now old.now) own.items)) }
+    ensures ok { OnOk result (Wrote W.contents writer.old writer.new (ended layout.now.line_end
+        (header_of layout.now.start (names_added layout.now old.now) own.items))) }
+    ensures err { IfErr result (EndsAtHead W.contents writer.old writer.new (ended
+        layout.now.line_end (header_of layout.now.start (names_added layout.now old.now) own.items))) }
 {
     let Ok(line) = header_line(layout, old, own) else {
         return Err(RunStop::Memory);
@@ -187,6 +189,7 @@ pub(crate) fn write_rows<W: Write, L: RowLog>(
     for rows in pieces {
         write_all(writer, rows.text.bytes())?;
         note_all(log, &rows.faults);
+        tally_all(log, &rows.tallies);
         count += rows.count;
         if let Some(kind) = rows.fault {
             return Err(stop_at(writer, first + count, kind));

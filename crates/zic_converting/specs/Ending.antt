@@ -1,5 +1,5 @@
 -- How a conversion ends, and what is told of it: by what ended the rows, by the faults of rows after which the run went on, and by which of
--- its two lists, that of faults and that of their records, were written whole.
+-- its three lists, that of faults, that of their records and that of the rows of each zone, were written whole.
 use Rattle.std.specs.Prelude.{◌≡◌, ◌⊎◌, ◌==◌, ◌-◌, ◌^◌, ℕ, List, Bool, true, false, Option, None, Some, Result, Ok, Err, IsErrAnd, IsTrue, String, string_bytes, length, min, option_map, slice_get}
 use Rattle.std.specs.declared.alloc.Global.{Global}
 use Rattle.zic_base.specs.declared.row_fault.RowFault.{RowFault}
@@ -83,11 +83,12 @@ keeps_by (Some first) ended = false
 abbrev pub keeps_lists : Faults → Result (Unit {0}) Failure → Bool
 keeps_lists faults ended = keeps_by faults.first ended
 
--- the first list that was not written whole, by whether each was: that of faults comes before that of records
-abbrev pub first_unwritten : Bool → Bool → Option Unwritten
-first_unwritten false rejects = Some lists.Faults
-first_unwritten true false = Some lists.Rejects
-first_unwritten true true = None
+-- the first list that was not written whole, by whether each was: that of faults comes before that of records, and that of zones last
+abbrev pub first_unwritten : Bool → Bool → Bool → Option Unwritten
+first_unwritten false rejects summary = Some lists.Faults
+first_unwritten true false summary = Some lists.Rejects
+first_unwritten true true false = Some lists.Summary
+first_unwritten true true true = None
 
 -- a run reports that the list at this path can't be written, or that memory ran out
 abbrev pub IsUnwrittenAt : List ℕ → Result (Unit {0}) Failure → Type 0
@@ -115,6 +116,7 @@ abbrev pub path_of : ConvertOptions → Option Unwritten → Option (List ℕ)
 path_of order None = None
 path_of order (Some lists.Faults) = option_map string_bytes order.faults
 path_of order (Some lists.Rejects) = option_map string_bytes order.rejects
+path_of order (Some lists.Summary) = option_map string_bytes order.summary
 
 -- What a run reports that ended so after these faults, and what it tells behind that: a list may not be written whole, but where those of
 -- an earlier run stay as they are nothing is written to either.

@@ -56,7 +56,8 @@ impl ConvertContext {
 }
 
 /// Converts standard input to standard output, and reports the rows. Where the run goes on after
-/// faults, it writes them and their records to the files that are named for these, if any.
+/// faults, it writes them and their records to the files that are named for these, if any, and where rows
+/// are compared with another release, the numbers of rows of each zone to the file for these.
 ///
 /// # Errors
 ///
@@ -89,8 +90,8 @@ fn progress_line<E: IsTerminal + Drop>(progress: bool, errors: E) -> ProgressLin
     }
 }
 
-/// Converts standard input, and writes the lists of faults and of their records. A fault of the source, an
-/// unknown zone, a file that can't be read or lack of memory before the first fault leaves earlier lists as
+/// Converts standard input, and writes the lists of faults, of their records and of the rows of each zone. A
+/// fault of the source, an unknown zone, a file that can't be read or lack of memory before the first fault leaves earlier lists as
 /// they are. A list that can't be written is reported whatever ended the rows, and before it.
 fn convert_listed<
     R: Files + Input + Print + Clock + RandomSource + AllocGlobal + Threads + Wait + Sync,
@@ -122,6 +123,7 @@ fn convert_into<
 ) -> Result<(), Failure> {
     let mut lists = Lists::open(rt, order, reasons)?;
     let converted = convert_rows(rt, order, &mut *noted, line, &mut lists.list);
+    let converted = lists.unless_short(converted);
     end(order, noted, lists, converted)
 }
 
@@ -156,5 +158,6 @@ fn path_of(order: &ConvertOptions, unwritten: Option<Unwritten>) -> Option<&Stri
     match unwritten? {
         Unwritten::Faults => order.faults.as_ref(),
         Unwritten::Rejects => order.rejects.as_ref(),
+        Unwritten::Summary => order.summary.as_ref(),
     }
 }

@@ -55,6 +55,8 @@ pub(crate) enum Unwritten {
     Faults,
     /// That of their records.
     Rejects,
+    /// That of the rows of each zone.
+    Summary,
 }
 
 /// Returns how the rows ended, where the path of a file was noted that is there and can't be read, if there was one.
@@ -107,13 +109,14 @@ fn is_before_rows(ended: &Result<(), Failure>) -> bool
 }
 
 /// Returns the first list that was not written whole, by whether each was.
-pub(crate) fn first_unwritten(faults: bool, rejects: bool) -> Option<Unwritten>
-    ensures { result ≡ first_unwritten faults rejects }
+pub(crate) fn first_unwritten(faults: bool, rejects: bool, summary: bool) -> Option<Unwritten>
+    ensures { result ≡ first_unwritten faults rejects summary }
 {
-    match (faults, rejects) {
-        (false, _) => Some(Unwritten::Faults),
-        (true, false) => Some(Unwritten::Rejects),
-        (true, true) => None,
+    match (faults, rejects, summary) {
+        (false, _, _) => Some(Unwritten::Faults),
+        (true, false, _) => Some(Unwritten::Rejects),
+        (true, true, false) => Some(Unwritten::Summary),
+        (true, true, true) => None,
     }
 }
 

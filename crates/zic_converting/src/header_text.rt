@@ -10,7 +10,7 @@ const LEAST: usize = 65_536;
 
 /// Where a reader of CSV stands in a record.
 #[derive(Clone, Copy, Drop)]
-enum Place {
+pub(crate) enum Place {
     /// At the start of a field.
     Start,
     /// In a field, and not between double quotes.
@@ -22,7 +22,7 @@ enum Place {
 }
 
 /// Returns the place after a byte, or `None` where the byte ends the field.
-fn place_after(place: Place, byte: u8, delimiter: u8) -> Option<Place> {
+pub(crate) fn place_after(place: Place, byte: u8, delimiter: u8) -> Option<Place> {
     match (place, byte) {
         (Place::Start, b'"') | (Place::QuoteSeen, b'"') => Some(Place::Quoted),
         (Place::Quoted, b'"') => Some(Place::QuoteSeen),

@@ -1,4 +1,5 @@
-//! The lists of a conversion: the files for the faults of rows and for their records.
+//! The lists of a conversion: the files for the faults of rows, for their records, and for the numbers of rows
+//! of each zone.
 
 ghost use Rattle.std.specs.Prelude.{◌≡◌};
 ghost use Rattle.zic_converting.specs.Ending.{faults_in};
@@ -9,13 +10,14 @@ use std::io::{BufWriter, ErrorKind};
 use std::random::RandomSource;
 use zic_command_line::ConvertOptions;
 use zic_host::{Noting, WriteReason, random_number};
-use zic_io::{Failure, FaultList, ListFile};
+use zic_io::{Failure, FaultList, ListFile, ZoneTallies};
 
 /// Why the system refuses the lists of a conversion, as far as it is known.
 #[derive(Drop)]
 pub(crate) struct ListReasons {
     faults: WriteReason,
     rejects: WriteReason,
+    summary: WriteReason,
 }
 
 impl ListReasons {
@@ -24,12 +26,14 @@ impl ListReasons {
         ListReasons {
             faults: WriteReason::none(),
             rejects: WriteReason::none(),
+            summary: WriteReason::none(),
         }
     }
 
     /// Returns why the first list that is refused is, if one is, and removes that from the note.
     pub(crate) fn take(&self) -> Option<ErrorKind> {
-        self.faults.take().or(self.rejects.take())
+        let rejects_or_summary = self.rejects.take().or(self.summary.take());
+        self.faults.take().or(rejects_or_summary)
     }
 }
 
@@ -41,6 +45,8 @@ type ListWriter<'a, R> = BufWriter<Noting<'a, ListFile<'a, R>>>;
 #[derive(Drop)]
 pub(crate) struct Lists<'a, R: Files> {
     pub(crate) list: FaultList<ListWriter<'a, R>>,
+    /// The file for the numbers of rows of each zone.
+    summary: Option<ListWriter<'a, R>>,
 }
 
 impl<'a, R: Files + RandomSource + AllocGlobal> Lists<'a, R> {
@@ -54,15 +60,29 @@ impl<'a, R: Files + RandomSource + AllocGlobal> Lists<'a, R> {
         order: &ConvertOptions,
         reasons: &'a ListReasons,
     ) -> Result<Lists<'a, R>, Failure> {
-        let faults = list_file(rt, &order.faults, &reasons.faults)?;
-        match list_file(rt, &order.rejects, &reasons.rejects) {
-            Ok(rejects) => Ok(Lists {
-                list: FaultList::new(rt.alloc(), faults, rejects, order.fault_fields),
-            }),
+        let list = fault_list(rt, order, reasons)?;
+        match list_file(rt, &order.summary, &reasons.summary) {
+            Ok(summary) => Ok(Lists { list, summary }),
             Err(failure) => {
-                drop(faults);
+                drop(list);
                 Err(failure)
             }
+        }
+    }
+}
+
+/// Opens the files for faults and for their records.
+fn fault_list<'a, R: Files + RandomSource + AllocGlobal>(
+    rt: &'a R,
+    order: &ConvertOptions,
+    reasons: &'a ListReasons,
+) -> Result<FaultList<ListWriter<'a, R>>, Failure> {
+    let faults = list_file(rt, &order.faults, &reasons.faults)?;
+    match list_file(rt, &order.rejects, &reasons.rejects) {
+        Ok(rejects) => Ok(FaultList::new(rt.alloc(), faults, rejects, order.fault_fields)),
+        Err(failure) => {
+            drop(faults);
+            Err(failure)
         }
     }
 }
@@ -79,17 +99,46 @@ impl<R: Files> Lists<'_, R> {
         }
     }
 
+    /// Returns how rows ended, or that memory ran out where some of the numbers of rows are missing.
+    pub(crate) fn unless_short(&self, converted: Result<u64, Failure>) -> Result<u64, Failure> {
+        if self.list.tallies().is_short() {
+            drop(converted);
+            Err(Failure::Memory)
+        } else {
+            converted
+        }
+    }
+
     /// Has the files pass on what they hold back, and the system write it, and gives each that is whole its
     /// path. Returns the first that isn't, if there is one.
     pub(crate) fn finish(self) -> Option<Unwritten> {
-        let mut list = self.list;
+        let Lists { list, summary } = self;
+        let mut list = list;
         let has_faults = list.finish_faults();
         let has_rejects = list.finish_rejects();
+        let has_summary = has_summary(list.tallies(), summary);
         let (faults, rejects) = list.into_files();
         first_unwritten(
             has_faults && is_finished(faults),
             has_rejects && is_finished(rejects),
+            has_summary,
         )
+    }
+}
+
+/// Writes the numbers of rows of each zone to their file, if there is one, has the system write it, and gives
+/// it its path. Where some numbers are missing, the file is given up. Returns whether that succeeded.
+fn has_summary<R: Files>(tallies: &ZoneTallies, summary: Option<ListWriter<'_, R>>) -> bool {
+    let Some(file) = summary else {
+        return true;
+    };
+    if tallies.is_short() {
+        drop(file);
+        return true;
+    }
+    match tallies.written(file) {
+        Some(file) => is_finished(Some(file)),
+        None => false,
     }
 }
 

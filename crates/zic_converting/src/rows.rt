@@ -35,7 +35,7 @@ pub(crate) fn convert_rows<
     let head = mem::replace(&mut noted.head, Head::new(rt.alloc()));
     // What ended isn't read again: a terminal would go on.
     let most = if head.is_whole { 0 } else { u64::MAX };
-    let rest = rt.reader().take(most);
+    let rest = head.failing().chain(rt.reader().take(most));
     let column = head.reader(rt.alloc()).chain(rest);
     let mut input = Counted::new(FirstBytes::of(column, &mut noted.is_gzip));
     let mut output = Counted::new(progress(rt, &order.layout, &noted.reason, line));

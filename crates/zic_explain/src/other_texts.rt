@@ -94,8 +94,9 @@ const GROUP_1: [Entry; 6] = [
         name: "RowFields",
         meaning: "A record has too few or too many fields.",
         says: r#"  A record has too few or too many fields. There must be two, or one with
-  `--zone`; with `--zone-field`, `--time-field` or `--append` as many as are
-  read, or more. With `--keep-going` the row is the record as it stands.
+  `--zone`; with `--zone-field`, `--time-field`, `--append` or `--replace` as
+  many as are read, or more. With `--keep-going` the row is the record as it
+  stands.
 "#,
         expected: r#"  `NAME,SECONDS`, or the fields that `--zone`, `--zone-field` and `--time-field`
   name, with what `--delimiter` names between them.
@@ -485,9 +486,9 @@ const GROUP_5: [Entry; 6] = [
         name: "cannot write PATH",
         meaning: "The file at PATH, or a folder that it needs, can't be written.",
         says: r#"  The file at PATH, or a folder that it needs, can't be written. Status 3. PATH
-  may also be the file of `--faults` or `--rejects`. The files of all earlier
-  Zone and Link lines are in place; with `--links hard` or `symlink` all zones
-  come first.
+  may also be a file of `--faults`, `--rejects` or `--against-summary`. The
+  files of all earlier Zone and Link lines are in place; with `--links hard` or
+  `symlink` all zones come first.
 "#,
         expected: "  A folder that can be written to and has room. DIR must not be empty.\n",
         setup: SETUP_1,

@@ -7,8 +7,8 @@ use Rattle.zic_base.specs.RowFault.{row_kind_word}
 use Rattle.zic_base.specs.declared.row_fault.RowFault.{RowFault}
 use Rattle.zic_layouts.specs.Noted.{RowNote}
 use Rattle.zic_layouts.specs.declared.row_log.FaultDetail.{FaultDetail}
-use Rattle.zic_layouts.specs.declared.row_log.LineEnd.{LineEnd}
-use Rattle.zic_layouts.specs.declared.row_log.LineEnd.TheVariants as ends
+use Rattle.zic_layouts.specs.Layout.{line_end_bytes}
+use Rattle.zic_layouts.specs.declared.layout.LineEnd.{LineEnd}
 use Rattle.zic_io.specs.declared.fault_line.FaultFields.{FaultFields}
 
 -- the fault of a row that was noted, where there is one
@@ -41,11 +41,6 @@ fault_line fields fault detail = row_text default_writer (fault_fields fields fa
 -- the line of a fault that was noted, where line and value are left open
 abbrev pub IsFaultLine : FaultFields → RowNote → List ℕ → Type 0
 IsFaultLine fields note text = (detail : Option FaultDetail) × (text ≡ fault_line fields note.fault detail)
-
--- the bytes that end a line: a line feed, perhaps after a carriage return
-abbrev pub line_end_bytes : LineEnd → List ℕ
-line_end_bytes ends.Lf = 10 ∷ []
-line_end_bytes ends.CrLf = 13 ∷ 10 ∷ []
 
 -- the line of a record that was rejected, where its line end is left open: its own bytes, and the line end
 abbrev pub IsRecordLine : List ℕ → List ℕ → Type 0

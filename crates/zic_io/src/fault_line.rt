@@ -2,7 +2,8 @@
 
 ghost use Rattle.std.specs.Prelude.{◌≡◌, ◌∷◌, ◌++◌, [], List, decimal, is_some, ℕ, None, Option};
 ghost use Rattle.csv.specs.Writing.{default_writer, escaped, field_text, fields_text, needs_byte, needs_quotes};
-ghost use Rattle.zic_io.specs.Faults.{fault_line, field_if, header_line, line_end_bytes, line_field, value_field, IsFaultLine};
+ghost use Rattle.zic_layouts.specs.Layout.{line_end_bytes};
+ghost use Rattle.zic_io.specs.Faults.{fault_line, field_if, header_line, line_field, value_field, IsFaultLine};
 ghost use Rattle.zic_io.specs.code.FaultList.{Gets, GetsHeader, kept};
 
 use crate::list_output::ListOutput;
@@ -49,7 +50,7 @@ fn push_line<W: Write>(
 }
 
 /// Adds a number, in decimal.
-fn push_number<W: Write>(list: &mut ListOutput<W>, number: u64)
+pub(crate) fn push_number<W: Write>(list: &mut ListOutput<W>, number: u64)
     ensures grows { Gets W.contents (field_text default_writer (decimal number)) list.old list.new }
     ensures file { is_some list.new.file ≡ is_some list.old.file }
 {
@@ -92,7 +93,7 @@ fn push_value<W: Write>(list: &mut ListOutput<W>, fields: FaultFields, detail: &
 
 /// Adds a field of CSV: between double quotes where it has a comma, a double quote or a line end. RFC
 /// 4180, 2.6.
-fn push_field<W: Write>(list: &mut ListOutput<W>, field: &[u8])
+pub(crate) fn push_field<W: Write>(list: &mut ListOutput<W>, field: &[u8])
     ensures grows { Gets W.contents (field_text default_writer field.now) list.old list.new }
     ensures file { is_some list.new.file ≡ is_some list.old.file }
 {
@@ -147,10 +148,7 @@ pub(crate) fn push_record<W: Write>(list: &mut ListOutput<W>, own: &[u8], line_e
     ensures file { is_some list.new.file ≡ is_some list.old.file }
 {
     list.push(own);
-    match line_end {
-        LineEnd::Lf => list.push(b"\n"),
-        LineEnd::CrLf => list.push(b"\r\n"),
-    }
+    list.push(line_end.bytes());
 }
 
 /// Adds the line of a header, by its own bytes; nothing if it has none.

@@ -4,18 +4,19 @@ ghost use Rattle.std.specs.Prelude.{◌≡◌, IfSome};
 
 use crate::fault_line::{FaultFields, push_fault, push_header, push_header_at_first, push_record};
 use crate::list_output::ListOutput;
+use crate::zone_tallies::ZoneTallies;
 use std::alloc::Global;
 use std::io::Write;
 use std::marker::Model;
 use std::mem;
 use zic_base::RowFault;
-use zic_layouts::{FaultyRow, Noted, RowLog};
+use zic_layouts::{FaultyRow, Noted, RowLog, ZoneTally};
 
 /// Takes note of rows with a fault: counts them, keeps the first fault, and writes each into two files,
 /// where there are such. Into the one goes a line with the number of the row, the name of the fault
 /// and the requested fields, with commas between them, and into the other the record with its own
 /// line end. Before the first record stands the header, so a file without records has none, unless
-/// memory to keep the header was refused.
+/// memory to keep the header was refused. The numbers of rows of zones are kept beside that.
 #[derive(Drop)]
 pub struct FaultList<W: Write> {
     alloc: Global,
@@ -33,6 +34,8 @@ pub struct FaultList<W: Write> {
     noted: Noted,
     /// What the file of records held before these and the header.
     held: Noted,
+    /// The numbers of rows of zones. Clauses don't see them.
+    tallies: ZoneTallies,
 }
 
 impl<W: Write> Model for FaultList<W> {
@@ -50,7 +53,7 @@ impl<W: Write> Model for FaultList<W> {
 }
 
 impl<W: Write> FaultList<W> {
-    ghost use Rattle.std.specs.Prelude.{◌≡◌, ◌-◌, ◌^◌, [], ◌∷◌, ◌++◌, Some, length, min, option_map, slice_get, IsTrue, IsFalse};
+    ghost use Rattle.std.specs.Prelude.{◌≡◌, ◌⊎◌, ◌-◌, ◌^◌, [], ◌∷◌, ◌++◌, Some, length, min, option_map, slice_get, IsTrue, IsFalse};
     ghost use Rattle.zic_counted.specs.Counts.{Counts};
     ghost use Rattle.zic_io.specs.Faults.{fault_of, list_for, HasFailed, HasLines, HasRejects, IsSameList};
 
@@ -83,6 +86,7 @@ impl<W: Write> FaultList<W> {
             rejects: ListOutput::new(rejects),
             noted,
             held,
+            tallies: ZoneTallies::new(alloc),
         }
     }
 
@@ -98,6 +102,11 @@ impl<W: Write> FaultList<W> {
         ensures { result ≡ min (length self.now.noted) (2 ^ 64 - 1) }
     {
         self.count
+    }
+
+    /// Returns the numbers of rows of zones.
+    pub fn tallies(&self) -> &ZoneTallies {
+        &self.tallies
     }
 
     /// Flushes the file of faults. Returns true only if the lines of all faults
@@ -127,6 +136,30 @@ impl<W: Write> FaultList<W> {
         ensures faults { self.new.faults ≡ self.old.faults }
     {
         self.rejects.finish()
+    }
+
+    /// Flushes both files.
+    fn finish_both(&mut self)
+        ensures noted { self.new.noted ≡ self.old.noted }
+        ensures header { self.new.header ≡ self.old.header }
+        ensures fields { self.new.fields ≡ self.old.fields }
+        ensures faults { IsSameList self.old.faults self.new.faults }
+        ensures rejects { IsSameList self.old.rejects self.new.rejects }
+    {
+        let _ = self.faults.finish();
+        let _ = self.rejects.finish();
+        self.unflushed = false;
+    }
+
+    /// Returns true only if all lines and records were written, where there are files, and false only if a
+    /// failure of one was counted.
+    fn is_whole(&self) -> bool
+        ensures lines { IsTrue result → HasLines W.contents self.now }
+        ensures rejected { IsTrue result → HasRejects W.contents self.now }
+        ensures failed { IsFalse result
+            → HasFailed self.now.faults.file ⊎ HasFailed self.now.rejects.file }
+    {
+        !self.faults.has_failed && !self.rejects.has_failed
     }
 
     /// Returns the files.
@@ -184,6 +217,10 @@ impl<W: Write> RowLog for FaultList<W> {
         push_record(&mut self.rejects, &row.own, row.line_end);
     }
 
+    fn tally(&mut self, tally: &ZoneTally) {
+        self.tallies.add(tally);
+    }
+
     fn flush(&mut self) -> bool
         ensures whole { IsTrue result → HasLines W.contents self.new × HasRejects W.contents self.new }
         ensures failed { IsFalse result
@@ -195,11 +232,9 @@ impl<W: Write> RowLog for FaultList<W> {
         ensures rejects { IsSameList self.old.rejects self.new.rejects }
     {
         if self.unflushed {
-            let _ = self.faults.finish();
-            let _ = self.rejects.finish();
-            self.unflushed = false;
+            self.finish_both();
         }
-        !self.faults.has_failed && !self.rejects.has_failed
+        self.is_whole()
     }
 }
 

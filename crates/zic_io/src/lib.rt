@@ -23,6 +23,8 @@
 //!   gives just these fields (`fault_lines_read_back`, `FaultLinesReadBack`)
 //! - `Failure::status`, `run_failure`, `unknown_zone`: status, text and failure of each end of a
 //!   run (`status_of`, `failure_text`)
+//! - `FaultList::tallies`, `ZoneTallies::is_short`, `written`: no clause says which numbers of rows are
+//!   kept and written
 //! - `Disk`, `ZoneFolder`, `ListFile`, `followed`, `folder_of`, `Progress`: no contract says what a
 //!   file system holds: what `Disk::sync`, `reason` and `ListFile::open` and `finish` do, and what `Progress`
 //!   reports and its `finish` does, is tested
@@ -41,6 +43,7 @@ mod progress;
 mod sources;
 mod tree;
 mod zone_folder;
+mod zone_tallies;
 
 pub use failure::{Failure, run_failure, unknown_zone};
 pub use fault_line::FaultFields;
@@ -53,3 +56,4 @@ pub use progress::{Progress, ProgressLine};
 pub use sources::{read_file, read_sources};
 pub use tree::{Disk, Durability, Tree, Unplaced};
 pub use zone_folder::ZoneFolder;
+pub use zone_tallies::ZoneTallies;

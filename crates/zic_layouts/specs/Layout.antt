@@ -1,5 +1,5 @@
 -- How a column is read, and what its rows are: own choice.
-use Rattle.std.specs.Prelude.{◌≡◌, ℕ, Bool, None, string_bytes, ◌==◌, nat_le}
+use Rattle.std.specs.Prelude.{◌≡◌, ℕ, Bool, None, List, [], ◌∷◌, string_bytes, ◌==◌, nat_le}
 use Rattle.zic_layouts.specs.declared.layout.AtFault.TheVariants as at
 use Rattle.zic_layouts.specs.declared.layout.Layout.{Layout}
 use Rattle.zic_layouts.specs.declared.layout.EmptyTime.TheVariants as empty
@@ -8,6 +8,8 @@ use Rattle.zic_layouts.specs.declared.layout.FieldCount.TheVariants as fields
 use Rattle.zic_layouts.specs.declared.layout.Header.{Header}
 use Rattle.zic_layouts.specs.declared.layout.Header.TheVariants as header
 use Rattle.zic_layouts.specs.declared.layout.Records.TheVariants as by
+use Rattle.zic_layouts.specs.declared.layout.LineEnd.{LineEnd}
+use Rattle.zic_layouts.specs.declared.layout.LineEnd.TheVariants as ends
 use Rattle.zic_layouts.specs.declared.layout.Quotes.TheVariants as quotes
 use Rattle.zic_layouts.specs.declared.layout.RowStart.TheVariants as starts
 use Rattle.zic_layouts.specs.declared.layout.Style.TheVariants as styles
@@ -27,6 +29,11 @@ abbrev pub records_before : Header → ℕ
 records_before header.Absent = 0
 records_before header.First = 1
 records_before header.Skipped = 1
+
+-- the bytes of a line end
+abbrev pub line_end_bytes : LineEnd → List ℕ
+line_end_bytes ends.Lf = 10 ∷ []
+line_end_bytes ends.CrLf = 13 ∷ 10 ∷ []
 
 -- zones come from the same field, or are of the same name
 abbrev pub AreSameZones : ZoneFrom → ZoneFrom → Type 0
@@ -51,6 +58,7 @@ pub record HasPlainRows (layout : Layout) : Type 0 where
   pub quotes : layout.quotes ≡ quotes.Lenient
   pub max_record : layout.max_record ≡ None
   pub start : layout.start ≡ starts.Fields
+  pub line_end : layout.line_end ≡ ends.Lf
   pub fields : layout.fields ≡ rows.Usual styles.Fields
   pub empty : layout.empty ≡ empty.Fault
   pub at_fault : layout.at_fault ≡ at.End

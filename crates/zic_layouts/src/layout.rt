@@ -1,7 +1,7 @@
 //! How a column is read, and what its rows are.
 
 ghost use Rattle.std.specs.Prelude.{◌≡◌, [], IfOk};
-ghost use Rattle.zic_layouts.specs.Layout.{AreSameZones, HasPlainRows, IsUnkept, has_count};
+ghost use Rattle.zic_layouts.specs.Layout.{AreSameZones, HasPlainRows, IsUnkept, has_count, line_end_bytes};
 
 use crate::compared::Compared;
 use crate::delimiter::Delimiter;
@@ -122,6 +122,29 @@ pub enum RowStart {
     Fields,
     /// The bytes of its record, as they stand in the column, without its line end.
     Record,
+    /// The bytes of its record, with the first of the row's fields in the place of the time's.
+    Replaced,
+}
+
+/// How a line ends.
+#[derive(Clone, Copy, Debug, PartialEq, Eq)]
+pub enum LineEnd {
+    /// With a line feed.
+    Lf,
+    /// With a carriage return and a line feed.
+    CrLf,
+}
+
+impl LineEnd {
+    /// Returns the bytes of the line end.
+    pub fn bytes(self) -> &'static [u8]
+        ensures { result.now ≡ line_end_bytes self }
+    {
+        match self {
+            LineEnd::Lf => b"\n",
+            LineEnd::CrLf => b"\r\n",
+        }
+    }
 }
 
 /// How a row has its local time and its UT offset. The command line's `utc` is a list of fields.
@@ -191,6 +214,8 @@ pub struct Layout {
     pub max_record: Option<u64>,
     /// What a row begins with.
     pub start: RowStart,
+    /// How a row ends, and the header.
+    pub line_end: LineEnd,
     /// What the names of the fields begin with, in a header, that rows add.
     pub prefix: Prefix,
     /// Which fields a row has after its beginning.
@@ -203,6 +228,8 @@ pub struct Layout {
     pub at_fault: AtFault,
     /// What is noted of a row with a fault.
     pub notes: Notes,
+    /// Whether the rows of each zone are counted, where rows are compared with another release.
+    pub tallies: bool,
 }
 
 impl Layout {
@@ -242,6 +269,7 @@ impl Layout {
             header,
             max_record: None,
             start: RowStart::Fields,
+            line_end: LineEnd::Lf,
             prefix: Prefix::none(),
             fields: RowFields::Usual(Style::Fields),
             compared: Compared {
@@ -251,6 +279,7 @@ impl Layout {
             empty: EmptyTime::Fault,
             at_fault: AtFault::End,
             notes: Notes::Faults,
+            tallies: false,
         }
     }
 }

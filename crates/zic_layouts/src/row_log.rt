@@ -1,16 +1,8 @@
 //! Where rows with a fault are noted.
 
+use crate::layout::LineEnd;
 use std::marker::Model;
 use zic_base::RowFault;
-
-/// How the line of a rejected record ends.
-#[derive(Clone, Copy, Debug, PartialEq, Eq)]
-pub enum LineEnd {
-    /// With a line feed.
-    Lf,
-    /// With a carriage return and a line feed.
-    CrLf,
-}
 
 /// Where the record of a row with a fault begins, and what is wrong there. Clauses don't see this.
 #[derive(Debug, Drop)]
@@ -40,6 +32,16 @@ impl Model for FaultyRow {
     ghost view = { λ r. record { fault = r.fault; own = r.own.items } };
 }
 
+/// How many rows of a piece are in a zone, and how many of them another release answers differently.
+/// Clauses don't see this.
+#[derive(Debug, Drop)]
+pub struct ZoneTally {
+    /// The zone's name, as it stands in the column.
+    pub zone: Vec<u8>,
+    pub rows: u64,
+    pub differ: u64,
+}
+
 /// Takes note of rows with a fault, in their order.
 pub trait RowLog {
     ghost use Rattle.std.specs.Prelude.{◌≡◌, [], ◌∷◌, ℕ, List, Option, None, IfSome, IsFalse};
@@ -65,6 +67,11 @@ pub trait RowLog {
         ensures noted { Gains (noted self.old) (noted self.new) (row.now ∷ []) }
         ensures began { began self.new ≡ began self.old };
 
+    /// Adds to the numbers of rows of a zone.
+    fn tally(&mut self, tally: &ZoneTally)
+        ensures noted { noted self.new ≡ noted self.old }
+        ensures began { began self.new ≡ began self.old };
+
     /// Flushes the files, once the rows of a round were written. Returns false only if what was noted
     /// could not be written: the run then ends.
     fn flush(&mut self) -> bool
@@ -81,6 +88,8 @@ impl RowLog for Unnoted {
     fn begin(&mut self, _header: &[u8]) {}
 
     fn note(&mut self, _row: &FaultyRow) {}
+
+    fn tally(&mut self, _tally: &ZoneTally) {}
 
     fn flush(&mut self) -> bool {
         true

@@ -78,7 +78,12 @@ module _ (piece : Piece) (number : ℕ) (batch : PairBatch) (place : ℕ) where
       let (state, got, known) = at.state same.known in
       let (shows, has, knows) = at.others same.other in
       let alike : shows ≡ state = same_Some shows state (sym has ∙ sym same.same ∙ got) in
-      known_unmoved piece other given number of at.pair.split (at.may same.known) time ours theirs state (usual_unplaced piece.layout.now at.layout) known (subst (λ (s : Shown). IsKnown other given time theirs s) alike knows) refl
+      record {
+        row = [];
+        is_row = known_unmoved piece other given number of at.pair.split (at.may same.known) time ours theirs state (usual_unplaced piece.layout.now at.layout) known
+            (subst (λ (s : Shown). IsKnown other given time theirs s) alike knows) refl;
+        is = rw at.layout.line_end refl;
+      }
 
   -- it is passed
   pub pair_passed : (other : Option Piece) → IsSome other → IfSome other (IsOfPiece piece) → IsPairAt piece other number batch place → AreSameStates batch.shown batch.others place → (old new : RowsOf)

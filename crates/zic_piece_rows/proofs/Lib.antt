@@ -1,5 +1,7 @@
+pub mod Around
 pub mod Columns
 pub mod Coming
+pub mod LineEnds
 pub mod MoreRows
 pub mod NextRows
 mod PassedLines

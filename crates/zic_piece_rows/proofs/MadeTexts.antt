@@ -9,8 +9,8 @@ use Rattle.zic_files.specs.File.{File}
 use Rattle.zic_layouts.specs.declared.row_field.RowField.{RowField}
 use Rattle.zic_row_text.specs.Count.{second_of}
 use Rattle.zic_zones.specs.Zones.{AnswersAt, zone_in}
-use Rattle.zic_piece_rows.specs.LayoutRows.{HasAnswer, IsAnswerBy, IsTextBy, fields_by, start_text}
-use Rattle.zic_piece_rows.specs.code.Answer.{IsRowQuery, fields_in}
+use Rattle.zic_piece_rows.specs.LayoutRows.{HasAnswer, IsAnswerBy, IsTextBy, field_by, fields_by, first_field, following_fields, start_text}
+use Rattle.zic_piece_rows.specs.code.Answer.{IsRowQuery}
 use Rattle.zic_piece_rows.specs.code.Batch.{record_of}
 use Rattle.zic_piece_rows.specs.declared.piece.Piece.{Piece}
 use Rattle.zic_piece_rows.specs.declared.search.RowQuery.{RowQuery}
@@ -50,14 +50,16 @@ module _ (piece : Piece) (given : Record) (query : RowQuery) (state : Shown) (is
   -- the text of its row, as it was made
   pub text_made : IsTextBy piece.layout.now piece.zones.now (record_of piece given)
       (start_text piece.layout.now (record_of piece given).own (zone_in piece.layout.now.zone (record_of piece given).fields) query.counts.input
-      ++ fields_by piece.layout.now (fields_in piece) file_made query.counts.input query.counts.count state)
+      (field_by piece.layout.now (first_field piece.layout.now) file_made query.counts.input query.counts.count state)
+      ++ fields_by piece.layout.now (following_fields piece.layout.now) file_made query.counts.input query.counts.count state)
   unfolding has_made
   text_made =
       let layout = piece.layout.now in
+      let field = field_by layout (first_field layout) file_made query.counts.input query.counts.count state in
+      let rest = fields_by layout (following_fields layout) file_made query.counts.input query.counts.count state in
       record {
         has = has_made;
-        is = ap (λ (n : List ℕ). start_text layout (record_of piece given).own n query.counts.input ++ fields_by layout (fields_in piece) file_made query.counts.input query.counts.count state)
-            (sym has_made.named);
+        is = ap (λ (n : List ℕ). start_text layout (record_of piece given).own n query.counts.input field ++ rest) (sym has_made.named);
       }
 
   -- what they answer, as it was made

@@ -19,15 +19,16 @@ use Rattle.zic_layouts.specs.declared.layout.RowStart.TheVariants as starts
 use Rattle.zic_layouts.specs.declared.layout.Style.{Style}
 use Rattle.zic_layouts.specs.declared.layout.TimeFrom.{TimeFrom}
 use Rattle.zic_layouts.specs.declared.layout.Unit.{Unit}
+use Rattle.zic_layouts.specs.declared.row_field.RowField.{RowField}
 use Rattle.zic_layouts.specs.declared.row_field.RowFields.{RowFields}
 use Rattle.zic_row_text.specs.Count.{timed_rest_text, units_of_second}
 use Rattle.zic_row_text.specs.Instant.{IsRowInstant}
 use Rattle.zic_row_text.specs.declared.row_time.RowTime.{RowTime}
 use Rattle.zic_zones.specs.Zones.{AnswersAt, number_of, zone_in}
-use Rattle.zic_piece_rows.specs.LayoutRows.{IsTextBy, admits_stray, beginning}
-use Rattle.zic_piece_rows.specs.code.Answer.{IsAdmitted, IsKnown, IsReadTime, answer_at, fields_in, place_at}
+use Rattle.zic_piece_rows.specs.LayoutRows.{IsTextBy, admits_stray, beginning, following}
+use Rattle.zic_piece_rows.specs.code.Answer.{IsAdmitted, IsKnown, IsReadTime, answer_at, fields_in, first_at, following_in, place_at}
 use Rattle.zic_piece_rows.specs.code.Batch.{IsGiven, zone_at}
-use Rattle.zic_piece_rows.specs.code.Pairs.{ArePairColumns, ArePairs, HaveState, IfStateAt, IsOfPairs, IsPairAt, IsPlainPair, blank_pair, known_pair, pair_in, pair_of, pairs_of, style_of}
+use Rattle.zic_piece_rows.specs.code.Pairs.{ArePairColumns, ArePairs, HaveState, IfStateAt, IsOfPairs, IsPairAt, IsPlainPair, KeepsTime, blank_pair, known_pair, pair_in, pair_of, pairs_of, style_of}
 use Rattle.zic_piece_rows.specs.code.Row.{input_of, rest_at}
 use Rattle.zic_piece_rows.specs.declared.answer.Answer.{Answer}
 use Rattle.zic_piece_rows.specs.declared.answer.AnswerState.TheVariants as state
@@ -54,6 +55,12 @@ joined bytes d a m b first last within between =
 no_stray : (by : Quotes) → admits_stray by false ≡ true
 no_stray quotes.Strict = refl
 no_stray quotes.Lenient = refl
+
+-- all fields follow, where none is in the place of the time's
+all_follow : (start : RowStart) → KeepsTime start → (fields : List RowField) → following start fields ≡ fields
+all_follow starts.Fields keeps fields = refl
+all_follow starts.Record keeps fields = refl
+all_follow starts.Replaced keeps fields = absurd keeps
 
 -- what the columns of a batch have of the pair at a place
 pub pair_at : (piece : Piece) (other : Option Piece) (number count place row : ℕ) (batch : PairBatch) → ArePairColumns piece other number count batch → place < count → row ≡ number + place
@@ -115,22 +122,25 @@ module _ (piece : Piece) (pair : Pair) (of : IsOfPairs piece.layout.now) (is : I
     pub pair_fraction : time.fraction < units_of_second piece.layout.now.unit
     pair_fraction = rw known.time.fraction (fraction_below piece.layout.now.unit known.count)
 
-    begins : (start : RowStart) → bytes_at piece.bytes.now (span pair.start pair.end)
-        ≡ beginning start piece.layout.now.delimiter (pair_of piece pair).own (zone_in piece.layout.now.zone (pair_of piece pair).fields) (bytes_at piece.bytes.now (span (pair.stop + 1) pair.end))
-    begins starts.Fields = own_is
-    begins starts.Record = refl
+    begins : (start : RowStart) → KeepsTime start → (field : List ℕ) → bytes_at piece.bytes.now (span pair.start pair.end)
+        ≡ beginning start piece.layout.now.delimiter piece.layout.now.time (pair_of piece pair).own (zone_in piece.layout.now.zone (pair_of piece pair).fields)
+        (bytes_at piece.bytes.now (span (pair.stop + 1) pair.end)) field
+    begins starts.Fields keeps field = own_is
+    begins starts.Record keeps field = refl
+    begins starts.Replaced keeps field = absurd keeps
 
     abbrev answer_of : Answer
     answer_of = record { file = file; input = given_by.Field; time = time; state = state.Made shown }
 
     -- what follows the pair
-    rest : timed_rest_text piece.layout.now.delimiter (style_of piece.layout.now.fields) piece.layout.now.unit time.second time.fraction shown ≡ answer_at piece (fields_in piece) answer_of
+    rest : timed_rest_text piece.layout.now.delimiter (style_of piece.layout.now.fields) piece.layout.now.unit time.second time.fraction shown ≡ answer_at piece (following_in piece) answer_of
     rest =
         let d = piece.layout.now.delimiter in
         let place = place_at piece answer_of in
         ap₂ (λ (s : Style) (u : Unit). timed_rest_text d s u time.second time.fraction shown) (ap style_of of.fields) (sym known.time.unit)
         ∙ sym (usual_rest d of.style time shown place)
         ∙ ap₂ (λ (r : RowFields) (f : TimeFrom). rest_at d (fields_of r f) time shown place) (sym of.fields) (sym of.from)
+        ∙ ap (λ (l : List RowField). rest_at d l time shown place) (sym (all_follow piece.layout.now.start of.start (fields_in piece)))
 
     -- the text of its row
     pub pair_text : IsTextBy piece.layout.now piece.zones.now (pair_of piece pair) (slice_range piece.bytes.now pair.start pair.end
@@ -139,7 +149,7 @@ module _ (piece : Piece) (pair : Pair) (of : IsOfPairs piece.layout.now) (is : I
         let layout = piece.layout.now in
         let field : given_by.Field ≡ input_of layout.from time = rw of.from refl in
         let shows = known_shown piece (pair_record pair) time (known_pair file time number) shown known answer_of refl field refl refl in
-        row_made piece (pair_record pair) answer_of shows _ (rw rest (ap (λ (l : List ℕ). l ++ answer_at piece (fields_in piece) answer_of) (begins layout.start)))
+        row_made piece (pair_record pair) answer_of shows _ (rw rest (ap (λ (l : List ℕ). l ++ answer_at piece (following_in piece) answer_of) (begins layout.start of.start (first_at piece answer_of))))
 
 -- one of the first of some pairs, whose records are all so
 of_record : (P : Record → Type 0) (pairs : List Pair) (count i : ℕ) → count ≤ length pairs → i < count → All P (map pair_record (take count pairs)) → P (pair_record (pair_in pairs i))

@@ -120,7 +120,7 @@ module _ (piece : Piece) (number : ℕ) (given : Record) (le : number ≤ piece.
               rw (le-leb number piece.most le, short, closed, admits, named piece.zones.now (zone_in piece.layout.now.zone (record_of piece given).fields) n zone, unkept, count, may) refl
 
 -- no empty field has a count
-none_in : (time_from : TimeFrom) (u : Unit) → count_by time_from u [] ≡ None
+pub none_in : (time_from : TimeFrom) (u : Unit) → count_by time_from u [] ≡ None
 unfolding count_of seconds_count_of rfc3339_count_of local_count_of number civil_in
 none_in from.Count u = refl
 none_in (from.Text texts.Seconds) u = refl

@@ -1,5 +1,6 @@
 -- The fields of rows, as they are appended.
-use Rattle.std.proofs.Common.{◌≡◌, ◌∙◌, ◌+◌, ◌<◌, ◌≤◌, ℕ, ℤ, ◌+ℤ◌, Bool, true, false, List, [], ◌∷◌, ◌++◌, Option, Some, Result, ap, ap₂, arith, drop, get_or, if◌then◌else◌, length, map, refl, replicate, set, suc, take, zero}
+use Rattle.std.proofs.Common.{◌≡◌, ◌∙◌, ◌+◌, ◌<◌, ◌≤◌, ℕ, ℤ, ◌+ℤ◌, Bool, true, false, List, [], ◌∷◌, ◌++◌, Option, Some, Result, ap, ap₂, arith, drop, get_or, if◌then◌else◌, length, length-append, map, refl, replicate, set, suc, take, zero}
+use Rattle.std.proofs.Math.Seq.{drop-append-add, take-append_seam}
 use Rattle.std.proofs.lemmas.Bool.{and_parts}
 use Rattle.std.proofs.lemmas.List.{drop_more, take-replicate}
 use Rattle.std.specs.Prelude.{nat_le}
@@ -35,14 +36,34 @@ pub count_is : (u : Unit) (count : ℤ) → civil_text (local_time (second_of u 
 unfolding local_count_text
 count_is u count = refl
 
+-- a field without the delimiter that was appended before it
+pub without_delimiter : (text : List ℕ) (d : ℕ) (field : List ℕ) → take (length text) (text ++ d ∷ field) ++ drop (length text + 1) (text ++ d ∷ field) ≡ text ++ field
+without_delimiter text d field = ap₂ (λ (a b : List ℕ). a ++ b) (take-append_seam text (d ∷ field)) (drop-append-add text (d ∷ field) 1)
+
+-- a text is longer then
+pub appended : (text pushed field : List ℕ) (d : ℕ) → pushed ≡ text ++ d ∷ field → length text < length pushed
+appended text pushed field d is = omega (arith, ap length is, length-append text (d ∷ field))
+
+pub left_alone : (text pushed field new : List ℕ) (d at : ℕ) → at ≡ length text → pushed ≡ text ++ d ∷ field → new ≡ take at pushed ++ drop (at + 1) pushed → new ≡ text ++ field
+left_alone text pushed field new d at same is cut =
+    cut ∙ ap (λ (n : ℕ). take n pushed ++ drop (n + 1) pushed) same ∙ ap (λ (t : List ℕ). take (length text) t ++ drop (length text + 1) t) is ∙ without_delimiter text d field
+
 -- where a local time lies, by what it means
 pub place_shown : (f : TimeFrom) (u : Unit) (found : Option File) (file : File) (input : Input) (local : ℤ) (choice : Disambiguation) (result : Result ℤ Unresolved) → f ≡ times.Local choice → found ≡ Some file
     → input ≡ given_by.Count local → result ≡ resolved file.image.octets (second_of u local) disambiguation.Reject → place_of result ≡ place_in f u found input
 place_shown f u found file input local choice result from got is means = rw (from, got, is) (ap place_of means)
 
+-- a list has a field
+pub some_field : (fields : List RowField) → is_field_list fields ≡ true → 0 < length fields
+some_field fields is = let (some, few) = and_parts (nat_le 1 (length fields)) (nat_le (length fields) 8) is in grind (arith, some)
+
 -- a list has no more fields than it may have
 pub few_fields : (fields : List RowField) → is_field_list fields ≡ true → length fields ≤ 8
 few_fields fields is = let (some, few) = and_parts (nat_le 1 (length fields)) (nat_le (length fields) 8) is in grind (arith, few)
+
+-- as many delimiters
+pub empties : (byte d n k : ℕ) → byte ≡ d → n ≡ k → k ≤ 8 → take n (replicate 8 byte) ≡ replicate k d
+empties byte d n k is same few = ap (λ (m : ℕ). take m (replicate 8 byte)) same ∙ take-replicate k 8 byte few ∙ ap (replicate k) is
 
 -- two fields and empty ones
 pub padded : {X : Type 0} (text : X → List ℕ) (name time none : X) (n : ℕ) → n ≤ 8 → text none ≡ [] → map text (take (2 + n) (set (set (replicate 10 none) 0 name) 1 time)) ≡ text name ∷ text time ∷ replicate n []

@@ -18,8 +18,8 @@ use Rattle.zic_row_text.specs.Fields.{field_text, fields_text, time_text}
 use Rattle.zic_row_text.specs.Row.{iso_offset_text}
 use Rattle.zic_row_text.specs.declared.row_time.RowTime.{RowTime}
 use Rattle.zic_zones.specs.Zones.{AnswersAt, zone_in}
-use Rattle.zic_piece_rows.specs.LayoutRows.{IsAnswerBy, IsTextBy, beginning, fields_by, place_by}
-use Rattle.zic_piece_rows.specs.code.Answer.{IsMeantBy, IsShownRow, answer_at, fields_in, place_at, shown_in}
+use Rattle.zic_piece_rows.specs.LayoutRows.{IsAnswerBy, IsTextBy, beginning, field_by, fields_by, first_field, place_by}
+use Rattle.zic_piece_rows.specs.code.Answer.{IsMeantBy, IsShownRow, answer_at, first_at, following_in, place_at, shown_in}
 use Rattle.zic_piece_rows.specs.code.Batch.{IsTimeOf, input_in, record_of}
 use Rattle.zic_piece_rows.specs.code.Row.{clock_at, field_at_time, place_in, rest_at, time_count}
 use Rattle.zic_piece_rows.specs.declared.piece.Piece.{Piece}
@@ -94,6 +94,15 @@ module _ (piece : Piece) (given : Record) (answer : Answer) (is : IsShownRow pie
       rest_timed layout.unit is.counts.count answer.time is.time layout.delimiter fields state (place_at piece answer)
       ∙ ap (λ (p : List ℕ). fields_text layout.delimiter fields layout.unit is.counts.count state p) place_is
 
+  -- the field that it has first
+  first_is : first_at piece answer
+      ≡ field_by piece.layout.now (first_field piece.layout.now) (file_made piece given query_of (shown_in answer.state) is.query answers_at) is.counts.input is.counts.count (shown_in answer.state)
+  first_is =
+      let layout = piece.layout.now in
+      let field = first_field layout in
+      let state = shown_in answer.state in
+      field_timed layout.unit is.counts.count answer.time is.time field state (place_at piece answer) ∙ ap (λ (p : List ℕ). field_text field layout.unit is.counts.count state p) place_is
+
   -- it has a text
   pub shown_text : (row : List ℕ) × IsTextBy piece.layout.now piece.zones.now (record_of piece given) row
   shown_text = (_, text_made piece given query_of (shown_in answer.state) is.query answers_at)
@@ -103,7 +112,9 @@ module _ (piece : Piece) (given : Record) (answer : Answer) (is : IsShownRow pie
   answer_text fields = rw (fields_are fields) (answer_made piece given query_of (shown_in answer.state) is.query answers_at fields)
 
   -- its text, as it was made
-  pub row_made : (text : List ℕ) → text ≡ beginning piece.layout.now.start piece.layout.now.delimiter (record_of piece given).own (zone_in piece.layout.now.zone (record_of piece given).fields) (input_in piece given answer.input)
-      ++ answer_at piece (fields_in piece) answer
+  pub row_made : (text : List ℕ) → text
+      ≡ beginning piece.layout.now.start piece.layout.now.delimiter piece.layout.now.time (record_of piece given).own (zone_in piece.layout.now.zone (record_of piece given).fields)
+      (input_in piece given answer.input) (first_at piece answer)
+      ++ answer_at piece (following_in piece) answer
       → IsTextBy piece.layout.now piece.zones.now (record_of piece given) text
-  row_made text made = rw (made, is.says, fields_are (fields_in piece)) (text_made piece given query_of (shown_in answer.state) is.query answers_at)
+  row_made text made = rw (made, is.says, first_is, fields_are (following_in piece)) (text_made piece given query_of (shown_in answer.state) is.query answers_at)

@@ -2,7 +2,7 @@
 -- text of what the file of that name answers at the instant, or a fault. A row with a fault ends the run, or is written without an answer, or
 -- isn't written, and its record is rejected. An empty time is a fault, or gives a row without an answer. Where rows are compared with another
 -- release, only those are written that it answers differently, with its answer at the end.
-use Rattle.std.specs.Prelude.{◌≡◌, ℕ, ◌+◌, nat_le, ℤ, pos, ◌+ℤ◌, ◌*ℤ◌, List, [], ◌∷◌, ◌++◌, length, replicate, take, Option, Some, None, Result, Ok, Err, option_map, is_some, IsSome, Contains, slice_get, codes, Bool, true, false, not, ◌&&◌, ◌||◌, if◌then◌else◌}
+use Rattle.std.specs.Prelude.{◌≡◌, ℕ, ◌+◌, nat_le, nat_lt, ℤ, pos, ◌+ℤ◌, ◌*ℤ◌, List, [], ◌∷◌, ◌++◌, length, replicate, take, drop, Option, Some, None, Result, Ok, Err, option_map, is_some, IsSome, Contains, slice_get, slice_index_or, codes, Bool, true, false, not, ◌&&◌, ◌||◌, if◌then◌else◌}
 use Rattle.std.specs.Fmt.{signed_decimal}
 use Rattle.csv.specs.Writing.{default_writer, row_text, with_delimiter}
 use Rattle.zic_base.specs.Check.{Check, first_failed}
@@ -10,11 +10,12 @@ use Rattle.zic_base.specs.State.{Shown}
 use Rattle.zic_tzif.specs.Answer.{Answers}
 use Rattle.zic_row_text.specs.Count.{count_of, fraction_of, local_count_text, second_of, units_of_second}
 use Rattle.zic_row_text.specs.DateTime.{local_count_of, text_count_of}
-use Rattle.zic_row_text.specs.Fields.{fields_text}
+use Rattle.zic_row_text.specs.Fields.{field_text, fields_text}
 use Rattle.zic_local.specs.declared.local_time.Unresolved.{Unresolved}
 use Rattle.zic_local.specs.declared.local_time.Unresolved.TheVariants as unresolved
 use Rattle.zic_columns.specs.Own.{CsvRecord}
 use Rattle.zic_columns.specs.Quotes.{has_stray}
+use Rattle.zic_columns.specs.Raw.{replaced}
 use Rattle.zic_columns.specs.Round.{may_have}
 use Rattle.zic_files.specs.File.{File}
 use Rattle.zic_layouts.specs.Layout.{has_count}
@@ -24,6 +25,8 @@ use Rattle.zic_layouts.specs.declared.disambiguation.Disambiguation.TheVariants 
 use Rattle.zic_layouts.specs.declared.layout.EmptyTime.{EmptyTime}
 use Rattle.zic_layouts.specs.declared.layout.EmptyTime.TheVariants as empty
 use Rattle.zic_layouts.specs.declared.layout.Layout.{Layout}
+use Rattle.zic_layouts.specs.declared.layout.LineEnd.{LineEnd}
+use Rattle.zic_layouts.specs.declared.layout.LineEnd.TheVariants as line_end
 use Rattle.zic_layouts.specs.declared.layout.Quotes.{Quotes}
 use Rattle.zic_layouts.specs.declared.layout.Quotes.TheVariants as quotes
 use Rattle.zic_layouts.specs.declared.layout.Records.{Records}
@@ -35,6 +38,7 @@ use Rattle.zic_layouts.specs.declared.layout.TimeFrom.TheVariants as from
 use Rattle.zic_layouts.specs.declared.layout.Unit.{Unit}
 use Rattle.zic_layouts.specs.RowField.{compared_of, fields_of}
 use Rattle.zic_layouts.specs.declared.row_field.RowField.{RowField}
+use Rattle.zic_layouts.specs.declared.row_field.RowField.TheVariants as row_field
 use Rattle.zic_layouts.specs.Noted.{RowNote}
 use Rattle.zic_base.specs.declared.row_fault.RowKind.{RowKind}
 use Rattle.zic_base.specs.declared.row_fault.RowKind.TheVariants as kind
@@ -141,13 +145,27 @@ input_text from.Count u count = signed_decimal count
 input_text (from.Text form) u count = signed_decimal count
 input_text (from.Local choice) u local = local_count_text u local
 
--- what a row begins with: the name, the delimiter and that text, or the record's own bytes
-abbrev pub beginning : RowStart → ℕ → List ℕ → List ℕ → List ℕ → List ℕ
-beginning start.Fields delimiter own name input = name ++ delimiter ∷ input
-beginning start.Record delimiter own name input = own
+-- a record as a CSV writer has it: two double quotes in the place of no byte, since a line without a byte is no record
+abbrev pub or_quotes : List ℕ → List ℕ
+or_quotes [] = 34 ∷ 34 ∷ []
+or_quotes (byte ∷ own) = byte ∷ own
 
-abbrev pub start_text : Layout → List ℕ → List ℕ → ℤ → List ℕ
-start_text layout own name count = beginning layout.start layout.delimiter own name (input_text layout.from layout.unit count)
+-- What a row begins with: the name, the delimiter and that text, or the record's own bytes, as they are or with a field in the place of the
+-- raw field of the time.
+abbrev pub beginning : RowStart → ℕ → ℕ → List ℕ → List ℕ → List ℕ → List ℕ → List ℕ
+beginning start.Fields delimiter index own name input field = name ++ delimiter ∷ input
+beginning start.Record delimiter index own name input field = own
+beginning start.Replaced delimiter index own name input field = or_quotes (replaced delimiter own index field)
+
+-- by a layout, for the zone's name, the count in the record's field, and the text of the first of the row's fields
+abbrev pub start_text : Layout → List ℕ → List ℕ → ℤ → List ℕ → List ℕ
+start_text layout own name count field = beginning layout.start layout.delimiter layout.time own name (input_text layout.from layout.unit count) field
+
+-- the fields that follow: all, but that the first stands in the place of the time's, where rows begin so
+abbrev pub following : {a : Type 0} → RowStart → List a → List a
+following start.Fields fields = fields
+following start.Record fields = fields
+following start.Replaced fields = drop 1 fields
 
 -- `gap` or `fold`, where a local time is in one by the clocks of a file, or no text
 abbrev pub place_of : Result ℤ Unresolved → List ℕ
@@ -162,13 +180,23 @@ place_by from.Count u file count = []
 place_by (from.Text form) u file count = []
 place_by (from.Local choice) u file local = place_of (resolved file.image.octets (second_of u local) disambiguation.Reject)
 
+-- the text of a field, by the zone's file, the count in the record's field, the count of its instant, and the state then
+abbrev pub field_by : Layout → RowField → File → ℤ → ℤ → Shown → List ℕ
+field_by layout f file input count state = field_text f layout.unit count state (place_by layout.from layout.unit file input)
+
 -- the text of these fields, by the zone's file, the count in the record's field, the count of its instant, and the state then
 abbrev pub fields_by : Layout → List RowField → File → ℤ → ℤ → Shown → List ℕ
 fields_by layout fields file input count state = fields_text layout.delimiter fields layout.unit count state (place_by layout.from layout.unit file input)
 
--- the fields of a layout's rows
+-- the fields of a layout's rows, those that follow what a row begins with, and the first of all: no list of fields is empty
 abbrev pub row_fields : Layout → List RowField
 row_fields layout = fields_of layout.fields layout.from
+
+abbrev pub following_fields : Layout → List RowField
+following_fields layout = following layout.start (row_fields layout)
+
+abbrev pub first_field : Layout → RowField
+first_field layout = slice_index_or (row_fields layout) 0 row_field.Local
 
 -- Files answer a record: the one of its zone's name shows a state at the whole second of the instant's count.
 pub record HasAnswer (layout : Layout) (files : List File) (row_record : CsvRecord) : Type 0 where
@@ -186,19 +214,26 @@ pub record HasAnswer (layout : Layout) (files : List File) (row_record : CsvReco
 -- delimiter.
 pub record IsTextBy (layout : Layout) (files : List File) (row_record : CsvRecord) (text : List ℕ) : Type 0 where
   pub has : HasAnswer layout files row_record
-  pub is : text ≡ start_text layout row_record.own has.file.name has.input ++ fields_by layout (row_fields layout) has.file has.input has.count has.state
+  pub is : text
+      ≡ start_text layout row_record.own has.file.name has.input (field_by layout (first_field layout) has.file has.input has.count has.state)
+      ++ fields_by layout (following_fields layout) has.file has.input has.count has.state
 
 -- an empty field for each of these, and the end of a row
 abbrev pub empty_fields : ℕ → List RowField → List ℕ
 empty_fields d fields = replicate (length fields) d ++ 10 ∷ []
 
+-- a record's own bytes, with an empty field in the place of the raw field of an index, if it has one
+abbrev pub emptied : ℕ → CsvRecord → ℕ → List ℕ
+emptied delimiter row_record index = if nat_lt index (length row_record.fields) then replaced delimiter row_record.own index [] else row_record.own
+
 -- The text of a row without what a file answers, whose fields are empty. Where rows begin with names, it is what a CSV writer with the
 -- layout's delimiter writes of the zone's name, the field of the instant or of the local time as it was read, and these. Where they begin with
--- their records, it is the record's own bytes and these.
+-- their records, it is the record's own bytes, or these with an empty field in the place of the time's, if it has that, and then empty fields.
 abbrev pub timeless_text : RowStart → Layout → CsvRecord → List ℕ
 timeless_text start.Fields layout row_record =
     row_text (with_delimiter default_writer layout.delimiter) (zone_in layout.zone row_record.fields ∷ field_at row_record.fields layout.time ∷ replicate (length (row_fields layout)) [])
 timeless_text start.Record layout row_record = row_record.own ++ empty_fields layout.delimiter (row_fields layout)
+timeless_text start.Replaced layout row_record = or_quotes (emptied layout.delimiter row_record layout.time) ++ empty_fields layout.delimiter (drop 1 (row_fields layout))
 
 -- The text of a row with a fault that is written: one without an answer, or, of a record with too many bytes, an open line, or a record
 -- with another number of fields than the layout's, the record's own bytes alone.
@@ -278,7 +313,7 @@ IsAnswer layout fields without files most number row_record answer = IsAnswerAt 
 abbrev pub IsSeen : Layout → List File → ℕ → ℕ → CsvRecord → List ℕ → Type 0
 IsSeen layout files most number row_record seen = IsAnswer layout (compared_of layout.compared (row_fields layout)) [] files most number row_record seen
 
--- a row without its last byte, the line feed, and then an answer; no row stays no row
+-- a row without its last byte, the line feed, and then an answer or a line end; no row stays no row
 abbrev pub with_answer : List ℕ → List ℕ → List ℕ
 with_answer [] answer = []
 with_answer (byte ∷ row) answer = take (length row) (byte ∷ row) ++ answer
@@ -297,13 +332,21 @@ pub record IsMovedRow (layout : Layout) (files old : List File) (most number : �
   pub same : seen ≡ old_seen → text ≡ []
   pub moved : (seen ≡ old_seen → ⊥) → text ≡ with_answer row old_answer
 
+-- a line with this line end in the place of its line feed; no line stays no line
+abbrev pub ended : LineEnd → List ℕ → List ℕ
+ended line_end.Lf line = line
+ended line_end.CrLf line = with_answer line (13 ∷ 10 ∷ [])
+
 -- what is written of a record, as the row of a number: its row, or, where there is another release, its row only if that answers differently
 abbrev pub IsWrittenWith : Option (List File) → Layout → List File → ℕ → ℕ → CsvRecord → List ℕ → Type 0
 IsWrittenWith None layout files most number row_record text = IsRowBy layout files most number row_record text
 IsWrittenWith (Some old) layout files most number row_record text = IsMovedRow layout files old most number row_record text
 
-abbrev pub IsWrittenBy : Layout → Releases → ℕ → ℕ → CsvRecord → List ℕ → Type 0
-IsWrittenBy layout releases most number row_record text = IsWrittenWith releases.old layout releases.zones most number row_record text
+-- that, with the line end of the layout's rows
+pub record IsWrittenBy (layout : Layout) (releases : Releases) (most number : ℕ) (row_record : CsvRecord) (text : List ℕ) : Type 0 where
+  pub row : List ℕ
+  pub is_row : IsWrittenWith releases.old layout releases.zones most number row_record row
+  pub is : text ≡ ended layout.line_end row
 
 -- The outcome of records, the first of which is the row of this number: the texts of the rows up to the first that ends the run, and its
 -- fault, or none. The faults are those of rows by the first release.

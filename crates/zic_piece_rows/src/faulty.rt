@@ -3,6 +3,7 @@
 ghost use Rattle.std.specs.Prelude.{◌≡◌, ◌∷◌, ◌++◌, [], IsTrue, IfOk, OnOk, Some, None, false, map};
 ghost use Rattle.csv.specs.Writing.{default_writer, row_text, with_delimiter};
 ghost use Rattle.zic_columns.specs.Record.{IsWithinPiece, field_text};
+ghost use Rattle.zic_layouts.specs.Layout.{line_end_bytes};
 ghost use Rattle.zic_layouts.specs.declared.layout.RowStart.TheVariants as start;
 ghost use Rattle.zic_zones.specs.Zones.{field_at, zone_in};
 ghost use Rattle.zic_piece_rows.specs.LayoutRows.{ending, faulty_text, if_rejected, marked_text, timeless_text};
@@ -10,11 +11,12 @@ ghost use Rattle.zic_piece_rows.specs.code.Answer.{unanswered_text};
 ghost use Rattle.zic_piece_rows.specs.code.Batch.{IsGiven, record_of};
 
 use crate::piece::Piece;
+use crate::start::{around_time, or_quotes};
 use csv::WriterBuilder;
 use std::alloc::{AllocError, Global};
 use zic_base::RowKind;
 use zic_columns::{Field, Record, push_field};
-use zic_layouts::{AtFault, Layout, MAX_FIELDS, Records, RowStart, ZoneFrom};
+use zic_layouts::{AtFault, Layout, LineEnd, MAX_FIELDS, Records, RowStart, ZoneFrom};
 
 /// Returns whether a fault ends the run.
 pub fn ends_run(at_fault: AtFault, records: Records, kind: RowKind) -> bool
@@ -108,15 +110,19 @@ fn timeless_row(alloc: Global, piece: &Piece<'_, '_>, given: &Record) -> Result<
     csv_row(alloc, piece.layout.delimiter.byte(), &fields[..2 + count])
 }
 
-/// Appends a row of the own bytes of a record and some delimiters.
-pub fn push_own(text: &mut Vec<u8>, own: &[u8], delimiters: &[u8]) -> Result<(), AllocError>
-    ensures { OnOk result
-        (text.new.items ≡ text.old.items ++ (own.now ++ delimiters.now ++ 10 ∷ [])) }
+/// Appends a row of the own bytes of a record, some delimiters and a line end.
+pub fn push_own(
+    text: &mut Vec<u8>,
+    own: &[u8],
+    delimiters: &[u8],
+    line_end: LineEnd,
+) -> Result<(), AllocError>
+    ensures { OnOk result (text.new.items ≡ text.old.items
+        ++ (own.now ++ delimiters.now ++ line_end_bytes line_end)) }
 {
     text.extend_from_slice(own)?;
     text.extend_from_slice(delimiters)?;
-    text.push(b'\n')?;
-    Ok(())
+    text.extend_from_slice(line_end.bytes())
 }
 
 /// Copies the own bytes of a faulty record, if it is rejected. Returns no bytes if it isn't.
@@ -127,6 +133,21 @@ pub fn rejected_bytes(alloc: Global, layout: &Layout, own: &[u8]) -> Result<Vec<
         AtFault::Reject => Vec::from_slice(alloc, own),
         AtFault::End | AtFault::GoOn => Ok(Vec::new(alloc)),
     }
+}
+
+/// Appends the row of a record with an empty field in the place of its time's, if it has that, and empty
+/// fields for those that follow.
+fn push_emptied(text: &mut Vec<u8>, piece: &Piece<'_, '_>, given: &Record) -> Result<(), AllocError>
+    requires { IsGiven piece.now given.now }
+    ensures { OnOk result (text.new.items ≡ text.old.items ++ timeless_text start.Replaced
+        piece.now.layout.now (record_of piece.now given.now)) }
+{
+    let around = around_time(piece, given);
+    let after = around.after.of(piece.bytes);
+    text.extend_from_slice(or_quotes(around.before.of(piece.bytes), after))?;
+    let empty = [piece.layout.delimiter.byte(); MAX_FIELDS];
+    let count = piece.layout.fields.fields(piece.layout.from).len();
+    push_own(text, after, &empty[..count - 1], LineEnd::Lf)
 }
 
 /// Appends the row of a record without an answer. Where memory runs out, a part of the row may be there.
@@ -144,8 +165,14 @@ fn push_timeless(
         RowStart::Record => {
             let empty = [piece.layout.delimiter.byte(); MAX_FIELDS];
             let count = piece.layout.fields.fields(piece.layout.from).len();
-            push_own(text, given.own.of(piece.bytes), &empty[..count])
+            push_own(
+                text,
+                given.own.of(piece.bytes),
+                &empty[..count],
+                LineEnd::Lf,
+            )
         }
+        RowStart::Replaced => push_emptied(text, piece, given),
         RowStart::Fields => {
             let row = timeless_row(alloc, piece, given)?;
             text.extend_from_slice(&row)
@@ -169,7 +196,7 @@ fn push_marked(
         kind,
         RowKind::RowFields | RowKind::RowQuote | RowKind::RowTooLong
     ) {
-        return push_own(text, given.own.of(piece.bytes), b"");
+        return push_own(text, given.own.of(piece.bytes), b"", LineEnd::Lf);
     }
     push_timeless(alloc, text, piece, given)
 }

@@ -5,10 +5,11 @@
 //! `rows_of_piece` gives the rows of a piece's records, up to the first that ends the run
 //! (`AreRowsOf`), whatever `Rows::new` (`empty_rows`) was given to reuse. `ends_run` says whether a
 //! fault does (`ending`), `rejected_bytes` copies a record that is rejected (`if_rejected`), and
-//! `push_own` appends one, some delimiters and a line feed. The value that is noted of a fault is
+//! `push_own` appends one, some delimiters and a line end. The value that is noted of a fault is
 //! the name of the zone, or the field of the time, or has no bytes (`value_at_fault`). The line is
 //! one more than the line feeds before the record (`line_at`), if those before the records above it
-//! were counted (`ArePassed`); no clause says that a piece's records come in this order.
+//! were counted (`ArePassed`); no clause says that a piece's records come in this order. No clause is
+//! about the numbers of rows of each zone (`Rows::tallies`).
 #![tactic(auto)]
 
 mod answer;
@@ -24,6 +25,7 @@ mod piece;
 mod row;
 mod search;
 mod start;
+mod tally;
 mod text;
 mod time;
 

@@ -170,6 +170,7 @@ impl Rows {
     }
 
     /// Adds the rows of pairs, as [`add_pairs`](Rows::add_pairs) does where there is another release.
+    #[inline(never)]
     fn add_compared_pairs<'s>(
         &mut self,
         piece: &Piece<'_, 's>,
@@ -225,6 +226,7 @@ impl Rows {
         ensures end { IfOk result (λ end. end ≡ is_some self.new.fault) }
     {
         if batch.same[place] {
+            pen.tallies.count(Some(batch.shown.files[place]), false);
             self.count += 1;
             return Ok(false);
         }

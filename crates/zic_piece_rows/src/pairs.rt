@@ -14,7 +14,7 @@ use crate::answers::{Found, unknown};
 use crate::piece::Piece;
 use crate::time::{NO_TIME, ZERO_TIME, no_time, read_plain};
 use zic_columns::{BATCH, Pair, Record, Span, may_have};
-use zic_layouts::{Layout, RowFields, TimeFrom, Unit, ZoneFrom};
+use zic_layouts::{Layout, LineEnd, RowFields, RowStart, TimeFrom, Unit, ZoneFrom};
 use zic_row_text::RowTime;
 use zic_zones::{RowStates, UNKNOWN};
 
@@ -297,6 +297,9 @@ pub(crate) fn is_of_pairs(layout: &Layout) -> bool
         layout.from,
         &layout.fields,
     ) else {
+        return false;
+    };
+    let (RowStart::Fields | RowStart::Record, LineEnd::Lf) = (layout.start, layout.line_end) else {
         return false;
     };
     *index == 0 && layout.time == 1 && layout.count.admits(2)

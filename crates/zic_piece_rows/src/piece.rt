@@ -1,6 +1,6 @@
 //! A piece of a round, and the rows of its records.
 
-ghost use Rattle.std.specs.Prelude.{◌≡◌, ◌+◌, ◌^◌, ◌<◌, ◌≤◌, ◌++◌, [], IfOk, IfSome, None, length};
+ghost use Rattle.std.specs.Prelude.{◌≡◌, ◌+◌, ◌^◌, ◌<◌, ◌≤◌, ◌++◌, [], IfOk, IfSome, None, OnOk, length};
 ghost use Rattle.zic_piece_rows.specs.code.Answer.{IsOfPiece};
 ghost use Rattle.zic_piece_rows.specs.code.Batch.{wanted_by};
 ghost use Rattle.zic_piece_rows.specs.code.Pairs.{ArePairs, pairs_of};
@@ -8,11 +8,12 @@ ghost use Rattle.zic_piece_rows.specs.code.Piece.{AreNextRows, IsSplitBy};
 ghost use Rattle.zic_piece_rows.specs.code.Row.{by_both, files_of};
 ghost use Rattle.zic_columns.specs.Own.{csv_records};
 ghost use Rattle.zic_columns.specs.declared.splits.TheConstants.{BATCH};
-ghost use Rattle.zic_piece_rows.specs.PieceRows.{AreRowsOf};
+ghost use Rattle.zic_piece_rows.specs.PieceRows.{AreRowsOf, empty_rows};
 
 use crate::batch::Batch;
 use crate::pairs::{PairBatch, is_of_pairs};
 use crate::row::{RowPen, Rows};
+use crate::tally::Tallies;
 use std::alloc::{AllocError, Global};
 use zic_columns::{BATCH, Pair, Splitter, Wanted};
 use zic_layouts::{Layout, ZoneFrom};
@@ -66,6 +67,22 @@ struct Columns<'s> {
     pen: RowPen,
     pairs: PairBatch<'s>,
     batch: Batch<'s>,
+}
+
+impl<'s> Columns<'s> {
+    /// Returns the columns before the first rows.
+    fn new(
+        alloc: Global,
+        piece: &Piece<'_, 's>,
+        is_compared: bool,
+    ) -> Result<Columns<'s>, AllocError> {
+        let tallies = Tallies::new(alloc, piece, is_compared)?;
+        Ok(Columns {
+            pen: RowPen::new(alloc, tallies),
+            pairs: PairBatch::new(piece),
+            batch: Batch::new(piece),
+        })
+    }
 }
 
 /// Splits the next records as long as each is a plain pair, if the rows are those of pairs alone, and
@@ -138,6 +155,51 @@ impl Rows {
         self.add_all(piece, other, &columns.batch, count, &mut columns.pen)?;
         Ok(count)
     }
+
+    /// Adds the rows of a piece, up to the first that ends the run, to no rows. `other` is the piece with the
+    /// zones of another release.
+    fn add_piece<'s>(
+        &mut self,
+        piece: &Piece<'_, 's>,
+        other: &Option<Piece<'_, 's>>,
+        columns: &mut Columns<'s>,
+    ) -> Result<(), AllocError>
+        requires none { self.old ≡ empty_rows }
+        requires other { IfSome other.now (IsOfPiece piece.now) }
+        requires fits { piece.now.first + length piece.now.bytes.now + 1 < 2 ^ 64 }
+        ensures { OnOk result (AreRowsOf piece.now.layout.now
+            (by_both piece.now (files_of other.now)) piece.now.most piece.now.first
+            (csv_records piece.now.layout.now.delimiter piece.now.bytes.now) self.new) }
+    {
+        let wanted = wanted_by(piece.layout);
+        let mut splitter = Splitter::new(piece.bytes, wanted, &piece.layout.delimiter);
+        while self.fault.is_none() {
+            let count = self.add_next(piece, other, &mut splitter, columns)?;
+            if count == 0 {
+                return Ok(());
+            }
+        }
+        Ok(())
+    }
+
+    /// Adds the rows of a piece, as [`add_piece`](Rows::add_piece) does, and their numbers by zone.
+    fn add_counted<'s>(
+        &mut self,
+        piece: &Piece<'_, 's>,
+        other: &Option<Piece<'_, 's>>,
+        columns: &mut Columns<'s>,
+    ) -> Result<(), AllocError>
+        requires none { self.old ≡ empty_rows }
+        requires other { IfSome other.now (IsOfPiece piece.now) }
+        requires fits { piece.now.first + length piece.now.bytes.now + 1 < 2 ^ 64 }
+        ensures { OnOk result (AreRowsOf piece.now.layout.now
+            (by_both piece.now (files_of other.now)) piece.now.most piece.now.first
+            (csv_records piece.now.layout.now.delimiter piece.now.bytes.now) self.new) }
+    {
+        self.add_piece(piece, other, columns)?;
+        self.tallies = columns.pen.tallies.named(columns.pen.alloc, piece)?;
+        Ok(())
+    }
 }
 
 /// Returns the rows of a piece, up to the first that ends the run. Where `old` has the zones of another
@@ -155,22 +217,10 @@ pub fn rows_of_piece<'a, 's>(
         (csv_records piece.now.layout.now.delimiter piece.now.bytes.now)) }
 {
     let other = piece.with_zones(old);
+    let mut columns = Columns::new(alloc, piece, other.is_some())?;
     let mut rows = Rows::new(alloc, text);
-    let mut columns = Columns {
-        pen: RowPen::new(alloc),
-        pairs: PairBatch::new(piece),
-        batch: Batch::new(piece),
-    };
-    let mut splitter = Splitter::new(
-        piece.bytes,
-        wanted_by(piece.layout),
-        &piece.layout.delimiter,
-    );
-    while rows.fault.is_none() {
-        let count = rows.add_next(piece, &other, &mut splitter, &mut columns)?;
-        if count == 0 {
-            return Ok(rows);
-        }
-    }
+    let added = rows.add_counted(piece, &other, &mut columns);
+    drop(columns);
+    added?;
     Ok(rows)
 }

@@ -1,9 +1,10 @@
 //! The rows of records.
 
-ghost use Rattle.std.specs.Prelude.{◌≡◌, ◌+◌, ◌^◌, ◌<◌, ◌++◌, None, Some, OnOk, IfSome};
+ghost use Rattle.std.specs.Prelude.{◌≡◌, ◌+◌, ◌^◌, ◌<◌, ◌≤◌, ◌++◌, None, Some, OnOk, IfSome, drop, length, take};
 ghost use Rattle.std.specs.Prelude.{ℕ, List, slice_index_or};
 ghost use Rattle.zic_columns.specs.Own.{CsvRecord};
-ghost use Rattle.zic_piece_rows.specs.LayoutRows.{IsMovedRow, IsWrittenBy, noted};
+ghost use Rattle.zic_layouts.specs.declared.layout.LineEnd.TheVariants as line_end;
+ghost use Rattle.zic_piece_rows.specs.LayoutRows.{IsMovedRow, IsWrittenWith, ended, noted};
 ghost use Rattle.zic_piece_rows.specs.PieceRows.{AreRowsOf, empty_rows};
 ghost use Rattle.zic_piece_rows.specs.code.Answer.{AreColumns, IfTime, IsAnswered, IsAt, IsFound, IsOfPiece, IsReadTime};
 ghost use Rattle.zic_piece_rows.specs.code.Batch.{IsGiven, blank, record_of, records_of};
@@ -16,12 +17,13 @@ use crate::faulty::ends_run;
 use crate::moved::{ComparedTexts, are_unplaced};
 use crate::note::{LinesPassed, note_of};
 use crate::piece::Piece;
+use crate::tally::Tallies;
 use crate::text::{push_any, push_row};
 use std::alloc::{AllocError, Global};
 use std::marker::Model;
 use zic_base::{RowFault, RowKind};
 use zic_columns::Record;
-use zic_layouts::FaultyRow;
+use zic_layouts::{FaultyRow, LineEnd, ZoneTally};
 use zic_row_text::RowText;
 use zic_zones::UNKNOWN;
 
@@ -33,6 +35,8 @@ pub struct Rows {
     pub count: u64,
     pub fault: Option<RowKind>,
     pub faults: Vec<FaultyRow>,
+    /// The numbers of rows of each zone, where these are counted. Clauses don't see them.
+    pub tallies: Vec<ZoneTally>,
 }
 
 impl Model for Rows {
@@ -43,6 +47,35 @@ impl Model for Rows {
     ghost view = { λ r. record { text = r.text; count = r.count; fault = r.fault; faults = r.faults.items } };
 }
 
+/// Puts this line end in the place of the line feed of the row that was appended to a text from an index on,
+/// if one was.
+#[inline(always)]
+fn end_row(text: &mut RowText, start: usize, line_end: LineEnd) -> Result<(), AllocError>
+    requires { start ≤ length text.old }
+    ensures { OnOk result
+        (text.new ≡ take start text.old ++ ended line_end (drop start text.old)) }
+{
+    match line_end {
+        LineEnd::Lf => Ok(()),
+        LineEnd::CrLf => end_by_return(text, start),
+    }
+}
+
+/// Puts a carriage return and a line feed there, as [`end_row`] does.
+#[inline(never)]
+fn end_by_return(text: &mut RowText, start: usize) -> Result<(), AllocError>
+    requires { start ≤ length text.old }
+    ensures { OnOk result
+        (text.new ≡ take start text.old ++ ended line_end.CrLf (drop start text.old)) }
+{
+    let len = text.len();
+    if len == start {
+        return Ok(());
+    }
+    text.truncate(len - 1);
+    text.push(LineEnd::CrLf.bytes())
+}
+
 /// What rows keep for the next.
 #[derive(Drop)]
 pub(crate) struct RowPen {
@@ -51,15 +84,17 @@ pub(crate) struct RowPen {
     compared: ComparedTexts,
     /// How far line feeds were counted.
     passed: LinesPassed,
+    pub(crate) tallies: Tallies,
 }
 
 impl RowPen {
     /// Returns a pen before the first row.
-    pub(crate) fn new(alloc: Global) -> RowPen {
+    pub(crate) fn new(alloc: Global, tallies: Tallies) -> RowPen {
         RowPen {
             alloc,
             compared: ComparedTexts::new(alloc),
             passed: LinesPassed::new(),
+            tallies,
         }
     }
 
@@ -80,7 +115,7 @@ impl RowPen {
         requires other { IfSome other.now (IsOfPiece piece.now) }
         requires answered { IsAnswered piece.now asked.number given.now answer.now }
         ensures { OnOk result ((row : List ℕ) × (text.new ≡ text.old ++ row)
-            × IsWrittenBy piece.now.layout.now (by_both piece.now (files_of other.now))
+            × IsWrittenWith (files_of other.now) piece.now.layout.now piece.now.zones.now
             piece.now.most asked.number (record_of piece.now given.now) row) }
     {
         match other {
@@ -134,6 +169,7 @@ impl Rows {
             count: 0,
             fault: None,
             faults: Vec::new(alloc),
+            tallies: Vec::new(alloc),
         }
     }
 
@@ -167,7 +203,9 @@ impl Rows {
             return self.add_slowly(piece, other, found, pen);
         }
         let answer = known.answer(&batch.answers.states, piece.layout, batch.times[place]);
+        let start = self.text.len();
         push_row(&mut self.text, piece, &batch.records[place], &answer)?;
+        end_row(&mut self.text, start, piece.layout.line_end)?;
         self.count += 1;
         Ok(())
     }
@@ -209,7 +247,10 @@ impl Rows {
             }
             self.note(piece, given, asked.number, kind, pen)?;
         }
+        let start = self.text.len();
         pen.push(&mut self.text, piece, other, given, asked, &answer)?;
+        pen.tallies.count(known.file, start < self.text.len());
+        end_row(&mut self.text, start, piece.layout.line_end)?;
         self.count += 1;
         Ok(())
     }

@@ -1,14 +1,18 @@
 //! What rows begin with.
 
-ghost use Rattle.std.specs.Prelude.{◌≡◌, ◌++◌, ◌∷◌, [], IfOk, OnOk, Some};
+ghost use Rattle.std.specs.Prelude.{◌≡◌, ◌≤◌, ◌++◌, ◌∷◌, [], IfOk, OnOk, Some, drop, length, take};
 ghost use Rattle.std.specs.Fmt.{signed_decimal};
 ghost use Rattle.zic_columns.specs.Record.{IsWithin, bytes_at, field_text};
 ghost use Rattle.zic_zones.specs.Zones.{zone_in};
-ghost use Rattle.zic_piece_rows.specs.LayoutRows.{beginning, input_text};
+ghost use Rattle.zic_piece_rows.specs.LayoutRows.{beginning, input_text, or_quotes};
 ghost use Rattle.zic_piece_rows.specs.code.Batch.{IsCountFor, IsGiven, IsInput, IsPlain, input_in, record_of, zone_at};
-ghost use Rattle.zic_piece_rows.specs.code.Row.{input_of};
+ghost use Rattle.zic_columns.specs.Raw.{replaced};
+ghost use Rattle.zic_piece_rows.specs.code.Answer.{IsShownRow, first_at};
+ghost use Rattle.zic_piece_rows.specs.code.Row.{AreAround, input_of};
 
+use crate::answer::Answer;
 use crate::piece::Piece;
+use crate::text::push_first_field;
 use crate::time::local_time_of;
 use itoa::Buffer;
 use std::alloc::AllocError;
@@ -147,6 +151,88 @@ fn push_fields(
     }
 }
 
+/// Where the bytes of a record stand before and after the field of its time.
+#[derive(Clone, Copy, Drop)]
+pub(crate) struct AroundTime {
+    pub(crate) before: Span,
+    pub(crate) after: Span,
+}
+
+/// Returns where the bytes of a record stand before and after the field of its time. All of them stand
+/// before, where it has no such field.
+pub(crate) fn around_time(piece: &Piece<'_, '_>, given: &Record) -> AroundTime
+    requires { IsGiven piece.now given.now }
+    ensures { AreAround piece.now given.now result }
+{
+    if given.count <= piece.layout.time {
+        return AroundTime {
+            before: given.own,
+            after: NOWHERE,
+        };
+    }
+    let place = given.time_place(piece.bytes);
+    AroundTime {
+        before: Span {
+            start: given.own.start,
+            end: place.start,
+        },
+        after: Span {
+            start: place.end,
+            end: given.own.end,
+        },
+    }
+}
+
+/// Appends the bytes of a record before the field of its time, and the first field of an answer. Returns
+/// where the record goes on.
+#[inline(never)]
+fn push_replaced(
+    text: &mut RowText,
+    piece: &Piece<'_, '_>,
+    given: &Record,
+    answer: &Answer<'_>,
+) -> Result<Span, AllocError>
+    requires split { IsGiven piece.now given.now }
+    requires shown { IsShownRow piece.now given.now answer.now }
+    ensures within_bytes { IfOk result (IsWithin piece.now.bytes.now) }
+    ensures text { IfOk result (λ span. text.new ++ bytes_at piece.now.bytes.now span ≡ text.old
+        ++ or_quotes (replaced piece.now.layout.now.delimiter
+        (bytes_at piece.now.bytes.now given.now.own) piece.now.layout.now.time
+        (first_at piece.now answer.now))) }
+{
+    let start = text.len();
+    let around = around_time(piece, given);
+    text.push(around.before.of(piece.bytes))?;
+    push_first_field(text, piece, answer)?;
+    push_quotes(text, start, around.after.of(piece.bytes))?;
+    Ok(around.after)
+}
+
+/// Appends two double quotes where a record without a byte stands at the end of a text, from an index on:
+/// nothing follows there.
+fn push_quotes(text: &mut RowText, start: usize, rest: &[u8]) -> Result<(), AllocError>
+    requires { start ≤ length text.old }
+    ensures { OnOk result (text.new ++ rest.now
+        ≡ take start text.old ++ or_quotes (drop start text.old ++ rest.now)) }
+{
+    if start < text.len() || !rest.is_empty() {
+        return Ok(());
+    }
+    text.push(b"\"\"")
+}
+
+/// Returns the bytes before a field without a byte, or two double quotes where there are none before it and
+/// none after it.
+pub(crate) fn or_quotes<'a>(before: &'a [u8], after: &[u8]) -> &'a [u8]
+    ensures { result.now ++ after.now ≡ or_quotes (before.now ++ after.now) }
+{
+    if before.is_empty() && after.is_empty() {
+        b"\"\""
+    } else {
+        before
+    }
+}
+
 /// Appends what the row of a record begins with, but for the last part, where that is to be copied from
 /// the piece. Returns where that part stands.
 #[inline(always)]
@@ -154,21 +240,20 @@ pub(crate) fn push_start(
     text: &mut RowText,
     piece: &Piece<'_, '_>,
     given: &Record,
-    file: usize,
-    input: Input,
+    answer: &Answer<'_>,
 ) -> Result<Span, AllocError>
     requires split { IsGiven piece.now given.now }
-    requires file { zone_at piece.now given.now ≡ Some file }
-    requires input { IsInput piece.now given.now input }
+    requires shown { IsShownRow piece.now given.now answer.now }
     ensures within_bytes { IfOk result (IsWithin piece.now.bytes.now) }
     ensures text { IfOk result (λ span. text.new ++ bytes_at piece.now.bytes.now span ≡ text.old
         ++ beginning piece.now.layout.now.start piece.now.layout.now.delimiter
-        (bytes_at piece.now.bytes.now given.now.own)
+        piece.now.layout.now.time (bytes_at piece.now.bytes.now given.now.own)
         (zone_in piece.now.layout.now.zone (record_of piece.now given.now).fields)
-        (input_in piece.now given.now input)) }
+        (input_in piece.now given.now answer.now.input) (first_at piece.now answer.now)) }
 {
     match piece.layout.start {
-        RowStart::Fields => push_fields(text, piece, given, file, input),
+        RowStart::Fields => push_fields(text, piece, given, answer.file, answer.input),
         RowStart::Record => Ok(given.own),
+        RowStart::Replaced => push_replaced(text, piece, given, answer),
     }
 }

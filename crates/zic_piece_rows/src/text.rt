@@ -1,14 +1,14 @@
 //! The text of the row of a record.
 
-ghost use Rattle.std.specs.Prelude.{◌≡◌, ◌<◌, ◌++◌, ◌∷◌, IfOk, IfSome, IsTrue, List, OnOk, ℕ};
+ghost use Rattle.std.specs.Prelude.{◌≡◌, ◌<◌, ◌++◌, ◌∷◌, drop, IfOk, IfSome, IsTrue, List, OnOk, ℕ};
 ghost use Rattle.zic_columns.specs.Record.{IsWithin, bytes_at};
 ghost use Rattle.zic_layouts.specs.RowField.{compared_of, fields_of, is_compared};
 ghost use Rattle.zic_layouts.specs.declared.layout.TimeFrom.TheVariants as from;
 ghost use Rattle.zic_layouts.specs.declared.row_field.RowFields.TheVariants as rows;
 ghost use Rattle.zic_row_text.specs.Count.{units_of_second};
 ghost use Rattle.zic_row_text.specs.Instant.{IsRowInstant, IsRowOffset};
-ghost use Rattle.zic_piece_rows.specs.LayoutRows.{IsTextBy, row_fields};
-ghost use Rattle.zic_piece_rows.specs.code.Answer.{IsRowOf, IsShownRow, IsShownSome, answer_at, fields_in, place_at, shown_in};
+ghost use Rattle.zic_piece_rows.specs.LayoutRows.{IsTextBy, following_fields, row_fields};
+ghost use Rattle.zic_piece_rows.specs.code.Answer.{IsRowOf, IsShownRow, IsShownSome, answer_at, fields_in, first_at, following_in, place_at, shown_in};
 ghost use Rattle.zic_piece_rows.specs.code.Batch.{IsGiven, record_of};
 ghost use Rattle.zic_piece_rows.specs.code.Row.{clock_at, field_at_time, local_fields};
 
@@ -20,7 +20,9 @@ use crate::time::{local_time_at, local_time_of};
 use std::alloc::{AllocError, Global};
 use zic_base::RowKind;
 use zic_columns::{Record, Span};
-use zic_layouts::{Compared, Disambiguation, Layout, RowField, RowFields, Style, TimeFrom};
+use zic_layouts::{
+    Compared, Disambiguation, Layout, RowField, RowFields, RowStart, Style, TimeFrom,
+};
 use zic_local::Unresolved;
 use zic_row_text::{RowRest, RowText, RowTime, count_from};
 
@@ -104,6 +106,40 @@ fn push_field(
     }
 }
 
+/// Appends the first field of an answer, without a delimiter.
+pub(crate) fn push_first_field(
+    text: &mut RowText,
+    piece: &Piece<'_, '_>,
+    answer: &Answer<'_>,
+) -> Result<(), AllocError>
+    requires shown { IsShownSome piece.now answer.now }
+    ensures { OnOk result (text.new ≡ text.old ++ first_at piece.now answer.now) }
+{
+    let at = text.len();
+    let fields = piece.layout.fields.fields(piece.layout.from);
+    push_field(text, piece, fields[0], answer)?;
+    text.remove(at);
+    Ok(())
+}
+
+/// Appends the fields of an answer that follow a record with the first in the place of its time, each
+/// after the delimiter, and a newline.
+fn push_others(
+    text: &mut RowText,
+    piece: &Piece<'_, '_>,
+    answer: &Answer<'_>,
+) -> Result<(), AllocError>
+    requires shown { IsShownSome piece.now answer.now }
+    ensures { OnOk result (text.new ≡ text.old
+        ++ answer_at piece.now (drop 1 (fields_in piece.now)) answer.now) }
+{
+    let fields = piece.layout.fields.fields(piece.layout.from);
+    for field in &fields[1..] {
+        push_field(text, piece, *field, answer)?;
+    }
+    text.push(b"\n")
+}
+
 /// Returns whether a field is compared with that of another release.
 fn is_compared(compared: Compared, field: RowField) -> bool
     ensures { result ≡ is_compared compared field }
@@ -139,16 +175,37 @@ pub(crate) fn push_answer(
     text.push(b"\n")
 }
 
-/// Returns the style of the fields of rows, where they are the usual ones of an instant.
+/// Returns the style of the fields that follow what rows begin with, where they are the usual ones of an
+/// instant.
 #[inline(always)]
 fn usual_style(layout: &Layout) -> Option<Style>
     ensures { IfSome result
-        (λ style. row_fields layout.now ≡ fields_of (rows.Usual style) from.Count) }
+        (λ style. following_fields layout.now ≡ fields_of (rows.Usual style) from.Count) }
 {
+    if let RowStart::Replaced = layout.start {
+        return None;
+    }
     match (&layout.fields, layout.from) {
         (RowFields::Usual(style), TimeFrom::Count) => Some(*style),
         (RowFields::Usual(style), TimeFrom::Text(_)) => Some(*style),
         _ => None,
+    }
+}
+
+/// Appends the fields of an answer that follow what rows begin with, each after the delimiter, and a
+/// newline.
+fn push_following(
+    text: &mut RowText,
+    piece: &Piece<'_, '_>,
+    answer: &Answer<'_>,
+) -> Result<(), AllocError>
+    requires shown { IsShownSome piece.now answer.now }
+    ensures { OnOk result (text.new ≡ text.old
+        ++ answer_at piece.now (following_in piece.now) answer.now) }
+{
+    match piece.layout.start {
+        RowStart::Fields | RowStart::Record => push_fields(text, piece, answer),
+        RowStart::Replaced => push_others(text, piece, answer),
     }
 }
 
@@ -173,11 +230,11 @@ fn push_rest(
     requires last { IsWithin piece.now.bytes.now last }
     requires shown { IsShownSome piece.now answer.now }
     ensures { OnOk result (text.new ≡ text.old ++ (bytes_at piece.now.bytes.now last
-        ++ answer_at piece.now (fields_in piece.now) answer.now)) }
+        ++ answer_at piece.now (following_in piece.now) answer.now)) }
 {
     let Some(style) = usual_style(piece.layout) else {
         text.push(last.of(piece.bytes))?;
-        return push_fields(text, piece, answer);
+        return push_following(text, piece, answer);
     };
     let rest = RowRest {
         time: answer.time,
@@ -223,7 +280,7 @@ pub(crate) fn push_row(
     ensures { OnOk result ((made : List ℕ) × (text.new ≡ text.old ++ made)
         × IsTextBy piece.now.layout.now piece.now.zones.now (record_of piece.now given.now) made) }
 {
-    let last = push_start(text, piece, given, answer.file, answer.input)?;
+    let last = push_start(text, piece, given, answer)?;
     push_rest(text, piece, last, answer)
 }
 

@@ -13,7 +13,7 @@ use std::sync::Wait;
 use std::thread::Threads;
 use std::time::Clock;
 use zic_command_line::{CommandLine, Request, requested};
-use zic_converting::{ConvertContext, expect_own_lists, read_header, take_stack};
+use zic_converting::{ConvertContext, expect_own_lists, read_header, read_line_end, take_stack};
 use zic_failures::Explainer;
 use zic_folders::Ending;
 use zic_host::Refusal;
@@ -96,6 +96,7 @@ fn run_noted<
     if let Request::Convert(order) = request {
         take_stack(rt.alloc(), order.plan.workers())?;
         read_header(rt.alloc(), order, rt.reader(), noted)?;
+        read_line_end(order, rt.reader(), noted)?;
         if let Some(explainer) = explainer {
             explainer.read_by(&order.layout);
         }

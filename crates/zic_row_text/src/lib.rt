@@ -6,8 +6,8 @@
 //! `moment_of` its second, of which `count_from` makes it), `parse_instant_text` that of seconds with a
 //! fraction or of a date with an offset or in UT (`text_count_of`), and `parse_local_time` that of a
 //! local time. `RowText` is a text with room
-//! (`with_capacity`, `clear`, `push`, `push_field`, `into_bytes`) to which rows are written with a
-//! delimiter: `push_row` appends the start of a row and what follows its instant, `push_rest` that
+//! (`with_capacity`, `clear`, `truncate`, `remove`, `push`, `push_field`, `into_bytes`) to which rows are
+//! written with a delimiter: `push_row` appends the start of a row and what follows its instant, `push_rest` that
 //! alone (`timed_rest_text`), whatever row was before, and `push_local_time` and `push_state` parts
 //! of a row. What follows has local time and UT offset in two fields or in one (`styled_text`).
 //! `quick_time` (`IsPlainTime`), `RowTime::of_count`, `StateText::is_of`, `is_same`, `offset`,

@@ -1,6 +1,6 @@
 //! The text of rows.
 
-ghost use Rattle.std.specs.Prelude.{◌≡◌, ◌+◌, ◌<◌, ◌≤◌, ◌++◌, ◌∷◌, [], length, slice_range, take, IfOk, OnOk};
+ghost use Rattle.std.specs.Prelude.{◌≡◌, ◌+◌, ◌<◌, ◌≤◌, ◌++◌, ◌∷◌, [], drop, length, slice_range, take, IfOk, OnOk};
 ghost use Rattle.zic_row_text.specs.Instant.{IsRowInstant};
 ghost use Rattle.zic_row_text.specs.Count.{fraction_text, timed_rest_text, units_of_second};
 ghost use Rattle.zic_row_text.specs.Local.{IsLocalSecond, local_time};
@@ -90,6 +90,22 @@ impl RowText {
         ensures { self.new ≡ [] }
     {
         self.len = 0;
+    }
+
+    /// Shortens the text to its first `len` bytes. A text that is no longer stays.
+    pub fn truncate(&mut self, len: usize)
+        ensures { self.new ≡ take len self.old }
+    {
+        self.len = self.len.min(len);
+    }
+
+    /// Removes the byte at an index, and moves those after it forward.
+    pub fn remove(&mut self, at: usize)
+        requires { at < length self.old }
+        ensures { self.new ≡ take at self.old ++ drop (at + 1) self.old }
+    {
+        self.bytes.copy_within(at + 1..self.len, at);
+        self.len -= 1;
     }
 
     /// Appends some bytes. Where memory runs out, the text stays.

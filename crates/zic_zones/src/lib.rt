@@ -8,8 +8,8 @@
 //! these names is known (`settled`); the files by which rows may be made agree with those that are
 //! known (`Agree`). `SourceZones` knows the files of a source, and nothing grows; `TreeZones`
 //! requests each name of a tree once (`Grows`, `Breaks`, `Requests`); `TwoReleases` knows those of
-//! two. `RowZones::find` and `find_at` give the file of a name (`number_of`), `name` the name of a
-//! file, `span` the number of the state at an instant and instants round it that show it
+//! two. `RowZones::len` is the number of files. `find` and `find_at` give the file of a name
+//! (`number_of`), `name` the name of a file, `span` the number of the state at an instant and instants round it that show it
 //! (`ShowsThroughout`), `instant` the instant that is meant by a local time (`resolved`),
 //! `only_instant` the one that each choice means and the state then, or none, `text` the text of a
 //! state if the tables have one, which `make_text` makes of any that is shown (`AnswersAt`);

@@ -65,6 +65,13 @@ impl<'a> RowZones<'a> {
         prove!(self.files.len() <= usize::MAX);
     }
 
+    /// Returns the number of files.
+    pub fn len(&self) -> usize
+        ensures { result ≡ length self.now }
+    {
+        self.files.len()
+    }
+
     /// Returns the number of the file of this name, or `None` where no file has it.
     #[inline(always)]
     pub fn find(&self, name: &[u8]) -> Option<usize>

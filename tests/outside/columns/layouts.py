@@ -8,7 +8,7 @@ FOLDER has the folder `ours` with our files of SOURCE, and `old.zi`, another sou
 links, near transitions and elsewhere, counted in the unit of the column, and in one of a hundred records quotes round each field, with
 delimiters and line ends within the fields that aren't read. With --keep-going one of fifty records has a fault, the first and the last
 among them, and --faults lists them, beside a second option with their lines and values; with --max-faults the run ends after 700. With
---against the rows are those that zoneinfo shows differently by `old`. With --from rfc3339 and utc Python's datetime writes the instants, by
+--against the rows are those that zoneinfo shows differently by `old`. With --append and --replace rows end as the first line does. With --from rfc3339 and utc Python's datetime writes the instants, by
 UT offsets at random in each form, or none, with a T, a t or a space, and some without seconds that are 0; with --from seconds decimal does.
 Their fractions are without the zeros that end them, or with more. Each option is tried alone and with each other one, by 1 and 4 workers.
 Prints a line for each, and the first differences; the status is 1 if there is one.
@@ -53,11 +53,13 @@ OPTIONS = {
     "header": ["--header"],
     "iso": ["--style", "iso"],
     "append": ["--append"],
+    "replace": ["--replace"],
     "against": ["--against", "OLD"],
     "going": ["--keep-going", "--faults", "FILE"],
     "space": ["--delimiter", " "],
 }
-ONE = [("delimiter", "semicolon", "space"), ("ms", "us", "ns"), ("seconds", "rfc3339", "utc")]                    # each the same option
+ONE = [("delimiter", "semicolon", "space"), ("ms", "us", "ns"), ("seconds", "rfc3339", "utc"), ("append", "replace")]   # each in place of another
+WHOLE = {"append", "replace"}                                                            # with these rows have their records
 TOGETHER = [pair for words in ONE for pair in itertools.combinations(words, 2)]
 
 
@@ -118,7 +120,7 @@ def text_of(pairs, chosen, delimiter):
     text, records, lines, line = io.StringIO(), [], [], 1
     if "header" in chosen:
         records.append('some' + delimiter + '"hea""der"')
-        text.write(records[0] + "\n")
+        text.write(records[0] + ("\r\n" if "replace" in chosen else "\n"))
         line += 1
     for number, (name, count) in enumerate(pairs):
         count, faulty = str(count), "going" in chosen and number % 50 in (0, 49)
@@ -129,7 +131,7 @@ def text_of(pairs, chosen, delimiter):
         if "fields" in chosen:
             fields = ["", count, "a,b;c" if delimiter == "\t" else "a\tb", name, "é"][: 5 if number % 2 else 4]
         if faulty and number // 25 % 3 == 2:
-            fields = ["only"] if "fields" in chosen or "append" in chosen else fields + ["more"]
+            fields = ["only"] if {"fields", *WHOLE} & {*chosen} else fields + ["more"]
         if number % 100 == 0 or faulty:
             if "fields" in chosen and len(fields) > 2:
                 fields[2] = f'x{delimiter}"y\r\nz'
@@ -141,14 +143,19 @@ def text_of(pairs, chosen, delimiter):
     return text.getvalue(), records, lines
 
 
+def time_of(chosen):
+    """the index of the field of the time"""
+    return 1 if "fields" in chosen or "zone" not in chosen else 0
+
+
 def records_of(text, chosen, delimiter):
     """the names and counts of records, as Python's csv reads them, or none where there are too few or too many fields"""
     records = [fields for fields in csv.reader(io.StringIO(text, newline=""), delimiter=delimiter) if fields]
-    time = 1 if "fields" in chosen or "zone" not in chosen else 0
+    time = time_of(chosen)
     zone = None if "zone" in chosen else 3 if "fields" in chosen else 0
     least = max(time, zone or 0) + 1
     for fields in records["header" in chosen:]:
-        if len(fields) < least or len(fields) > least and not {"fields", "append"} & set(chosen):
+        if len(fields) < least or len(fields) > least and not {"fields", *WHOLE} & {*chosen}:
             yield None, None
         else:
             yield "Europe/Dublin" if zone is None else fields[zone], fields[time]
@@ -211,10 +218,29 @@ def faulty_row(column, name, count, start):
     """the row of a record with a fault"""
     if count is None:
         return start
-    empty = 3 if "iso" in column.chosen else 4
+    if "replace" in column.chosen:
+        return replaced(column, start, "")
+    empty = answers_of(column.chosen)
     if "append" in column.chosen:
         return start + empty * column.delimiter
     return record_of([name, count, *empty * [""]], column.delimiter)
+
+
+def answers_of(chosen):
+    """how many fields an answer has"""
+    return 1 if "replace" in chosen else 3 if "iso" in chosen else 4
+
+
+def replaced(column, start, text):
+    """a record as it stands, with a text in the place of its time, double quotes and all"""
+    fields = []
+    for part in start.split(column.delimiter):
+        if fields and fields[-1].count('"') % 2:
+            fields[-1] += column.delimiter + part
+        else:
+            fields.append(part)
+    fields[time_of(column.chosen)] = text
+    return column.delimiter.join(fields)
 
 
 def iso_offset(offset):
@@ -225,18 +251,20 @@ def iso_offset(offset):
 def answer_by(column, zones, name, instant):
     """what zones answer a record, each field after a delimiter; the fields are empty where they answer nothing"""
     if instant not in column.counts or name not in zones:
-        return column.delimiter * (3 if "iso" in column.chosen else 4)
+        return column.delimiter * answers_of(column.chosen)
     second, fraction = divmod(column.counts[instant], 10 ** column.digits)
     local, *rest = rest_of(zones[name], second).split(",")
     if column.digits:
         local += f".{fraction:0{column.digits}}"
     if "iso" in column.chosen:
         local += iso_offset(rest.pop(0))
-    return "".join(column.delimiter + field for field in [local, *rest])
+    return "".join(column.delimiter + field for field in [local, *rest][:answers_of(column.chosen)])
 
 
 def row_by(column, zones, name, instant, start):
     """the row of a record without a fault"""
+    if "replace" in column.chosen:
+        return replaced(column, start, answer_by(column, zones, name, instant)[1:])
     fields = [start] if "append" in column.chosen else [name, str(column.counts[instant])]
     return column.delimiter.join(fields) + answer_by(column, zones, name, instant)
 
@@ -244,15 +272,17 @@ def row_by(column, zones, name, instant, start):
 def rows_of(column, zones, old, most=None):
     """the rows of a column by zoneinfo's zones and old ones, each with its line end, as one text, and the faults, each as --faults writes
     it; where the run goes on after this many, both up to the next, which has no row"""
-    starts, names = iter(column.starts), ["zone", "instant", "local", "offset", "daylight", "abbreviation"]
+    starts, names = iter(column.starts), ["local", "offset", "daylight", "abbreviation"]
     if "iso" in column.chosen:
         names.remove("offset")
+    names = names[:answers_of(column.chosen)]
+    added = [] if "replace" in column.chosen else names
     if "against" in column.chosen:
-        names += [f"old_{name}" for name in names[2:]]
+        added = added + [f"old_{name}" for name in names]
     rows, faults = [], []
     if "header" in column.chosen:
         header = next(starts)
-        rows.append(column.delimiter.join([header, *names[2:]] if "append" in column.chosen else names))
+        rows.append(column.delimiter.join([header] if WHOLE & {*column.chosen} else ["zone", "instant"]) + "".join(column.delimiter + name for name in added))
     for number, ((name, count), start) in enumerate(zip(column.records, starts), 1):
         if fault := fault_of(column, zones, name, count):
             faults.append(listed(column, number, fault, name, count))
@@ -265,7 +295,13 @@ def rows_of(column, zones, old, most=None):
                 continue
             line += other
         rows.append(line)
-    return "".join(f"{line}\n" for line in rows), faults
+    return "".join(line + line_end(column) for line in rows), faults
+
+
+def line_end(column):
+    """how rows end: as the first line does, where they have their records"""
+    is_long = column.lines and column.text.startswith(column.starts[0] + "\r\n")
+    return "\r\n" if WHOLE & {*column.chosen} and is_long else "\n"
 
 
 # ------------------------------------------------------------------ the program

@@ -75,14 +75,20 @@ def row(line, quotes):
     return f",{local.replace(tzinfo=None).isoformat()},{rest}", None
 
 
-def wanted(lines, quotes, most=None):
-    """the rows of lines, and their faults, where a line may have so many bytes"""
+def end_of(text):
+    """how rows end: as the first line of a column"""
+    end = re.search("\r\n|\r|\n", text)
+    return "\r\n" if end and end[0] == "\r\n" else "\n"
+
+
+def wanted(lines, quotes, end, most=None):
+    """the rows of lines, each with this end, and their faults, where a line may have so many bytes"""
     rows, faults = [], []
     for number, line in enumerate(lines, 1):
         rest, fault = row(line, quotes)
         if most is not None and len(line.encode()) > most:
             line, rest, fault = decoded(line.encode()[:most + 4]), "", "RowTooLong"
-        rows.append(line + rest + "\n")
+        rows.append(line + rest + end)
         if fault:
             faults.append(f"{number},{fault}\n")
     return "".join(rows), faults
@@ -123,7 +129,7 @@ def converted(words, text, burst):
 
 
 def compare(program, folder, what, lines, text, quotes):
-    rows, faults = wanted(lines, quotes)
+    rows, faults = wanted(lines, quotes, end_of(text))
     status, error = told(faults)
     for workers in 1, 4:
         for piece, burst in (1024, 0), (3, 0), (3, 7), (1024, 4099):
@@ -148,7 +154,7 @@ def in_parts(program, folder, lines):
     rows = []
     for at in range(0, len(lines), 997):
         rows.append(converted(words, "".join(line + "\n" for line in lines[at:at + 997]), 0)[1])
-    if "".join(rows) != wanted(lines, "strict")[0]:
+    if "".join(rows) != wanted(lines, "strict", "\n")[0]:
         files.differ("parts: other rows than the whole")
     files.report(f"{len(rows)} parts, cut between lines")
 
@@ -162,12 +168,12 @@ def of_a_length(program, folder, lines):
         most = random.choice([1, len(some[0].encode()), max(len(line.encode()) for line in some), random.randint(8, 30)])
         short = next((i for i, line in enumerate(some) if len(line.encode()) > most), None)
         quotes = random.choice([*QUOTES])
-        rows, faults = wanted(some[:short], quotes)
+        text = "".join(line + random.choice(ENDS) for line in some)
+        rows, faults = wanted(some[:short], quotes, end_of(text))
         status, error = told(faults)
         answers = {"csv": (status, rows, error) if short is None else (1, rows, f"row {short + 1}: RowTooLong\n{error}")}
-        rows, faults = wanted(some, quotes, most)
+        rows, faults = wanted(some, quotes, end_of(text), most)
         answers["lines"] = (told(faults)[0], rows, told(faults)[1])
-        text = "".join(line + random.choice(ENDS) for line in some)
         for kind in ("lines", "csv") if plain else ("lines",):
             words = [program, "convert", "--records", kind, "--append", "--keep-going", "--max-record", str(most), *QUOTES[quotes],
                      f"{folder}/source"]
@@ -198,7 +204,7 @@ def main():
             text = text.rstrip("\r\n")
         lines = [line for line in re.split("[\r\n]", text) if line]
         quotes = random.choice([*QUOTES])
-        rows, faults = wanted(lines, quotes)
+        rows, faults = wanted(lines, quotes, end_of(text))
         words = [program, "convert", "--records", "lines", "--append", "--keep-going", "--row-piece", str(random.randint(1, 4)), *QUOTES[quotes],
                  f"{folder}/source"]
         for burst in 0, 1:

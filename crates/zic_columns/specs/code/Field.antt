@@ -1,13 +1,14 @@
 -- A CSV reader's machine, as it reads the bytes of one field.
-use Rattle.std.specs.Prelude.{◌≡◌, ◌≤◌, ◌⊎◌, ◌||◌, ℕ, Bool, true, List, ◌++◌, length, slice_index, slice_range, take, if◌then◌else◌}
+use Rattle.std.specs.Prelude.{◌≡◌, ◌≢◌, ◌-◌, ◌<◌, ◌≤◌, ◌⊎◌, ◌||◌, ℕ, Bool, true, List, ◌++◌, length, slice_index, slice_range, take, if◌then◌else◌}
 use Rattle.csv.specs.Machine.{next_record, step}
 use Rattle.csv.specs.declared.parser.Action.TheVariants as act
 use Rattle.csv.specs.declared.parser.State.TheVariants as st
 use Rattle.zic_columns.specs.Column.{config_of, state_after}
 use Rattle.zic_columns.specs.Quotes.{goes_past, is_past_quote, is_quoted}
-use Rattle.zic_columns.specs.Record.{IsWithinPiece, field_text}
+use Rattle.zic_columns.specs.Record.{IsWithinPiece, field_text, raw_span}
 use Rattle.zic_columns.specs.code.Block.{ends_field}
 use Rattle.zic_columns.specs.code.Machine.{state_at}
+use Rattle.zic_columns.specs.declared.fields.Field.{Field}
 use Rattle.zic_columns.specs.declared.machine.FieldByte.{FieldByte}
 use Rattle.zic_columns.specs.declared.machine.Place.{Place}
 use Rattle.zic_columns.specs.declared.machine.Place.TheVariants as place
@@ -50,11 +51,16 @@ abbrev pub HasQuotes : ℕ → List ℕ → Place → Bool → Type 0
 HasQuotes delimiter bytes p stray =
     (state_after (config_of delimiter) st.StartField bytes ≡ state_at p) × (stray ≡ (is_quoted (state_at p) || goes_past delimiter st.StartField bytes))
 
+-- In a record that has no double quote just before the field, the span of the field with its double quotes is from an index up to another.
+abbrev pub HasRawSpan : List ℕ → ℕ → ℕ → Field → Type 0
+HasRawSpan piece at stop field = (start : ℕ) → start ≤ at → (start < at → slice_index piece (at - 1) ≢ 34) → raw_span piece start field ≡ record { start = at; end = stop }
+
 -- a field that stands in a piece from an index on: it spells its text, has a stray double quote or none, and the piece or the next byte ends it
 pub record IsFieldAt (delimiter : ℕ) (piece : List ℕ) (at : ℕ) (found : FoundField) : Type 0 where
   pub low : at ≤ found.stop
   pub high : found.stop ≤ length piece
   pub field : IsWithinPiece piece found.field
+  pub raw : HasRawSpan piece at found.stop found.field
   pub place_now : Place
   pub spells : Spells delimiter (slice_range piece at found.stop) (field_text delimiter piece found.field) place_now
   pub quotes : HasQuotes delimiter (slice_range piece at found.stop) place_now found.stray

@@ -29,7 +29,7 @@ use Rattle.zic_base.specs.declared.stops.RunStop.TheVariants as stop
 use Rattle.zic_zones.specs.declared.zones.Releases.{Releases}
 use Rattle.zic_convert.specs.By.{By}
 use Rattle.zic_convert.specs.Column.{AreRowRecords, header_of, header_read, names_added, own_line, records_read, texts_read}
-use Rattle.zic_piece_rows.specs.LayoutRows.{RecordsConvertBy, faults_by}
+use Rattle.zic_piece_rows.specs.LayoutRows.{RecordsConvertBy, ended, faults_by}
 use Rattle.zic_convert.specs.Header.{IsHeaderFault, fault_read, header_fault}
 use Rattle.zic_convert.specs.Run.{EndsAtHeader, EndsIn, Notes, Output, PassesHeader, WritesRows}
 use Rattle.zic_convert.specs.code.Written.{EndsInRecords, IsLeft, Numbered, Writing, WritesRecords, numbered}
@@ -155,7 +155,7 @@ abbrev pub HaltsAtHead : {W : Type 0} → (W → Option (List ℕ)) → Counts W
 HaltsAtHead contents old new by known halt.Unread = new ≡ old
 HaltsAtHead contents old new by known (halt.Stop stop.Memory) = new ≡ old
 HaltsAtHead contents old new by known (halt.Stop stop.WriteFailed) = HasFailedSince new old.failures × IfSome known (λ bytes.
-    FailsWithin contents old new (header_of by.layout.start (names_added by.layout by.releases.old) (header_read by.layout bytes)) × (fault_read by.layout by.releases.zones bytes ≡ None))
+    FailsWithin contents old new (ended by.layout.line_end (header_of by.layout.start (names_added by.layout by.releases.old) (header_read by.layout bytes))) × (fault_read by.layout by.releases.zones bytes ≡ None))
 HaltsAtHead contents old new by known (halt.Stop (stop.Row row kind)) = (new ≡ old) × IsAtHeader by known (stop.Row row kind)
 HaltsAtHead contents old new by known (halt.Stop _) = ⊥
 

@@ -22,9 +22,9 @@ use Rattle.zic_row_text.specs.declared.row_time.RowTime.{RowTime}
 use Rattle.zic_zones.specs.Resolved.{resolved}
 use Rattle.zic_zones.specs.States.{HasState}
 use Rattle.zic_zones.specs.Zones.{AnswersAt}
-use Rattle.zic_piece_rows.specs.LayoutRows.{IsTextBy, admits_stray, empty_fields, faulty_text, file_at, input_text, row_fields, timeless_text}
+use Rattle.zic_piece_rows.specs.LayoutRows.{IsTextBy, admits_stray, empty_fields, faulty_text, file_at, first_field, following_fields, input_text, row_fields, timeless_text}
 use Rattle.zic_piece_rows.specs.code.Batch.{AreCountsOf, IsCountFor, IsGiven, IsInput, IsKeptIf, IsTimeOf, blank, blank_time, count_at, fault_at, input_in, kept_at, record_of, zone_at}
-use Rattle.zic_piece_rows.specs.code.Row.{input_of, place_in, rest_at}
+use Rattle.zic_piece_rows.specs.code.Row.{field_at_time, input_of, place_in, rest_at}
 use Rattle.zic_piece_rows.specs.declared.answer.Answer.{Answer}
 use Rattle.zic_piece_rows.specs.declared.answer.AnswerState.{AnswerState}
 use Rattle.zic_piece_rows.specs.declared.answer.AnswerState.TheVariants as state
@@ -138,6 +138,13 @@ place_at piece answer = place_in piece.layout.now.from piece.layout.now.unit (sl
 -- what its row has after its beginning, as these fields
 abbrev pub answer_at : Piece → List RowField → Answer → List ℕ
 answer_at piece fields answer = rest_at piece.layout.now.delimiter fields answer.time (shown_in answer.state) (place_at piece answer)
+
+-- the fields that follow what rows begin with, and the first of all, of an answer
+abbrev pub following_in : Piece → List RowField
+following_in piece = following_fields piece.layout.now
+
+abbrev pub first_at : Piece → Answer → List ℕ
+first_at piece answer = field_at_time (first_field piece.layout.now) answer.time (shown_in answer.state) (place_at piece answer)
 
 -- two answers have the same instant and the same state
 pub record AreSameAnswers (answer other : Answer) : Type 0 where

@@ -5,6 +5,9 @@ use Rattle.zic_columns.specs.declared.splits.TheConstants.{BATCH}
 use Rattle.zic_base.specs.State.{Shown}
 use Rattle.zic_layouts.specs.Layout.{has_count}
 use Rattle.zic_layouts.specs.declared.layout.Layout.{Layout}
+use Rattle.zic_layouts.specs.declared.layout.LineEnd.TheVariants as ends
+use Rattle.zic_layouts.specs.declared.layout.RowStart.{RowStart}
+use Rattle.zic_layouts.specs.declared.layout.RowStart.TheVariants as start
 use Rattle.zic_layouts.specs.declared.layout.Style.{Style}
 use Rattle.zic_layouts.specs.declared.layout.Style.TheVariants as styles
 use Rattle.zic_layouts.specs.declared.layout.TimeFrom.TheVariants as from
@@ -26,7 +29,14 @@ use Rattle.zic_piece_rows.specs.declared.pairs.Pairs.{Pairs}
 use Rattle.zic_piece_rows.specs.declared.pairs.TheConstants.{KEPT, NO_FILE}
 use Rattle.zic_piece_rows.specs.declared.piece.Piece.{Piece}
 
--- A record of this layout has a zone's name and an instant in decimals, and may have no other field. Its row has the usual fields.
+-- rows don't have a field in the place of the time's
+abbrev pub KeepsTime : RowStart → Type 0
+KeepsTime start.Fields = Unit {0}
+KeepsTime start.Record = Unit {0}
+KeepsTime start.Replaced = ⊥
+
+-- A record of this layout has a zone's name and an instant in decimals, and may have no other field. Its row has the usual fields and ends with
+-- a line feed.
 pub record IsOfPairs (layout : Layout) : Type 0 where
   pub zone : layout.zone ≡ zone.Field 0
   pub time : layout.time ≡ 1
@@ -34,6 +44,8 @@ pub record IsOfPairs (layout : Layout) : Type 0 where
   pub count : has_count layout.count 2 ≡ true
   pub style : Style
   pub fields : layout.fields ≡ rows.Usual style
+  pub start : KeepsTime layout.start
+  pub line_end : layout.line_end ≡ ends.Lf
 
 -- a pair of no bytes
 abbrev pub blank_pair : Pair

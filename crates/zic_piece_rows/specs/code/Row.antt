@@ -1,10 +1,13 @@
 -- Rows as the code has them.
-use Rattle.std.specs.Prelude.{◌≡◌, ◌+◌, ℕ, ℤ, pos, ◌+ℤ◌, ◌*ℤ◌, if◌then◌else◌, List, [], ◌∷◌, ◌++◌, Option, None, Some, MatchOption}
+use Rattle.std.specs.Prelude.{◌≡◌, ◌+◌, ◌<◌, ◌≤◌, ℕ, ℤ, pos, ◌+ℤ◌, ◌*ℤ◌, if◌then◌else◌, List, [], ◌∷◌, ◌++◌, Option, None, Some, MatchOption}
 use Rattle.std.specs.List.{flat_map}
 use Rattle.std.specs.Fmt.{signed_decimal}
 use Rattle.zic_base.specs.Digits.{offset_text}
 use Rattle.zic_base.specs.State.{Shown}
 use Rattle.zic_columns.specs.Own.{CsvRecord}
+use Rattle.zic_columns.specs.Raw.{replaced}
+use Rattle.zic_columns.specs.Record.{IsWithin, bytes_at}
+use Rattle.zic_columns.specs.declared.fields.Record.{Record}
 use Rattle.zic_files.specs.File.{File}
 use Rattle.zic_layouts.specs.declared.layout.Layout.{Layout}
 use Rattle.zic_layouts.specs.declared.layout.TimeFrom.{TimeFrom}
@@ -20,6 +23,7 @@ use Rattle.zic_zones.specs.declared.zones.Releases.{Releases}
 use Rattle.zic_piece_rows.specs.LayoutRows.{IsWrittenBy, ends_by, fault_by, noted, place_by}
 use Rattle.zic_piece_rows.specs.PieceRows.{RowsOf}
 use Rattle.zic_piece_rows.specs.declared.piece.Piece.{Piece}
+use Rattle.zic_piece_rows.specs.declared.start.AroundTime.{AroundTime}
 use Rattle.zic_piece_rows.specs.declared.start.Input.{Input}
 use Rattle.zic_piece_rows.specs.declared.start.Input.TheVariants as given_by
 
@@ -30,6 +34,14 @@ time_count time = (time.second *ℤ pos (units_of_second time.unit)) +ℤ pos ti
 -- the local time of a time at an offset
 abbrev pub clock_at : RowTime → ℤ → List ℕ
 clock_at time offset = local_text time.second offset ++ fraction_text time.unit time.fraction
+
+-- Bytes of a record that stand before and after the field of its time. All of the record stands before, where it has no such field.
+pub record AreAround (piece : Piece) (given : Record) (around : AroundTime) : Type 0 where
+  pub before : IsWithin piece.bytes.now around.before
+  pub after : IsWithin piece.bytes.now around.after
+  pub replaces : piece.layout.now.time < given.count → (text : List ℕ)
+      → replaced piece.layout.now.delimiter (bytes_at piece.bytes.now given.own) piece.layout.now.time text ≡ bytes_at piece.bytes.now around.before ++ (text ++ bytes_at piece.bytes.now around.after)
+  pub whole : given.count ≤ piece.layout.now.time → bytes_at piece.bytes.now given.own ≡ bytes_at piece.bytes.now around.before ++ bytes_at piece.bytes.now around.after
 
 -- the text of a field of a row, by the time of its instant
 abbrev pub field_at_time : RowField → RowTime → Shown → List ℕ → List ℕ

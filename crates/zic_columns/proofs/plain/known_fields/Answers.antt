@@ -1,8 +1,10 @@
-use Rattle.std.proofs.Common.{◌≡◌, ◌==◌, ◌∙◌, false, get_or, inr, refl, sym, subst}
+use Rattle.std.proofs.Common.{◌≡◌, ◌==◌, ◌∙◌, ℕ, false, get_or, inr, refl, sym, subst}
 use Rattle.std.proofs.lemmas.Bool.{ne_eqb}
 use Rattle.zic_columns.specs.Column.{ends_line}
 use Rattle.zic_columns.specs.code.Field.{IsFieldAt}
 use Rattle.zic_columns.specs.code.Plain.{IsPlainFrom, record_of}
+use Rattle.zic_columns.specs.code.Walk.{IsKept}
+use Rattle.zic_columns.specs.declared.fields.Field.TheVariants.{Plain}
 use Rattle.zic_columns.proofs.StepFacts.{either}
 use Rattle.zic_columns.proofs.WalkFacts.{field_ends, field_to, plain_at, record_out, walked_on}
 use Rattle.zic_columns.proofs.plain.known_fields.Goals as goal
@@ -23,7 +25,8 @@ returns-then-piece-end-clause-read c =
       from = record_out c.args.delimiter.can piece start c.args.wanted (record_of start start c.known.fields) at walked (field_to at stop) found c.requires.begins
           (record_of start stop more.result) refl
           (record { count = has.count; zone_within = has.zone_within; zone = has.zone; time_within = has.time_within; time = has.time })
-          refl (inr (next.within, other));
+          refl (subst (λ (i : ℕ). IsKept i c.known.fields.count (Plain (record { start = at; end = stop })) (Plain c.known.fields.time) (Plain more.result.time)) c.indices_of-indices.ensures.1 more.ensures.time)
+          (inr (next.within, other));
       ended = record {
         within = next.within;
         here = either (get_or piece stop 0 == c.args.delimiter.byte) (ends_line (get_or piece stop 0)) (field_ends c.args.delimiter.can piece at stop next.end next.within) other;
@@ -44,7 +47,8 @@ known-preserved c =
     record {
       walked = walked_on c.args.delimiter.can piece start c.args.wanted (record_of start start c.known.fields) at walked (field_to at stop) found (record_of start start more.result)
           next.within c.if-piece-end.false refl more.ensures.count
-          (more.ensures.has c.args.delimiter.byte piece start start c.args.wanted walked.fields c.indices_of-indices.ensures walked.has (found.low, found.high)) refl;
+          (more.ensures.has c.args.delimiter.byte piece start start c.args.wanted walked.fields c.indices_of-indices.ensures walked.has (found.low, found.high)) refl
+          (subst (λ (i : ℕ). IsKept i c.known.fields.count (Plain (record { start = at; end = stop })) (Plain c.known.fields.time) (Plain more.result.time)) c.indices_of-indices.ensures.1 more.ensures.time);
       shows = next.shows;
       seen = next.seen ∙ c.known.invariant.seen;
     }

@@ -24,7 +24,7 @@ returns-then-found-piece c =
     record_out c.args.delimiter.can piece start c.args.wanted c.loop-wanted.given c.loop-wanted.at walked found.result found.ensures c.requires.begins _
     (ap (span_to stop) (ap (λ (o : Span). o.start) more.ensures.own ∙ walked.own))
     (record { count = has.count; zone_within = has.zone_within; zone = has.zone; time_within = has.time_within; time = has.time })
-    more.ensures.stray out
+    more.ensures.stray more.ensures.time out
 
 pub loop-wanted-preserved : goal.loop-wanted-preserved
 loop-wanted-preserved c =
@@ -34,4 +34,4 @@ loop-wanted-preserved c =
     let more = c.with_field-given in
     walked_on c.args.delimiter.can piece c.args.begun.given.own.start c.args.wanted c.loop-wanted.given c.loop-wanted.at walked found.result found.ensures more.result
     (omega (arith, c.if-found-piece.false, found.ensures.high)) c.if-piece-found.false more.ensures.own more.ensures.count
-    (more.ensures.has c.args.delimiter.byte piece walked.fields walked.has found.ensures.field) more.ensures.stray
+    (more.ensures.has c.args.delimiter.byte piece walked.fields walked.has found.ensures.field) more.ensures.stray more.ensures.time

@@ -2,6 +2,7 @@ use Rattle.std.proofs.Common.{◌∙◌, List, None, ℕ, ap, inl, refl, subst}
 use Rattle.std.specs.Io.KnownBytes.{Appends}
 use Rattle.std.proofs.lemmas.Result.{err_from_is_err_and}
 use Rattle.zic_zones.specs.declared.zones.Releases.{Releases}
+use Rattle.zic_piece_rows.specs.LayoutRows.{ended}
 use Rattle.zic_convert.specs.Column.{header_of, names_added}
 use Rattle.zic_convert.specs.code.Written.{EndsAtHead}
 use Rattle.zic_convert.proofs.Delimited.{can_delimit}
@@ -51,7 +52,7 @@ returns-in_err-write_header-clause-halt g c =
           (fault_in c.first_record_is_alone.ensures layout (can_delimit layout.delimiter c.byte.ensures.sound) known c.in_ok-column.field-0.header.items c.in_ok-column.ensures.header releases.zones None
           (rw c.deref.ensures.value at (c.in_ok-check_header.ensures.none releases may)))
           c.in_err-write_header.field-0.0
-          (subst (λ (l : List ℕ). EndsAtHead g.W.Write.contents c.args.writer.now c.write_header.new.writer (header_of layout.start l c.kept_of-header.result.items) c.in_err-write_header.field-0.0)
+          (subst (λ (l : List ℕ). EndsAtHead g.W.Write.contents c.args.writer.now c.write_header.new.writer (ended layout.line_end (header_of layout.start l c.kept_of-header.result.items)) c.in_err-write_header.field-0.0)
           (ap (λ (r : Releases). names_added layout r.old) c.ready-releases.ensures ∙ same_names (g.met.Z.Zones.agrees c.check_header.new.zones releases may) layout) c.in_err-write_header.ensures.err);
     })
 
@@ -70,9 +71,9 @@ returns-clause-head g c =
     λ releases may.
     let names = ap (λ (r : Releases). names_added layout r.old) c.ready-releases.ensures ∙ same_names (g.met.Z.Zones.agrees c.check_header.new.zones releases may) layout in
     if_some known _ (λ column e.
-    subst (λ (l : List ℕ). Appends (g.W.Write.contents c.args.writer.now.inner) (g.W.Write.contents c.write_header.new.writer.inner) (header_of layout.start (names_added layout releases.old) l))
+    subst (λ (l : List ℕ). Appends (g.W.Write.contents c.args.writer.now.inner) (g.W.Write.contents c.write_header.new.writer.inner) (ended layout.line_end (header_of layout.start (names_added layout releases.old) l)))
     (for_some known _ column kept e)
-    (subst (λ (l : List ℕ). Appends (g.W.Write.contents c.args.writer.now.inner) (g.W.Write.contents c.write_header.new.writer.inner) (header_of layout.start l c.kept_of-header.result.items)) names c.in_ok-write_header.ensures.ok.0))
+    (subst (λ (l : List ℕ). Appends (g.W.Write.contents c.args.writer.now.inner) (g.W.Write.contents c.write_header.new.writer.inner) (ended layout.line_end (header_of layout.start l c.kept_of-header.result.items))) names c.in_ok-write_header.ensures.ok.0))
 
 pub returns-clause-none : goal.returns-clause-none
 returns-clause-none g c = λ releases may.

@@ -1,4 +1,5 @@
-use Rattle.std.proofs.Common.{◌≡◌, ◌∙◌, List, ℕ, [], refl, sym, subst, rules}
+use Rattle.std.proofs.Common.{◌≡◌, ◌∙◌, List, ℕ, length, refl, sym, subst, rules}
+use Rattle.std.proofs.lemmas.List.{nil_from_length}
 use Rattle.std.proofs.lemmas.Result.{err_from_is_err_and}
 use Rattle.csv.proofs.WriteFacts.{appends-none}
 use Rattle.zic_counted.specs.Written.{FailsWithin}
@@ -8,7 +9,8 @@ use Rattle.zic_convert.proofs.output.write_header.Goals as goal
 
 pub returns-then-is_empty-clause-ok : goal.returns-then-is_empty-clause-ok
 returns-then-is_empty-clause-ok g c =
-    let none : c.in-Ok.line.items ≡ [] = search rules in
+    let size : length c.in-Ok.line.items ≡ 0 = search rules in
+    let none = nil_from_length c.in-Ok.line.items size in
     subst (λ (l : List ℕ). Wrote g.W.Write.contents c.args.writer.now c.args.writer.now l) (sym none ∙ c.in-Ok.ensures) (appends-none (g.W.Write.contents c.args.writer.now.inner), refl)
 
 pub returns-in_err-write_all-clause-err : goal.returns-in_err-write_all-clause-err

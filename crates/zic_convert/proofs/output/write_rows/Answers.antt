@@ -62,9 +62,10 @@ returns-in-Some-clause-err g c =
     (wrote_both contents c.args.writer.now c.loop-rows.writer c.write_all.new.writer front.text rows.text inv.wrote wrote) in
     let faults = c.deref.ensures.value ∙ ap (λ (r : RowsOf). r.faults) c.rows.view_is in
     let log = g.L.RowLog.noted c.args.log.now in
-    let now = g.L.RowLog.noted c.note_all.new.log in
+    let now = g.L.RowLog.noted c.tally_all.new.log in
+    let same_notes = rw (sym c.tally_all.ensures.noted) at c.note_all.ensures.notes in
     let noted = subst (λ (l : List RowNote). Notes log now l) (sym (next_faults pieces i rows lt c.rows-item.is inv.goes_on))
-    (notes_more log (g.L.RowLog.noted c.loop-rows.log) now front.faults rows.faults inv.noted (subst (λ (l : List RowNote). Notes (g.L.RowLog.noted c.loop-rows.log) now l) faults c.note_all.ensures.notes)) in
+    (notes_more log (g.L.RowLog.noted c.loop-rows.log) now front.faults rows.faults inv.noted (subst (λ (l : List RowNote). Notes (g.L.RowLog.noted c.loop-rows.log) now l) faults same_notes)) in
     let count : c.loop-rows.count + c.rows.inside.count ≡ then.count = omega (arith, inv.count, ap (λ (r : RowsOf). r.count) c.rows.view_is, next_count pieces i rows lt c.rows-item.is inv.goes_on) in
     let all = front_ends pieces (i + 1) c.in-Some.kind some in
     stops_at contents c.args.writer.now c.write_all.new.writer c.stop_at.new.writer log now pieces (i + 1) all c.args.first c.in-Some.kind some both noted c.stop_at.result
@@ -114,15 +115,16 @@ loop-rows-preserved g c =
     let count = ap (λ (r : RowsOf). r.count) c.rows.view_is in
     let faults = c.deref.ensures.value ∙ ap (λ (r : RowsOf). r.faults) c.rows.view_is in
     let log = g.L.RowLog.noted c.args.log.now in
-    let now = g.L.RowLog.noted c.note_all.new.log in
+    let now = g.L.RowLog.noted c.tally_all.new.log in
+    let same_notes = rw (sym c.tally_all.ensures.noted) at c.note_all.ensures.notes in
     record {
       goes_on = next_fault pieces i rows lt c.rows-item.is inv.goes_on ∙ none;
       count = omega (arith, inv.count, count, next_count pieces i rows lt c.rows-item.is inv.goes_on);
       wrote = subst (λ (l : List ℕ). Wrote contents c.args.writer.now c.write_all.new.writer l) (sym (next_text pieces i rows lt c.rows-item.is inv.goes_on))
           (wrote_both contents c.args.writer.now c.loop-rows.writer c.write_all.new.writer front.text rows.text inv.wrote wrote);
-      began = c.note_all.ensures.began ∙ inv.began;
+      began = c.tally_all.ensures.began ∙ c.note_all.ensures.began ∙ inv.began;
       noted = subst (λ (l : List RowNote). Notes log now l) (sym (next_faults pieces i rows lt c.rows-item.is inv.goes_on))
-          (notes_more log (g.L.RowLog.noted c.loop-rows.log) now front.faults rows.faults inv.noted (subst (λ (l : List RowNote). Notes (g.L.RowLog.noted c.loop-rows.log) now l) faults c.note_all.ensures.notes));
+          (notes_more log (g.L.RowLog.noted c.loop-rows.log) now front.faults rows.faults inv.noted (subst (λ (l : List RowNote). Notes (g.L.RowLog.noted c.loop-rows.log) now l) faults same_notes));
     }
 
 -- all rows are few enough to count

@@ -3,7 +3,7 @@ use Rattle.std.proofs.lemmas.Result.{on_ok_weaker}
 use Rattle.zic_columns.specs.Record.{bytes_at}
 use Rattle.zic_zones.specs.Zones.{zone_in}
 use Rattle.zic_piece_rows.specs.LayoutRows.{beginning}
-use Rattle.zic_piece_rows.specs.code.Answer.{answer_at, fields_in}
+use Rattle.zic_piece_rows.specs.code.Answer.{answer_at, first_at, following_in}
 use Rattle.zic_piece_rows.specs.code.Batch.{input_in, record_of}
 use Rattle.zic_piece_rows.proofs.ShownRows.{row_made}
 use Rattle.zic_piece_rows.proofs.text.push_row.Goals as goal
@@ -19,8 +19,8 @@ returns c =
     let answer = c.args.answer.now in
     let old = c.args.text.now in
     let row_record = record_of piece given in
-    let start = beginning layout.start layout.delimiter row_record.own (zone_in layout.zone row_record.fields) (input_in piece given answer.input) in
-    let rest = answer_at piece (fields_in piece) answer in
+    let start = beginning layout.start layout.delimiter layout.time row_record.own (zone_in layout.zone row_record.fields) (input_in piece given answer.input) (first_at piece answer) in
+    let rest = answer_at piece (following_in piece) answer in
     let last = bytes_at piece.bytes.now c.in_ok-last.last in
     on_ok_weaker c.push_rest.result
     (λ is. (

@@ -2,7 +2,8 @@ use Rattle.std.proofs.Common.{◌+◌, ◌-◌, ◌^◌, ◌≡◌, ◌∙◌, �
 use Rattle.std.specs.Option.{option_or}
 use Rattle.zic_base.specs.declared.row_fault.RowFault.{RowFault}
 use Rattle.zic_layouts.specs.Noted.{RowNote}
-use Rattle.zic_io.specs.Faults.{IsFaultLine, IsRecordLine, fault_of, line_end_bytes}
+use Rattle.zic_io.specs.Faults.{IsFaultLine, IsRecordLine, fault_of}
+use Rattle.zic_layouts.specs.Layout.{line_end_bytes}
 use Rattle.zic_io.specs.code.FaultList.{Gets, kept}
 use Rattle.zic_io.proofs.FaultLemmas.{count_rises, file_grows, first_stays, records_grow}
 use Rattle.zic_io.proofs.fault_list.FaultListRowLog.note.Goals as goal

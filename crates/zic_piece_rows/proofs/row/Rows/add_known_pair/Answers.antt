@@ -1,8 +1,9 @@
-use Rattle.std.proofs.Common.{◌≡◌, ◌+◌, ◌++◌, ◌∙◌, ◌≤◌, FitsSigned, List, None, ap, arith, rules, sym, to_z-of_z, ℕ}
+use Rattle.std.proofs.Common.{◌≡◌, ◌+◌, ◌++◌, ◌∙◌, ◌≤◌, FitsSigned, List, None, ap, arith, refl, rules, sym, to_z-of_z, ℕ}
 use Rattle.std.specs.Int.{w64}
 use Rattle.std.specs.Prelude.{slice_index_or, slice_range}
 use Rattle.std.proofs.lemmas.Option.{same_Some}
 use Rattle.zic_row_text.specs.Count.{timed_rest_text}
+use Rattle.zic_piece_rows.specs.LayoutRows.{IsWrittenBy}
 use Rattle.zic_piece_rows.specs.PieceRows.{RowsOf}
 use Rattle.zic_piece_rows.specs.code.Batch.{blank_time}
 use Rattle.zic_columns.specs.Record.{pair_record}
@@ -36,5 +37,6 @@ returns-clause-next c =
     let may : piece.first + q.count ≤ piece.most = omega (arith, counted, at.may c.requires.known) in
     let none = known_sound piece (pair_record pair) time (known_pair file time number) state known (piece.first + q.count) at.pair.split may in
     let by = known_row piece (pair_record pair) time (known_pair file time number) state known (piece.first + q.count) at.pair.split may row text in
-    rw (← c.self.view_is) (next_sound layout (by_both piece None) piece.most (piece.first + q.count) (pair_of piece pair) old _ none row by
+    let written : IsWrittenBy layout (by_both piece None) piece.most (piece.first + q.count) (pair_of piece pair) row = record { row = row; is_row = by; is = rw at.layout.line_end refl } in
+    rw (← c.self.view_is) (next_sound layout (by_both piece None) piece.most (piece.first + q.count) (pair_of piece pair) old _ none row written
     (ap (λ (l : List ℕ). record { text = l; count = q.count + 1; fault = q.fault; faults = q.faults.items }) made))
