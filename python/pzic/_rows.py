@@ -149,9 +149,12 @@ class Layout(NamedTuple):
         """Return the list of the fields of rows, if they have one: by ``replace`` at least the first of the usual."""
         if self.only or not self.replace:
             return self.only
-        if self.style == "iso":
-            return ("utc",) if self.source == "local" else ("time",)
-        return ("instant",) if self.source == "local" else ("local",)
+        first: Field
+        if self.source == "local":
+            first = "utc" if self.style == "iso" else "instant"
+        else:
+            first = "time" if self.style == "iso" else "local"
+        return (first,)
 
     def _column(self) -> c.CLayout:
         """Return how the column is read, and the rest of what its rows are."""
